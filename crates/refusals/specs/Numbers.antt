@@ -1,0 +1,20 @@
+-- Document 01's numbers: what a refusal is called outside, "Turned back because of the input" and "because of the state".
+use Prim.Native.Nat.{ℕ}
+use Rattle.refusals.specs.declared.Refusal.{Refusal}
+use Rattle.refusals.specs.declared.Refusal.the-variants.{Variables, RowCount, RowBit, RowBuffer, Text, TextsDiffer, GateBuffer, NumberLine, Gates, Wires, LineBuffer, State, OtherVariables, NoModel}
+
+abbrev pub numberOf : Refusal → ℕ
+numberOf Variables = 1
+numberOf RowCount = 2
+numberOf RowBit = 3
+numberOf RowBuffer = 4
+numberOf Text = 5
+numberOf TextsDiffer = 6
+numberOf GateBuffer = 7
+numberOf NumberLine = 8
+numberOf Gates = 9
+numberOf Wires = 10
+numberOf LineBuffer = 11
+numberOf State = 12
+numberOf OtherVariables = 13
+numberOf NoModel = 14

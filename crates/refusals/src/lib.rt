@@ -1,0 +1,63 @@
+// The numbered refusals of document 01, "Turned back", and the outcome of a call that has no other result.
+ghost use mathlib.Core.Path.{_≡_};
+ghost use Rattle.refusals.specs.Numbers.{numberOf};
+
+// Why a call is turned back: 1 to 11 because of the input, 12 to 14 because of the state.
+pub enum Refusal {
+    // 1: n outside 1 to 32.
+    Variables,
+    // 2: a station's row count outside 1 to 128.
+    RowCount,
+    // 3: a row bit at or above n.
+    RowBit,
+    // 4: a row buffer shorter than 2 × rows words.
+    RowBuffer,
+    // 5: malformed or overlong DIMACS text.
+    Text,
+    // 6: the two texts differ in n.
+    TextsDiffer,
+    // 7: a gate buffer below three words for each gate of the ceiling.
+    GateBuffer,
+    // 8: a malformed or overlong budget or dimension line.
+    NumberLine,
+    // 9: words that are no gates.
+    Gates,
+    // 10: a wire buffer that is too short, or an input byte that is not 0 or 1.
+    Wires,
+    // 11: a text line longer than the lent bytes.
+    LineBuffer,
+    // 12: a state that is not well-formed.
+    State,
+    // 13: a state made for another n.
+    OtherVariables,
+    // 14: a model wanted while open or refuted.
+    NoModel,
+}
+
+// What a call gives that has no other result.
+pub enum Outcome {
+    Taken,
+    Refused(Refusal),
+}
+
+// Document 01's number of a refusal.
+pub fn number(refusal: Refusal) -> u8
+    ensures { λ r. ⌜ r ≡ numberOf refusal ⌝ }
+{
+    match refusal {
+        Refusal::Variables => 1,
+        Refusal::RowCount => 2,
+        Refusal::RowBit => 3,
+        Refusal::RowBuffer => 4,
+        Refusal::Text => 5,
+        Refusal::TextsDiffer => 6,
+        Refusal::GateBuffer => 7,
+        Refusal::NumberLine => 8,
+        Refusal::Gates => 9,
+        Refusal::Wires => 10,
+        Refusal::LineBuffer => 11,
+        Refusal::State => 12,
+        Refusal::OtherVariables => 13,
+        Refusal::NoModel => 14,
+    }
+}

@@ -1,0 +1,4 @@
+pub mod Truth
+pub mod Upto
+pub mod Bits
+pub mod Operations

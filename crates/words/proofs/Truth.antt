@@ -1,0 +1,72 @@
+-- Laws of Booleans. A tautology is proved by computing its truth table.
+-- Assumes nothing.
+use mathlib.Core.Path.{_≡_, refl, sym, _∙_}
+use mathlib.Core.Bool.{Bool, true, false, not, _&&_, _||_, true≢false, false≢true}
+use lib.Dec.{T}
+use Rattle.words.specs.Booleans.{imp}
+
+pub and-l : (a b : Bool) → a && b ≡ true → a ≡ true
+and-l true b e = refl
+and-l false b e = e
+
+pub and-r : (a b : Bool) → a && b ≡ true → b ≡ true
+and-r true b e = e
+and-r false b e = absurd (false≢true e)
+
+pub and-i : {a b : Bool} → a ≡ true → b ≡ true → a && b ≡ true
+and-i {a = true} p q = q
+and-i {a = false} p q = p
+
+pub not-t : {a : Bool} → a ≡ false → not a ≡ true
+not-t {a = true} e = sym e
+not-t {a = false} e = refl
+
+pub not-f : (a : Bool) → not a ≡ true → a ≡ false
+not-f true e = sym e
+not-f false e = refl
+
+pub or-false : (a : Bool) → a || false ≡ a
+or-false true = refl
+or-false false = refl
+
+pub mp : (a b : Bool) → imp a b ≡ true → a ≡ true → b ≡ true
+mp true b e h = e
+mp false b e h = absurd (false≢true h)
+
+pub imp-i : (a b : Bool) → (a ≡ true → b ≡ true) → imp a b ≡ true
+imp-i true b h = h refl
+imp-i false b h = refl
+
+pub T-so : (b : Bool) → T b → b ≡ true
+T-so true t = refl
+T-so false t = absurd t
+
+pub so-T : (b : Bool) → b ≡ true → T b
+so-T true e = tt
+so-T false e = absurd (false≢true e)
+
+-- case analysis that keeps the equation
+pub on {ℓ} : {C : Type ℓ} (b : Bool) → (b ≡ true → C) → (b ≡ false → C) → C
+on true yes′ no′ = yes′ refl
+on false yes′ no′ = no′ refl
+
+-- f passes at both values
+abbrev pub both : (Bool → Bool) → Bool
+both f = f true && f false
+
+pub taut1 : (f : Bool → Bool) → both f ≡ true → (a : Bool) → f a ≡ true
+taut1 f t true = and-l (f true) (f false) t
+taut1 f t false = and-r (f true) (f false) t
+
+pub taut2 : (f : Bool → Bool → Bool) → both (λ a. both (f a)) ≡ true → (a b : Bool) → f a b ≡ true
+taut2 f t a = taut1 (f a) (taut1 (λ x. both (f x)) t a)
+
+pub taut3 : (f : Bool → Bool → Bool → Bool) → both (λ a. both (λ b. both (f a b))) ≡ true → (a b c : Bool) → f a b c ≡ true
+taut3 f t a = taut2 (f a) (taut1 (λ x. both (λ b. both (f x b))) t a)
+
+pub taut4 : (f : Bool → Bool → Bool → Bool → Bool) → both (λ a. both (λ b. both (λ c. both (f a b c)))) ≡ true → (a b c d : Bool) → f a b c d ≡ true
+taut4 f t a = taut3 (f a) (taut1 (λ x. both (λ b. both (λ c. both (f x b c)))) t a)
+
+pub taut5 : (f : Bool → Bool → Bool → Bool → Bool → Bool)
+    → both (λ a. both (λ b. both (λ c. both (λ d. both (f a b c d))))) ≡ true → (a b c d e : Bool) → f a b c d e ≡ true
+taut5 f t a = taut4 (f a) (taut1 (λ x. both (λ b. both (λ c. both (λ d. both (f x b c d))))) t a)
