@@ -1,21 +1,21 @@
--- What the machine's operations on words say of their variables: `&`, `!`, a count of ones, trailing zeros. By induction on the width, a digit at a time.
+-- What the machine's operations on words say of their variables: `&`, `!`, `>>`, `<<`, a count of ones, trailing zeros. By induction on the width, a digit at a time.
 -- Assumes nothing.
-use mathlib.Core.Path.{_≡_, refl, sym, ap, ap₂, _∙_, subst, fun-ext}
-use mathlib.Core.Logic.{_≢_}
-use mathlib.Core.Bool.{Bool, true, false, not, _&&_, _||_, true≢false, false≢true}
-use Prim.Native.Nat.{ℕ, zero, suc, _+_, _-_, _*_, _/_, _%_, _^_, _≤_, _<_, min}
-use native.Mathlib.Nat.{le-of-suc-le-suc, not-suc-le-zero, zero-lt-suc, mod-lt, div-one, div-add-mod', div-lt-iff-lt-mul, pow-suc, lt-of-le-of-lt}
+use mathlib.Core.Path.{_≡_, refl, sym, ap, ap₂, _∙_, fun-ext}
+use mathlib.Core.Bool.{Bool, true, false, not, _&&_, true≢false, false≢true}
+use Prim.Native.Nat.{ℕ, zero, suc, _+_, _-_, _*_, _/_, _%_, _^_, _≤_, _<_}
+use native.Mathlib.Nat.{le-of-suc-le-suc, not-suc-le-zero, zero-lt-suc, mod-lt, div-one, one-mul, div-add-mod', div-eq-of-lt, div-lt-iff-lt-mul, pow-suc, lt-of-le-of-lt, lt-of-lt-of-le}
 use native.Mathlib.Omega.{arith}
-use lib.Dec.{eqb, eqb→eq, eqb-refl}
+use lib.Dec.{eqb, eqb→eq, eqb-refl, ltb, lit<, lit≤}
 use lib.Arith.{lt-one}
-use lib.Pow.{pow-pos}
-use lib.Bits.{bitAnd, bitOr, bitXor, and-shr, and-mod, or-lt, and-le-l, xor-shr, xor-mod}
-use lib.Count.{ones, ones-step, trailingZeros, under}
-use Rattle.words.proofs.Truth.{on, so-T, T-so, not-t}
+use lib.Pow.{pow-pos, pow-mono, shl-exact}
+use lib.Bits.{bitAnd, bitOr, and-shr, and-mod, and-le-l}
+use lib.Count.{ones, ones-step, trailingZeros, trailing-of-zero}
+use borrow.Author.Tests.{eq-eqb, ne-eqb, ltb-true, ltb-false, eqb-true}
 use Rattle.words.specs.Booleans.{digit}
-use Rattle.words.specs.Sets.{bit, any, count, lowest}
-use Rattle.words.proofs.Upto.{any-e, any-i, count-cong, lowest-cong}
-use Rattle.words.proofs.Bits.{bit-or, bit-suc, bit-zero}
+use Rattle.words.specs.Sets.{bit, put, any, count, lowest}
+use Rattle.words.proofs.Truth.{on, so-T, T-so, not-t}
+use Rattle.words.proofs.Upto.{any-e, any-i, lowest-none}
+use Rattle.words.proofs.Bits.{bit-suc, bit-zero}
 
 digit-and : (x y : ℕ) → x < 2 → y < 2 → eqb (bitAnd x y) 1 ≡ eqb x 1 && eqb y 1
 digit-and zero zero h k = refl
@@ -109,7 +109,34 @@ bit-not (suc k) x (suc i) h b =
     half-not : (k x : ℕ) → x < 2 ^ suc k → ((2 ^ suc k - 1) - x) / 2 ≡ (2 ^ k - 1) - x / 2
     half-not k x h = omega (arith, pow-suc 2 k)
 
--- ---- bounds
+-- ---- bounds and shifts
 
-pub and-lt : (n a b : ℕ) → a < 2 ^ n → bitAnd a b < 2 ^ n
-and-lt n a b h = lt-of-le-of-lt (and-le-l a b) h
+pub and-lt-left : (n a b : ℕ) → a < 2 ^ n → bitAnd a b < 2 ^ n
+and-lt-left n a b h = lt-of-le-of-lt (and-le-l a b) h
+
+-- a word of n digits has none at or above n
+pub bit-high : (n w i : ℕ) → w < 2 ^ n → n ≤ i → bit w i ≡ false
+unfolding bit
+bit-high n w i h k = ap (λ (x : ℕ). eqb (x % 2) 1) (div-eq-of-lt (lt-of-lt-of-le h (pow-mono k)))
+
+-- `w >> n` is 0 for a word of n digits alone
+pub shr-zero : (n w : ℕ) → eqb (w / 2 ^ n) 0 ≡ ltb w (2 ^ n)
+shr-zero n w =
+    on (ltb w (2 ^ n))
+    (λ e. eq-eqb _ 0 (div-eq-of-lt (ltb-true w (2 ^ n) e)) ∙ sym e)
+    (λ e. ne-eqb _ 0 (λ z. omega (arith, ltb-false w (2 ^ n) e, low z)) ∙ sym e)
+  where
+    low : w / 2 ^ n ≡ 0 → w < 2 ^ n
+    low z = rw one-mul at (div-lt-iff-lt-mul {x = w} {y = 1} (pow-pos n) .0 (rw z (zero-lt-suc 0)))
+
+-- `w | 1 << i` on 32 digits
+pub or-shl : (w i : ℕ) → i < 32 → bitOr w ((1 * 2 ^ i) % 4294967296) ≡ put w i
+unfolding put
+or-shl w i h = ap (λ (x : ℕ). bitOr w x) (shl-exact 1 i 32 (lit< tt) (omega arith) ∙ one-mul (2 ^ i))
+
+-- the lowest bit of any word of 32 digits
+pub lowest-trailing : (w : ℕ) → w < 2 ^ 32 → lowest (λ i. bit w i) 32 ≡ trailingZeros 32 w
+lowest-trailing w h =
+    on (eqb w 0)
+    (λ e. let z : w ≡ 0 = eqb-true w 0 e in rw z (lowest-none (λ i. bit 0 i) 32 (λ i b. bit-zero i) ∙ sym (trailing-of-zero 32)))
+    (λ e. lowest-word 32 32 w (lit≤ tt) h e)

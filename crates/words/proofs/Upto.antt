@@ -121,3 +121,24 @@ lowest-cong p q (suc n) h =
     on (q zero)
     (λ e. rw (h zero (zero-lt-suc n) ∙ e, lowest) (rw (e, lowest)))
     (λ e. rw (h zero (zero-lt-suc n) ∙ e, lowest) (rw (e, lowest) (ap suc (lowest-cong (λ j. p (suc j)) (λ j. q (suc j)) n (λ i b. h (suc i) (suc-le-suc b))))))
+
+-- nothing passes
+pub lowest-none : (p : ℕ → Bool) (n : ℕ) → ((i : ℕ) → i < n → p i ≡ false) → lowest p n ≡ n
+unfolding lowest
+lowest-none p zero h = refl
+lowest-none p (suc n) h = rw (h zero (zero-lt-suc n), lowest) (ap suc (lowest-none (λ j. p (suc j)) n (λ i b. h (suc i) (suc-le-suc b))))
+
+-- what passes nothing from n to k tests alike below n and below k
+pub any-width : (p : ℕ → Bool) (n k : ℕ) → n ≤ k → ((i : ℕ) → n ≤ i → p i ≡ false) → any p k ≡ any p n
+unfolding any
+any-width p zero zero h z = refl
+any-width p zero (suc k) h z = rw (z zero zero-le) (any-width (λ j. p (suc j)) zero k zero-le (λ i b. z (suc i) zero-le))
+any-width p (suc n) zero h z = absurd (not-suc-le-zero h)
+any-width p (suc n) (suc k) h z = ap (λ (b : Bool). p zero || b) (any-width (λ j. p (suc j)) n k (le-of-suc-le-suc h) (λ i b. z (suc i) (suc-le-suc b)))
+
+pub count-width : (p : ℕ → Bool) (n k : ℕ) → n ≤ k → ((i : ℕ) → n ≤ i → p i ≡ false) → count p k ≡ count p n
+unfolding count
+count-width p zero zero h z = refl
+count-width p zero (suc k) h z = rw (z zero zero-le) (omega (arith, count-width (λ j. p (suc j)) zero k zero-le (λ i b. z (suc i) zero-le)))
+count-width p (suc n) zero h z = absurd (not-suc-le-zero h)
+count-width p (suc n) (suc k) h z = ap (λ (x : ℕ). digit (p zero) + x) (count-width (λ j. p (suc j)) n k (le-of-suc-le-suc h) (λ i b. z (suc i) (suc-le-suc b)))

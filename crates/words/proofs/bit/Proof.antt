@@ -1,20 +1,25 @@
+-- `words::bit` meets its contract: a word of 32 digits has none at or above 32, and below it the shifted word's last digit is the bit.
+-- Assumes nothing.
+use mathlib.Core.Path.{sym, ap}
+use Prim.Native.Nat.{ℕ, _/_, _^_}
+use native.Mathlib.Omega.{arith}
+use lib.Dec.{eqb}
+use lib.Bits.{and-mask}
 use borrow.Author.Needs.{needs}
+use Rattle.words.specs.Sets.{bit}
+use Rattle.words.proofs.Operations.{bit-high}
 use Rattle.words.proofs.bit.Statement.{statement}
 use Rattle.words.proofs.bit.Tie as tie
-use Rattle.words.proofs.bit.Reads as reads
-use Rattle.words.proofs.bit.Lts as lts
 
--- src/lib.rt:13:9
 returns : tie.Need-returns
-returns c = ?
+returns c = sym (bit-high 32 (c .before .args .word) (c .before .args .i) (omega arith) (c .if1 .taken))
 
--- src/lib.rt:15:6
 shr-result : tie.Need-shr-result
 shr-result c = search needs
 
--- src/lib.rt:9:1
 returns-2 : tie.Need-returns-2
-returns-2 c = ?
+unfolding bit
+returns-2 c = ap (λ (x : ℕ). eqb x 1) (and-mask (c .before .args .word / 2 ^ c .before .args .i) 1)
 
 pub bit-spec : {M : Type 1} → statement M
 bit-spec = tie.close (tie.spec returns shr-result returns-2)

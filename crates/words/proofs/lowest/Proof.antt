@@ -1,11 +1,13 @@
+-- `words::lowest` meets its contract: the zeros below a word's lowest digit are as many as that digit's place.
+-- Assumes nothing.
+use mathlib.Core.Path.{sym}
+use native.Mathlib.Omega.{arith}
+use Rattle.words.proofs.Operations.{lowest-trailing}
 use Rattle.words.proofs.lowest.Statement.{statement}
 use Rattle.words.proofs.lowest.Tie as tie
-use Rattle.words.proofs.lowest.Reads as reads
-use Rattle.words.proofs.lowest.Lts as lts
 
--- src/lib.rt:46:1
 returns : tie.Need-returns
-returns c = ?
+returns c = sym (lowest-trailing (c .args .word) (omega arith))
 
 pub lowest-spec : {M : Type 1} → statement M
 lowest-spec = tie.close (tie.spec returns)

@@ -1,20 +1,20 @@
+-- `words::put` meets its contract: below 32 a shifted 1 loses nothing.
+-- Assumes nothing.
+use native.Mathlib.Omega.{arith}
 use borrow.Author.Needs.{needs}
+use borrow.Author.Tests.{le-ltb, lt-ltb}
+use Rattle.words.proofs.Operations.{or-shl}
 use Rattle.words.proofs.put.Statement.{statement}
 use Rattle.words.proofs.put.Tie as tie
-use Rattle.words.proofs.put.Reads as reads
-use Rattle.words.proofs.put.Lts as lts
 
--- src/lib.rt:23:9
 returns : tie.Need-returns
-returns c = ?
+returns c = rw (le-ltb _ _ (c .if1 .taken))
 
--- src/lib.rt:25:13
 shl-result : tie.Need-shl-result
 shl-result c = search needs
 
--- src/lib.rt:19:1
 returns-2 : tie.Need-returns-2
-returns-2 c = ?
+returns-2 c = rw (lt-ltb _ _ (c .if1 .left)) (or-shl (c .before .args .word) (c .before .args .i) (c .if1 .left))
 
 pub put-spec : {M : Type 1} → statement M
 put-spec = tie.close (tie.spec returns shl-result returns-2)
