@@ -1,4 +1,7 @@
 pub mod Truth
 pub mod Upto
+pub mod Last
 pub mod Bits
 pub mod Operations
+pub mod WordOf
+pub mod Ones

@@ -32,11 +32,11 @@ bit-and a b i =
     ap (λ (x : ℕ). eqb (x % 2) 1) (and-shr a b i) ∙ ap (λ (x : ℕ). eqb x 1) (and-mod (a / 2 ^ i) (b / 2 ^ i) 1)
     ∙ digit-and (a / 2 ^ i % 2) (b / 2 ^ i % 2) (mod-lt (a / 2 ^ i) (zero-lt-suc 1)) (mod-lt (b / 2 ^ i) (zero-lt-suc 1))
 
-half-lt : (w n : ℕ) → w < 2 ^ suc n → w / 2 < 2 ^ n
+pub half-lt : (w n : ℕ) → w < 2 ^ suc n → w / 2 < 2 ^ n
 half-lt w n h = div-lt-iff-lt-mul (zero-lt-suc 1) .1 (rw (pow-suc 2 n) at h)
 
 -- the lowest digit
-low-digit : (w : ℕ) → w % 2 ≡ digit (bit w 0)
+pub low-digit : (w : ℕ) → w % 2 ≡ digit (bit w 0)
 unfolding bit
 low-digit w = go (w % 2) (mod-lt w (zero-lt-suc 1)) ∙ ap (λ (x : ℕ). digit (eqb (x % 2) 1)) (sym (div-one w))
   where

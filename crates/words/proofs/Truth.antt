@@ -29,6 +29,39 @@ pub or-false : (a : Bool) → a || false ≡ a
 or-false true = refl
 or-false false = refl
 
+pub and-false : (a : Bool) → a && false ≡ false
+and-false true = refl
+and-false false = refl
+
+pub or-true : (a : Bool) → a || true ≡ true
+or-true true = refl
+or-true false = refl
+
+pub or-l : (a b : Bool) → a || b ≡ false → a ≡ false
+or-l true b e = e
+or-l false b e = refl
+
+pub or-r : (a b : Bool) → a || b ≡ false → b ≡ false
+or-r true b e = absurd (true≢false e)
+or-r false b e = e
+
+pub and-comm : (a b : Bool) → a && b ≡ b && a
+and-comm true true = refl
+and-comm true false = refl
+and-comm false true = refl
+and-comm false false = refl
+
+pub not-or : (a b : Bool) → not (a || b) ≡ not a && not b
+not-or true b = refl
+not-or false b = refl
+
+-- the middle two change places
+pub or-swap : (a b c d : Bool) → (a || b) || (c || d) ≡ (a || c) || (b || d)
+or-swap true b c d = refl
+or-swap false true true d = refl
+or-swap false true false d = refl
+or-swap false false c d = refl
+
 pub mp : (a b : Bool) → imp a b ≡ true → a ≡ true → b ≡ true
 mp true b e h = e
 mp false b e h = absurd (false≢true h)
@@ -70,3 +103,13 @@ taut4 f t a = taut3 (f a) (taut1 (λ x. both (λ b. both (λ c. both (f x b c)))
 pub taut5 : (f : Bool → Bool → Bool → Bool → Bool → Bool)
     → both (λ a. both (λ b. both (λ c. both (λ d. both (f a b c d))))) ≡ true → (a b c d e : Bool) → f a b c d e ≡ true
 taut5 f t a = taut4 (f a) (taut1 (λ x. both (λ b. both (λ c. both (λ d. both (f x b c d))))) t a)
+
+-- the one is the other
+abbrev pub same : Bool → Bool → Bool
+same true b = b
+same false b = not b
+
+-- an equation between two sides that a truth table shows to be the same
+pub same-eq : {a b : Bool} → same a b ≡ true → a ≡ b
+same-eq {a = true} e = sym e
+same-eq {a = false} {b = b} e = sym (not-f b e)

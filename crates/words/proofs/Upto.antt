@@ -8,7 +8,7 @@ use native.Mathlib.Nat.{le-of-suc-le-suc, not-suc-le-zero, zero-lt-suc, suc-ne-z
 use native.Mathlib.Omega.{arith}
 use Rattle.words.specs.Booleans.{digit}
 use Rattle.words.specs.Sets.{any, all, count, lowest}
-use Rattle.words.proofs.Truth.{and-l, and-r, and-i, on}
+use Rattle.words.proofs.Truth.{and-l, and-r, and-i, or-swap, on}
 
 pub any-i : (p : ℕ → Bool) (n i : ℕ) → i < n → p i ≡ true → any p n ≡ true
 unfolding any
@@ -23,6 +23,17 @@ any-e p (suc n) e = on (p zero) (λ q. (zero, zero-lt-suc n, q)) (λ q. let r = 
 
 pub any-mono : (p q : ℕ → Bool) (n : ℕ) → ((i : ℕ) → i < n → p i ≡ true → q i ≡ true) → any p n ≡ true → any q n ≡ true
 any-mono p q n h e = let r = any-e p n e in any-i q n (r .0) (r .1) (h (r .0) (r .1) (r .2))
+
+-- nothing passes
+pub any-none : (p : ℕ → Bool) (n : ℕ) → any p n ≡ false → (i : ℕ) → i < n → p i ≡ false
+any-none p n e i h = on (p i) (λ q. absurd (true≢false (sym (any-i p n i h q) ∙ e))) (λ q. q)
+
+pub any-or : (p q : ℕ → Bool) (n : ℕ) → any (λ i. p i || q i) n ≡ any p n || any q n
+unfolding any
+any-or p q zero = refl
+any-or p q (suc n) =
+    ap (λ (b : Bool). (p zero || q zero) || b) (any-or (λ j. p (suc j)) (λ j. q (suc j)) n)
+    ∙ or-swap (p zero) (q zero) (any (λ j. p (suc j)) n) (any (λ j. q (suc j)) n)
 
 pub all-e : (p : ℕ → Bool) (n : ℕ) → all p n ≡ true → (i : ℕ) → i < n → p i ≡ true
 unfolding all
@@ -122,6 +133,17 @@ lowest-cong p q (suc n) h =
     (λ e. rw (h zero (zero-lt-suc n) ∙ e, lowest) (rw (e, lowest)))
     (λ e. rw (h zero (zero-lt-suc n) ∙ e, lowest) (rw (e, lowest) (ap suc (lowest-cong (λ j. p (suc j)) (λ j. q (suc j)) n (λ i b. h (suc i) (suc-le-suc b))))))
 
+-- what passes one of two tests, and nothing passes both
+pub count-or : (p q : ℕ → Bool) (n : ℕ) → ((i : ℕ) → i < n → p i && q i ≡ false) → count (λ i. p i || q i) n ≡ count p n + count q n
+unfolding count
+count-or p q zero h = refl
+count-or p q (suc n) h = omega (arith, digit-or (p zero) (q zero) (h zero (zero-lt-suc n)), count-or (λ j. p (suc j)) (λ j. q (suc j)) n (λ i b. h (suc i) (suc-le-suc b)))
+  where
+    digit-or : (a b : Bool) → a && b ≡ false → digit (a || b) ≡ digit a + digit b
+    digit-or true true e = absurd (true≢false e)
+    digit-or true false e = refl
+    digit-or false b e = omega arith
+
 -- nothing passes
 pub lowest-none : (p : ℕ → Bool) (n : ℕ) → ((i : ℕ) → i < n → p i ≡ false) → lowest p n ≡ n
 unfolding lowest
@@ -142,3 +164,14 @@ count-width p zero zero h z = refl
 count-width p zero (suc k) h z = rw (z zero zero-le) (omega (arith, count-width (λ j. p (suc j)) zero k zero-le (λ i b. z (suc i) zero-le)))
 count-width p (suc n) zero h z = absurd (not-suc-le-zero h)
 count-width p (suc n) (suc k) h z = ap (λ (x : ℕ). digit (p zero) + x) (count-width (λ j. p (suc j)) n k (le-of-suc-le-suc h) (λ i b. z (suc i) (suc-le-suc b)))
+
+-- what passes below n is the lowest below k too
+pub lowest-width : (p : ℕ → Bool) (n k i : ℕ) → n ≤ k → i < n → p i ≡ true → lowest p k ≡ lowest p n
+unfolding lowest
+lowest-width p zero k i h b e = absurd (not-suc-le-zero b)
+lowest-width p (suc n) zero i h b e = absurd (not-suc-le-zero h)
+lowest-width p (suc n) (suc k) zero h b e = rw (e, lowest)
+lowest-width p (suc n) (suc k) (suc i) h b e =
+    on (p zero)
+    (λ q. rw (q, lowest))
+    (λ q. rw (q, lowest) (ap suc (lowest-width (λ j. p (suc j)) n k i (le-of-suc-le-suc h) (le-of-suc-le-suc b) e)))

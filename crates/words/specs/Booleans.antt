@@ -8,7 +8,6 @@ imp true b = b
 imp false b = true
 
 infixl 20 _⊕_
-
 -- one of the two, and not both
 abbrev pub _⊕_ : Bool → Bool → Bool
 true ⊕ b = not b
