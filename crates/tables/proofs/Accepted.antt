@@ -1,0 +1,116 @@
+-- What acceptance gives: each refusal by its condition, and of accepted tables the limits, the lengths and the words. Each from the order of the checks.
+-- Assumes nothing.
+use mathlib.Core.Path.{_≡_, sym, _∙_}
+use mathlib.Core.Bool.{true, false, _||_}
+use mathlib.Core.List.{List, [], _∷_}
+use Prim.Native.Nat.{ℕ, _+_, _*_, _^_, _≤_, _<_}
+use native.Mathlib.Omega.{arith}
+use lib.Dec.{ltb}
+use lib.ListN.{length, getD, take}
+use lib.Seq.{getD-take, length-take-le}
+use borrow.Author.Tests.{lt-ltb, le-ltb, ltb-false, not-false}
+use Rattle.refusals.specs.Checks.{Check, check, outcome}
+use Rattle.refusals.specs.declared.Outcome.the-variants.{Taken, Refused}
+use Rattle.refusals.specs.declared.Refusal.{Refusal}
+use Rattle.refusals.specs.declared.Refusal.the-variants.{Variables, RowCount, RowBit, RowBuffer}
+use Rattle.refusals.proofs.Outcomes.{outcome-taken, outcome-refused, unless-passed, unless-taken}
+use Rattle.words.proofs.Truth.{or-true, or-l, or-r}
+use Rattle.tables.specs.declared.Dimensions.{Dimensions}
+use Rattle.tables.specs.Sizes.{outside, sizeChecks}
+use Rattle.tables.specs.Rows.{rowAt}
+use Rattle.tables.specs.Acceptance.{allBelow, short, high, tableChecks}
+use Rattle.tables.proofs.Tables.{below-at}
+
+module _ (a b : ℕ) (left right : List ℕ) where
+  pub short-left : length left < 2 * a → short a left || short b right ≡ true
+  short-left h = rw (lt-ltb (length left) (2 * a) h)
+
+  pub short-right : ltb (length right) (2 * b) ≡ true → short a left || short b right ≡ true
+  short-right h = rw h (or-true (short a left))
+
+  pub long-both : 2 * a ≤ length left → ltb (length right) (2 * b) ≡ false → short a left || short b right ≡ false
+  long-both h k = rw (le-ltb (length left) (2 * a) h, k)
+
+-- the checks after those on the sizes
+abbrev wordChecks : Dimensions → List ℕ → List ℕ → List Check
+wordChecks d left right =
+    check (short (d .left) left || short (d .right) right) RowBuffer
+    ∷ check (high (d .n) (d .left) left || high (d .n) (d .right) right) RowBit
+    ∷ []
+
+module _ (d : Dimensions) (left right : List ℕ) where
+  pub refuse-size : (r : Refusal) → outcome (sizeChecks (d .n) (d .left) (d .right)) ≡ Refused r → Refused r ≡ outcome (tableChecks d left right)
+  refuse-size r e = sym (outcome-refused (sizeChecks (d .n) (d .left) (d .right)) (wordChecks d left right) r e)
+
+  module _ (e : outcome (sizeChecks (d .n) (d .left) (d .right)) ≡ Taken) where
+    rest : outcome (tableChecks d left right) ≡ outcome (wordChecks d left right)
+    rest = outcome-taken (sizeChecks (d .n) (d .left) (d .right)) (wordChecks d left right) e
+
+    pub refuse-buffer : short (d .left) left || short (d .right) right ≡ true → Refused RowBuffer ≡ outcome (tableChecks d left right)
+    refuse-buffer h = sym (rest ∙ rw h)
+
+    module _ (h : short (d .left) left || short (d .right) right ≡ false) where
+      pub refuse-left-bit : high (d .n) (d .left) left ≡ true → Refused RowBit ≡ outcome (tableChecks d left right)
+      refuse-left-bit k = sym (rest ∙ rw (h, k))
+
+      pub refuse-right-bit : high (d .n) (d .left) left ≡ false → high (d .n) (d .right) right ≡ true → Refused RowBit ≡ outcome (tableChecks d left right)
+      refuse-right-bit k l = sym (rest ∙ rw (h, k, l))
+
+      pub take-tables : high (d .n) (d .left) left ≡ false → high (d .n) (d .right) right ≡ false → Taken ≡ outcome (tableChecks d left right)
+      take-tables k l = sym (rest ∙ rw (h, k, l))
+
+-- ---- accepted tables
+
+pub record Accepted (d : Dimensions) (left right : List ℕ) : Type 0 where
+  pub n-least : 1 ≤ d .n
+  pub n-most : d .n ≤ 32
+  pub left-least : 1 ≤ d .left
+  pub left-most : d .left ≤ 128
+  pub right-least : 1 ≤ d .right
+  pub right-most : d .right ≤ 128
+  pub left-length : 2 * d .left ≤ length left
+  pub right-length : 2 * d .right ≤ length right
+  pub left-words : (i : ℕ) → i < 2 * d .left → getD left i 0 < 2 ^ d .n
+  pub right-words : (i : ℕ) → i < 2 * d .right → getD right i 0 < 2 ^ d .n
+
+least : (limit k : ℕ) → outside limit k ≡ false → 1 ≤ k
+least limit k e = ltb-false k 1 (or-l (ltb k 1) (ltb limit k) e)
+
+most : (limit k : ℕ) → outside limit k ≡ false → k ≤ limit
+most limit k e = ltb-false limit k (or-r (ltb k 1) (ltb limit k) e)
+
+words-below : (n rows : ℕ) (words : List ℕ) → 2 * rows ≤ length words → high n rows words ≡ false → (i : ℕ) → i < 2 * rows → getD words i 0 < 2 ^ n
+words-below n rows words h e i b = rw (getD-take (2 * rows) words i 0 b) at (below-at n (take (2 * rows) words) (not-false (allBelow n (take (2 * rows) words)) e) i (rw (length-take-le (2 * rows) words h) b))
+
+pub accepted : (d : Dimensions) (left right : List ℕ) → outcome (tableChecks d left right) ≡ Taken → Accepted d left right
+accepted d left right e =
+    let n-in = unless-passed (outside 32 (d .n)) Variables _ e in
+    let e₁ = unless-taken (outside 32 (d .n)) Variables _ e in
+    let rows-in = unless-passed (outside 128 (d .left) || outside 128 (d .right)) RowCount _ e₁ in
+    let e₂ = unless-taken (outside 128 (d .left) || outside 128 (d .right)) RowCount _ e₁ in
+    let long = unless-passed (short (d .left) left || short (d .right) right) RowBuffer _ e₂ in
+    let e₃ = unless-taken (short (d .left) left || short (d .right) right) RowBuffer _ e₂ in
+    let low = unless-passed (high (d .n) (d .left) left || high (d .n) (d .right) right) RowBit _ e₃ in
+    let left-in = or-l (outside 128 (d .left)) (outside 128 (d .right)) rows-in in
+    let right-in = or-r (outside 128 (d .left)) (outside 128 (d .right)) rows-in in
+    let l : 2 * d .left ≤ length left = ltb-false (length left) (2 * d .left) (or-l (short (d .left) left) (short (d .right) right) long) in
+    let r : 2 * d .right ≤ length right = ltb-false (length right) (2 * d .right) (or-r (short (d .left) left) (short (d .right) right) long) in
+    record {
+      n-least = least 32 (d .n) n-in;
+      n-most = most 32 (d .n) n-in;
+      left-least = least 128 (d .left) left-in;
+      left-most = most 128 (d .left) left-in;
+      right-least = least 128 (d .right) right-in;
+      right-most = most 128 (d .right) right-in;
+      left-length = l;
+      right-length = r;
+      left-words = words-below (d .n) (d .left) left l (or-l (high (d .n) (d .left) left) (high (d .n) (d .right) right) low);
+      right-words = words-below (d .n) (d .right) right r (or-r (high (d .n) (d .left) left) (high (d .n) (d .right) right) low);
+    }
+
+-- the words of a row
+pub row-positive : (words : List ℕ) (n rows i : ℕ) → ((j : ℕ) → j < 2 * rows → getD words j 0 < 2 ^ n) → i < rows → rowAt words i .positive < 2 ^ n
+row-positive words n rows i h b = h (2 * i) (omega arith)
+
+pub row-negative : (words : List ℕ) (n rows i : ℕ) → ((j : ℕ) → j < 2 * rows → getD words j 0 < 2 ^ n) → i < rows → rowAt words i .negative < 2 ^ n
+row-negative words n rows i h b = h (2 * i + 1) (omega arith)

@@ -1,0 +1,3 @@
+pub mod Sizes
+pub mod Rows
+pub mod Acceptance
