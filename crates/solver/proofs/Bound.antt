@@ -1,0 +1,149 @@
+-- 2 ^ (k + 1) - 1 steps close a fresh run, k being the number of variables that occur in a row that is no padding: a run sets and chooses only these,
+-- and each step of an open run lowers a potential that starts there.
+-- Assumes nothing.
+use mathlib.Core.Path.{_≡_, refl}
+use mathlib.Core.Bool.{Bool, true, false, _&&_}
+use mathlib.Core.List.{List, [], _∷_}
+use Prim.Native.Nat.{ℕ, zero, suc, _+_, _-_, _*_, _^_, _≤_, _<_}
+use native.Mathlib.Nat.{pow-suc}
+use native.Mathlib.Omega.{arith}
+use lib.Pow.{pow-pos, pow-mono}
+use Rattle.words.proofs.Truth.{and-l, and-r, and-i}
+use Rattle.words.proofs.Upto.{count-le}
+use Rattle.tables.specs.declared.Row.{Row}
+use Rattle.solver.specs.declared.Level.{Level}
+use Rattle.solver.specs.declared.Rule.{Rule}
+use Rattle.solver.specs.declared.Rule.the-variants.{AllSatisfied, Conflict, Unit, Choice}
+use Rattle.solver.specs.declared.Standing.{Standing}
+use Rattle.solver.specs.declared.Standing.the-variants.{Open, Satisfied, Refuted}
+use Rattle.solver.specs.Rules.{rule}
+use Rattle.solver.specs.State.{State, fresh}
+use Rattle.solver.specs.Step.{back, assign, follow, ifOpen, step, after}
+use Rattle.solver.specs.Truth.{occurs, occurring}
+use Rattle.solver.specs.WellFormed.{chain}
+use Rattle.solver.proofs.RuleLaws.{Ruled, ruled, Settable, unit-settable, choice-settable}
+use Rattle.solver.proofs.WellFormedLaws.{Formed, chain-head}
+use Rattle.solver.proofs.SettingLaws.{freeAmong, free-le, free-less-t, free-less-f}
+use Rattle.solver.proofs.StepLaws.{step-formed, fresh-formed}
+
+-- each level's variable passes
+abbrev allChosen : (ℕ → Bool) → List Level → Bool
+allChosen p [] = true
+allChosen p (l ∷ ls) = p (l .chosen) && allChosen p ls
+
+-- what the levels have left: for each, the steps after its variable goes to F
+unfoldable leftOver : (ℕ → Bool) → ℕ → List Level → ℕ
+unfolding freeAmong
+leftOver p n [] = 0
+leftOver p n (l ∷ ls) = (2 ^ freeAmong p n (l .t) (l .f) - 1) + leftOver p n ls
+
+abbrev potentialAt : (ℕ → Bool) → ℕ → State → Standing → ℕ
+potentialAt p n s Open = (2 ^ suc (freeAmong p n (s .t) (s .f)) - 1) + leftOver p n (s .levels)
+potentialAt p n s Satisfied = 0
+potentialAt p n s Refuted = 0
+
+-- powers of u and of what is less
+falls : (u u′ : ℕ) → u′ < u → (2 ^ suc u ≡ 2 ^ u * 2) × (2 ^ suc u′ ≤ 2 ^ u) × (0 < 2 ^ u) × (0 < 2 ^ suc u′)
+falls u u′ h = (pow-suc 2 u, pow-mono h, pow-pos u, pow-pos (suc u′))
+
+module _ (n : ℕ) (rows : List Row) where
+  abbrev among : ℕ → ℕ → ℕ
+  among t f = freeAmong (occurs n rows) n t f
+
+  abbrev potential : State → ℕ
+  potential s = potentialAt (occurs n rows) n s (s .standing)
+
+  -- of an open state
+  abbrev opened : State → ℕ
+  opened s = potentialAt (occurs n rows) n s Open
+
+  abbrev Kept : State → Type 0
+  Kept s = Formed n s × (allChosen (occurs n rows) (s .levels) ≡ true)
+
+  -- ---- every chosen variable occurs
+
+  back-chosen : (s : State) (ls : List Level) → allChosen (occurs n rows) ls ≡ true → allChosen (occurs n rows) (back s ls .levels) ≡ true
+  back-chosen s [] c = c
+  back-chosen s (l ∷ ls) c = and-r (occurs n rows (l .chosen)) _ c
+
+  follow-chosen : (s : State) (k : Rule) → Ruled n rows (s .t) (s .f) k → allChosen (occurs n rows) (s .levels) ≡ true → allChosen (occurs n rows) (follow s k .levels) ≡ true
+  follow-chosen s AllSatisfied w c = c
+  follow-chosen s Conflict w c = back-chosen s (s .levels) c
+  follow-chosen s (Unit v true) w c = c
+  follow-chosen s (Unit v false) w c = c
+  follow-chosen s (Choice v) w c = and-i (choice-settable n rows (s .t) (s .f) w .occurring) c
+
+  step-kept : (s : State) → Kept s → Kept (step n rows s)
+  unfolding step
+  step-kept s o = (step-formed n rows s (o .0), go (s .standing))
+    where
+      go : (st : Standing) → allChosen (occurs n rows) (ifOpen st (follow s (rule n rows (s .t) (s .f))) s .levels) ≡ true
+      go Open = follow-chosen s (rule n rows (s .t) (s .f)) (ruled n rows (s .t) (s .f)) (o .1)
+      go Satisfied = o .1
+      go Refuted = o .1
+
+  -- ---- the potential falls
+
+  back-falls : (s : State) (ls : List Level) → chain n (s .t) (s .f) ls ≡ true → allChosen (occurs n rows) ls ≡ true
+      → potential (back s ls) < (2 ^ suc (among (s .t) (s .f)) - 1) + leftOver (occurs n rows) n ls
+  unfolding leftOver
+  back-falls s [] e c = omega (arith, pow-suc 2 (among (s .t) (s .f)), pow-pos (among (s .t) (s .f)))
+  back-falls s (l ∷ ls) e c =
+      let w = chain-head n l (s .t) (s .f) ls e in
+      omega (
+        arith,
+        falls _ _ (free-less-f n (l .t) (l .f) (l .chosen) (w .low) (w .was-free) (occurs n rows) (and-l _ _ c)),
+        pow-suc 2 (among (s .t) (s .f)),
+        pow-pos (among (s .t) (s .f)),
+      )
+
+  assign-falls : (s : State) (v : ℕ) (positive : Bool) → Settable n rows (s .t) (s .f) v → potential (assign s v positive) < opened s
+  assign-falls s v true w = omega (arith, falls _ _ (free-less-t n (s .t) (s .f) v (w .low) (w .is-free) (occurs n rows) (w .occurring)))
+  assign-falls s v false w = omega (arith, falls _ _ (free-less-f n (s .t) (s .f) v (w .low) (w .is-free) (occurs n rows) (w .occurring)))
+
+  choice-falls : (s : State) (v : ℕ) → Settable n rows (s .t) (s .f) v → potential (follow s (Choice v)) < opened s
+  unfolding leftOver
+  choice-falls s v w = omega (arith, falls _ _ (free-less-t n (s .t) (s .f) v (w .low) (w .is-free) (occurs n rows) (w .occurring)))
+
+  follow-falls : (s : State) (k : Rule) → Ruled n rows (s .t) (s .f) k → Kept s → potential (follow s k) < opened s
+  follow-falls s AllSatisfied w o = omega (arith, pow-suc 2 (among (s .t) (s .f)), pow-pos (among (s .t) (s .f)))
+  follow-falls s Conflict w o = back-falls s (s .levels) (o .0 .linked) (o .1)
+  follow-falls s (Unit v positive) w o = assign-falls s v positive (unit-settable n rows (s .t) (s .f) w)
+  follow-falls s (Choice v) w o = choice-falls s v (choice-settable n rows (s .t) (s .f) w)
+
+  step-falls : (s : State) → Kept s → (k : ℕ) → potential s ≤ suc k → potential (step n rows s) ≤ k
+  unfolding step
+  step-falls s o k = go (s .standing) refl
+    where
+      go : (st : Standing) → s .standing ≡ st → potentialAt (occurs n rows) n s st ≤ suc k → potential (ifOpen st (follow s (rule n rows (s .t) (s .f))) s) ≤ k
+      go Open e h = omega (arith, follow-falls s (rule n rows (s .t) (s .f)) (ruled n rows (s .t) (s .f)) o)
+      go Satisfied e h = rw e (omega arith)
+      go Refuted e h = rw e (omega arith)
+
+  -- ---- so it reaches 0, and no open state has potential 0
+
+  closes : (k : ℕ) (s : State) → Kept s → potential s ≤ k → after n rows k s .standing ≡ Open → ⊥
+  unfolding after
+  closes zero s o h = go (s .standing) h
+    where
+      go : (st : Standing) → potentialAt (occurs n rows) n s st ≤ 0 → st ≡ Open → ⊥
+      go Open h e = omega (arith, pow-suc 2 (among (s .t) (s .f)), pow-pos (among (s .t) (s .f)))
+      go Satisfied h e = let z : _≡_ {A = ℕ} 0 1 = cc in omega arith
+      go Refuted h e = let z : _≡_ {A = ℕ} 0 1 = cc in omega arith
+  closes (suc k) s o h = closes k (step n rows s) (step-kept s o) (step-falls s o k h)
+
+  pub after-closes : (k : ℕ) → 2 ^ suc (occurring n rows) - 1 ≤ k → after n rows k fresh .standing ≡ Open → ⊥
+  unfolding leftOver occurring
+  after-closes k h =
+      let p : 2 ^ suc (among 0 0) ≤ 2 ^ suc (occurring n rows) = pow-mono (omega (arith, free-le (occurs n rows) n 0 0)) in
+      closes k fresh (fresh-formed n, refl) (omega arith)
+
+  -- and there are at most n such variables
+  pub occurring-le : occurring n rows ≤ n
+  unfolding occurring
+  occurring-le = count-le (occurs n rows) n
+
+  pub after-closes-n : (k : ℕ) → 2 ^ suc n - 1 ≤ k → after n rows k fresh .standing ≡ Open → ⊥
+  after-closes-n k h =
+      let p : 2 ^ suc (occurring n rows) ≤ 2 ^ suc n = pow-mono (omega (arith, occurring-le)) in
+      after-closes k (omega arith)

@@ -1,0 +1,129 @@
+-- The budgeted run a step at a time: what is left of the budget from the present state gives what the whole gives from the fresh one.
+-- Assumes nothing.
+use mathlib.Core.Path.{_≡_, refl, sym, ap, ap₂, _∙_}
+use mathlib.Core.Bool.{Bool, true, false, true≢false}
+use mathlib.Core.List.{List}
+use Prim.Native.Nat.{ℕ, zero, suc, _+_, _-_, _≤_, _<_}
+use native.Mathlib.Omega.{arith}
+use lib.Dec.{ltb}
+use borrow.Author.Tests.{lt-ltb, le-ltb, ltb-true, ltb-false}
+use Rattle.words.proofs.Truth.{on}
+use Rattle.tables.specs.declared.Row.{Row}
+use Rattle.solver.specs.declared.Answer.{Answer}
+use Rattle.solver.specs.declared.Level.{Level}
+use Rattle.solver.specs.declared.Run.{Run}
+use Rattle.solver.specs.declared.Standing.{Standing}
+use Rattle.solver.specs.declared.Standing.the-variants.{Open, Satisfied, Refuted}
+use Rattle.solver.specs.declared.Verdict.{Verdict}
+use Rattle.solver.specs.State.{State, fresh, stateOf, runOf}
+use Rattle.solver.specs.Step.{ifOpen, step}
+use Rattle.solver.specs.WellFormed.{wellFormed}
+use Rattle.solver.specs.Answers.{Ran, runFrom, verdictOf, answerOf}
+use Rattle.solver.proofs.StepLaws.{fresh-well-formed}
+use Rattle.solver.proofs.HeldRun.{state-back, run-of-formed}
+use Rattle.solver.proofs.HeldStep.{step-formed-run}
+
+-- steps before a run
+abbrev more : ℕ → Ran → Ran
+more count r = record { steps = count + r .steps; final = r .final }
+
+more-none : (r : Ran) → r ≡ more 0 r
+more-none r = let e : r .steps ≡ 0 + r .steps = omega arith in ap (λ (x : ℕ). record { steps = x; final = r .final }) e
+
+more-more : (a b : ℕ) (r : Ran) → more a (more b r) ≡ more (a + b) r
+more-more a b r = let e : a + (b + r .steps) ≡ a + b + r .steps = omega arith in ap (λ (x : ℕ). record { steps = x; final = r .final }) e
+
+-- an open run with a budget left
+open-e : (st : Standing) (b : Bool) → ifOpen st b false ≡ true → (st ≡ Open) × (b ≡ true)
+open-e Open b e = (refl, e)
+open-e Satisfied b e = absurd (true≢false (sym e))
+open-e Refuted b e = absurd (true≢false (sym e))
+
+left-over : (count budget : ℕ) → ltb 0 (budget - count) ≡ ltb count budget
+left-over count budget =
+    on (ltb count budget)
+    (λ e. lt-ltb 0 (budget - count) (omega (arith, ltb-true count budget e)) ∙ sym e)
+    (λ e. le-ltb 0 (budget - count) (omega (arith, ltb-false count budget e)) ∙ sym e)
+
+module _ (n : ℕ) (rows : List Row) where
+  -- one step of the budget
+  unfold-run : (k : ℕ) (s : State)
+      → runFrom n rows (suc k) s ≡ ifOpen (s .standing) (more 1 (runFrom n rows k (step n rows s))) (record { steps = 0; final = s })
+  unfolding runFrom
+  unfold-run k s = go (s .standing) (s .t) (s .f) (s .levels)
+    where
+      go : (st : Standing) (t f : ℕ) (ls : List Level)
+          → runFrom n rows (suc k) (record { standing = st; t = t; f = f; levels = ls })
+          ≡ ifOpen st (more 1 (runFrom n rows k (step n rows (record { standing = st; t = t; f = f; levels = ls })))) (record { steps = 0; final = record { standing = st; t = t; f = f; levels = ls } })
+      go Open t f ls =
+          let r = runFrom n rows k (step n rows (record { standing = Open; t = t; f = f; levels = ls })) in
+          let e : suc (r .steps) ≡ 1 + r .steps = omega arith in
+          ap (λ (x : ℕ). record { steps = x; final = r .final }) e
+      go Satisfied t f ls = refl
+      go Refuted t f ls = refl
+
+  -- the run goes on
+  goes : (k : ℕ) (s : State) → s .standing ≡ Open → runFrom n rows (suc k) s ≡ more 1 (runFrom n rows k (step n rows s))
+  goes k s e = unfold-run k s ∙ ap (λ (st : Standing). ifOpen st (more 1 (runFrom n rows k (step n rows s))) (record { steps = 0; final = s })) e
+
+  -- the run stops
+  stops : (k : ℕ) (s : State) → ifOpen (s .standing) (ltb 0 k) false ≡ false → runFrom n rows k s ≡ record { steps = 0; final = s }
+  unfolding runFrom
+  stops zero s h = refl
+  stops (suc k) s h = unfold-run k s ∙ go (s .standing) (ap (λ (b : Bool). ifOpen (s .standing) b false) (sym (lt-ltb 0 (suc k) (omega arith))) ∙ h)
+    where
+      go : (st : Standing) → ifOpen st true false ≡ false → ifOpen st (more 1 (runFrom n rows k (step n rows s))) (record { steps = 0; final = s }) ≡ record { steps = 0; final = s }
+      go Open e = absurd (true≢false e)
+      go Satisfied e = refl
+      go Refuted e = refl
+
+-- what the loop knows of the run and the count
+pub record Running (n : ℕ) (rows : List Row) (budget : ℕ) (run : Run) (count : ℕ) : Type 0 where
+  pub within : count ≤ budget
+  pub same : run .n ≡ n
+  pub formed : wellFormed run ≡ true
+  pub left : runFrom n rows budget fresh ≡ more count (runFrom n rows (budget - count) (stateOf run))
+
+variables-of : (n : ℕ) (s : State) (run : Run) → run ≡ runOf n s → run .n ≡ n
+unfolding runOf
+variables-of n s run e = ap (λ (r : Run). r .n) e
+
+state-of : (n : ℕ) (s : State) (run : Run) → run ≡ runOf n s → stateOf run ≡ s
+state-of n s run e = ap (λ (r : Run). stateOf r) e ∙ state-back n s
+
+module _ (n : ℕ) (rows : List Row) (budget : ℕ) where
+  pub running-fresh : 1 ≤ n → n ≤ 32 → (run : Run) → run ≡ runOf n fresh → Running n rows budget run 0
+  running-fresh a b run e =
+      let k : budget ≡ budget - 0 = omega arith in record {
+        within = omega arith;
+        same = variables-of n fresh run e;
+        formed = ap (λ (r : Run). wellFormed r) e ∙ run-of-formed n fresh a b (fresh-well-formed n);
+        left = more-none (runFrom n rows budget fresh) ∙ ap₂ (λ (x : ℕ) (s : State). more 0 (runFrom n rows x s)) k (sym (state-of n fresh run e));
+      }
+
+  module _ (run : Run) (count : ℕ) (o : Running n rows budget run count) where
+    pub running-less : ifOpen (run .standing) (ltb count budget) false ≡ true → count < budget
+    running-less h = ltb-true count budget (open-e (run .standing) (ltb count budget) h .1)
+
+    pub running-on : ifOpen (run .standing) (ltb count budget) false ≡ true → (next : Run) → next ≡ runOf n (step n rows (stateOf run)) → Running n rows budget next (count + 1)
+    running-on h next e =
+        let p = open-e (run .standing) (ltb count budget) h in
+        let b = ltb-true count budget (p .1) in
+        let k : budget - count ≡ suc (budget - (count + 1)) = omega arith in record {
+          within = omega arith;
+          same = variables-of n (step n rows (stateOf run)) next e;
+          formed = ap (λ (r : Run). wellFormed r) e ∙ step-formed-run n rows run (o .same) (o .formed);
+          left = o .left
+              ∙ ap (λ (r : Ran). more count r) (ap (λ (x : ℕ). runFrom n rows x (stateOf run)) k ∙ goes n rows (budget - (count + 1)) (stateOf run) (p .0))
+              ∙ more-more count 1 (runFrom n rows (budget - (count + 1)) (step n rows (stateOf run)))
+              ∙ ap (λ (s : State). more (count + 1) (runFrom n rows (budget - (count + 1)) s)) (sym (state-of n (step n rows (stateOf run)) next e));
+        }
+
+    pub running-end : ifOpen (run .standing) (ltb count budget) false ≡ false → (v : Verdict) → v ≡ verdictOf (run .standing) (run .t)
+        → _≡_ {A = Answer} (record { count = count; verdict = v }) (answerOf n rows budget)
+    unfolding answerOf
+    running-end h v e =
+        let z : count ≡ count + 0 = omega arith in
+        ap₂ (λ (x : ℕ) (y : Verdict). record { count = x; verdict = y }) z e
+        ∙ sym (ap (λ (r : Ran). record { count = r .steps; verdict = verdictOf (r .final .standing) (r .final .t) })
+        (o .left ∙ ap (λ (r : Ran). more count r) (stops n rows (budget - count) (stateOf run) (ap (λ (b : Bool). ifOpen (run .standing) b false) (left-over count budget) ∙ h))))

@@ -1,0 +1,123 @@
+-- What the entries give, by the checks that are passed or fail.
+-- Assumes nothing.
+use mathlib.Core.Path.{_≡_, refl, sym, ap, ap₂, _∙_}
+use mathlib.Core.Bool.{Bool, true, false, not}
+use mathlib.Core.List.{List, [], _∷_, _++_}
+use Prim.Native.Nat.{ℕ}
+use lib.Dec.{eqb}
+use borrow.Author.Tests.{eq-eqb, ne-eqb, eqb-true, not-false}
+use Rattle.refusals.specs.Checks.{check, outcome, given}
+use Rattle.refusals.specs.declared.Outcome.{Outcome}
+use Rattle.refusals.specs.declared.Outcome.the-variants.{Taken, Refused}
+use Rattle.refusals.specs.declared.Refusal.{Refusal}
+use Rattle.refusals.specs.declared.Refusal.the-variants.{OtherVariables, NoModel}
+use Rattle.refusals.specs.declared.Refusal.the-variants as refusal
+use Rattle.refusals.proofs.Outcomes.{outcome-taken, outcome-refused, unless-passed, unless-taken, refused-taken}
+use Rattle.tables.specs.Acceptance.{tableChecks}
+use Rattle.tables.specs.Rows.{rowsOf}
+use Rattle.tables.specs.declared.Dimensions.{Dimensions}
+use Rattle.solver.specs.declared.Answer.{Answer}
+use Rattle.solver.specs.declared.Modelled.the-variants as modelled
+use Rattle.solver.specs.declared.Run.{Run}
+use Rattle.solver.specs.declared.Solved.the-variants as solved′
+use Rattle.solver.specs.declared.Standing.{Standing}
+use Rattle.solver.specs.declared.Standing.the-variants.{Open, Satisfied, Refuted}
+use Rattle.solver.specs.declared.Stepped.{Stepped}
+use Rattle.solver.specs.State.{stateOf, runOf}
+use Rattle.solver.specs.Step.{step}
+use Rattle.solver.specs.Answers.{answerOf, stepped, solved, isSatisfied, modelOf}
+use Rattle.solver.specs.WellFormed.{wellFormed, stateChecks}
+
+-- ---- the checks of a run
+
+module _ (d : Dimensions) (run : Run) where
+  pub refuse-state : wellFormed run ≡ false → Refused refusal.State ≡ outcome (stateChecks d run)
+  refuse-state e = rw e
+
+  pub refuse-other : wellFormed run ≡ true → (run .n ≡ d .n → ⊥) → Refused OtherVariables ≡ outcome (stateChecks d run)
+  refuse-other e h = rw (e, ne-eqb (run .n) (d .n) h)
+
+  pub take-state : wellFormed run ≡ true → run .n ≡ d .n → Taken ≡ outcome (stateChecks d run)
+  take-state e h = rw (e, eq-eqb (run .n) (d .n) h)
+
+-- ---- the checks of tables and run
+
+module _ (d : Dimensions) (left right : List ℕ) (run : Run) where
+  pub refuse-tables : (r : Refusal) → Refused r ≡ outcome (tableChecks d left right) → Refused r ≡ outcome (tableChecks d left right ++ stateChecks d run)
+  refuse-tables r e = sym (outcome-refused (tableChecks d left right) (stateChecks d run) r (sym e))
+
+  pub state-decides : Taken ≡ outcome (tableChecks d left right) → outcome (stateChecks d run) ≡ outcome (tableChecks d left right ++ stateChecks d run)
+  state-decides e = sym (outcome-taken (tableChecks d left right) (stateChecks d run) (sym e))
+
+  -- the tables are accepted, and the run passes its checks
+  pub record Passed : Type 0 where
+    pub tables : outcome (tableChecks d left right) ≡ Taken
+    pub formed : wellFormed run ≡ true
+    pub same : run .n ≡ d .n
+
+  pub passed : (o : Outcome) → o ≡ outcome (tableChecks d left right ++ stateChecks d run) → o ≡ Taken → Passed
+  passed o f t = go (outcome (tableChecks d left right)) refl
+    where
+      e : Taken ≡ outcome (tableChecks d left right ++ stateChecks d run)
+      e = sym t ∙ f
+
+      go : (o : Outcome) → outcome (tableChecks d left right) ≡ o → Passed
+      go Taken q =
+          let s : outcome (stateChecks d run) ≡ Taken = state-decides (sym q) ∙ sym e in
+          let s₁ = unless-taken (not (wellFormed run)) refusal.State _ s in record {
+            tables = q;
+            formed = not-false (wellFormed run) (unless-passed (not (wellFormed run)) refusal.State _ s);
+            same = eqb-true (run .n) (d .n) (not-false (eqb (run .n) (d .n)) (unless-passed (not (eqb (run .n) (d .n))) OtherVariables _ s₁));
+          }
+      go (Refused r) q = absurd (refused-taken (refuse-tables r (sym q) ∙ sym e))
+
+  -- ---- the step's entry
+
+  pub step-taken : (o : Outcome) → o ≡ outcome (tableChecks d left right ++ stateChecks d run) → o ≡ Taken
+      → (r : Run) → r ≡ runOf (d .n) (step (d .n) (rowsOf d left right) (stateOf run))
+      → _≡_ {A = Stepped} (record { outcome = o; run = r }) (stepped d left right run)
+  unfolding stepped
+  step-taken o e t r q = ap₂ (λ (x : Outcome) (y : Run). record { outcome = x; run = y }) t q
+      ∙ ap (λ (x : Outcome). given x (record { outcome = Taken; run = runOf (d .n) (step (d .n) (rowsOf d left right) (stateOf run)) }) (λ y. record { outcome = Refused y; run = run })) (sym t ∙ e)
+
+  pub step-refused : (o : Outcome) → o ≡ outcome (tableChecks d left right ++ stateChecks d run) → (r : Refusal) → o ≡ Refused r
+      → _≡_ {A = Stepped} (record { outcome = o; run = run }) (stepped d left right run)
+  unfolding stepped
+  step-refused o e r t = ap (λ (x : Outcome). record { outcome = x; run = run }) t
+      ∙ ap (λ (x : Outcome). given x (record { outcome = Taken; run = runOf (d .n) (step (d .n) (rowsOf d left right) (stateOf run)) }) (λ y. record { outcome = Refused y; run = run })) (sym t ∙ e)
+
+-- ---- the budgeted run's entry
+
+module _ (d : Dimensions) (left right : List ℕ) (budget : ℕ) where
+  solve-as : (o : Outcome) → o ≡ outcome (tableChecks d left right) → given o (solved′.Of (answerOf (d .n) (rowsOf d left right) budget)) solved′.Refused ≡ solved d left right budget
+  unfolding solved
+  solve-as o e = ap (λ (x : Outcome). given x (solved′.Of (answerOf (d .n) (rowsOf d left right) budget)) solved′.Refused) e
+
+  pub solve-taken : Taken ≡ outcome (tableChecks d left right) → (a : Answer) → a ≡ answerOf (d .n) (rowsOf d left right) budget → solved′.Of a ≡ solved d left right budget
+  solve-taken e a q = ap solved′.Of q ∙ solve-as Taken e
+
+  pub solve-refused : (r : Refusal) → Refused r ≡ outcome (tableChecks d left right) → solved′.Refused r ≡ solved d left right budget
+  solve-refused r e = solve-as (Refused r) e
+
+-- ---- the model
+
+module _ (run : Run) where
+  pub model-unformed : wellFormed run ≡ false → modelled.Refused refusal.State ≡ modelOf run
+  unfolding modelOf
+  model-unformed e = rw e
+
+  module _ (w : wellFormed run ≡ true) where
+    model-as : (st : Standing) → run .standing ≡ st → given (outcome (check (not (isSatisfied st)) NoModel ∷ [])) (modelled.Model (run .t)) modelled.Refused ≡ modelOf run
+    unfolding modelOf
+    model-as st e = sym (ap₂
+        (λ (a : Bool) (x : Standing). given (outcome (check (not a) refusal.State ∷ check (not (isSatisfied x)) NoModel ∷ [])) (modelled.Model (run .t)) modelled.Refused)
+        w e)
+
+    pub model-satisfied : run .standing ≡ Satisfied → modelled.Model (run .t) ≡ modelOf run
+    model-satisfied e = model-as Satisfied e
+
+    pub model-open : run .standing ≡ Open → modelled.Refused NoModel ≡ modelOf run
+    model-open e = model-as Open e
+
+    pub model-refuted : run .standing ≡ Refuted → modelled.Refused NoModel ≡ modelOf run
+    model-refuted e = model-as Refuted e

@@ -1,0 +1,46 @@
+-- Accepted tables have rows whose words are below 2 ^ n: acceptance says so of each word, and a row has two.
+-- Assumes nothing.
+use mathlib.Core.Path.{_≡_, refl}
+use mathlib.Core.Bool.{Bool, true, _&&_}
+use mathlib.Core.List.{List}
+use Prim.Native.Nat.{ℕ, zero, suc, _+_, _*_, _^_, _<_}
+use native.Mathlib.Omega.{arith}
+use lib.Dec.{ltb}
+use lib.ListN.{getD}
+use borrow.Author.Tests.{lt-ltb, ltb-true}
+use Rattle.refusals.specs.Checks.{outcome}
+use Rattle.refusals.specs.declared.Outcome.the-variants.{Taken}
+use Rattle.words.proofs.Truth.{and-l, and-r, and-i}
+use Rattle.tables.specs.declared.Dimensions.{Dimensions}
+use Rattle.tables.specs.declared.Row.{Row}
+use Rattle.tables.specs.Rows.{rowsFrom, rowsOf}
+use Rattle.tables.specs.Acceptance.{tableChecks}
+use Rattle.tables.proofs.Accepted.{accepted}
+use Rattle.solver.specs.Rules.{allRows}
+use Rattle.solver.proofs.RowLaws.{all-rows-append}
+
+-- the row's words are below 2 ^ n
+abbrev pub lowRow : ℕ → Row → Bool
+lowRow n r = ltb (r .positive) (2 ^ n) && ltb (r .negative) (2 ^ n)
+
+pub low-positive : (n : ℕ) (r : Row) → lowRow n r ≡ true → r .positive < 2 ^ n
+low-positive n r e = ltb-true _ _ (and-l (ltb (r .positive) (2 ^ n)) _ e)
+
+pub low-negative : (n : ℕ) (r : Row) → lowRow n r ≡ true → r .negative < 2 ^ n
+low-negative n r e = ltb-true _ _ (and-r (ltb (r .positive) (2 ^ n)) _ e)
+
+-- k rows from row i on
+low-rows : (n : ℕ) (words : List ℕ) (i k : ℕ) → ((j : ℕ) → j < 2 * (i + k) → getD words j 0 < 2 ^ n) → allRows (lowRow n) (rowsFrom words i k) ≡ true
+unfolding allRows
+low-rows n words i zero h = refl
+low-rows n words i (suc k) h =
+    and-i
+    (and-i (lt-ltb _ (2 ^ n) (h (2 * i) (omega arith))) (lt-ltb _ (2 ^ n) (h (2 * i + 1) (omega arith))))
+    (low-rows n words (suc i) k (λ j b. h j (omega arith)))
+
+pub accepted-low : (d : Dimensions) (left right : List ℕ) → outcome (tableChecks d left right) ≡ Taken → allRows (lowRow (d .n)) (rowsOf d left right) ≡ true
+accepted-low d left right e =
+    let a = accepted d left right e in
+    all-rows-append (lowRow (d .n)) (rowsFrom left 0 (d .left)) (rowsFrom right 0 (d .right))
+    (low-rows (d .n) left 0 (d .left) (λ j b. a .left-words j (omega arith)))
+    (low-rows (d .n) right 0 (d .right) (λ j b. a .right-words j (omega arith)))

@@ -1,0 +1,147 @@
+-- What holds where each rule of the giant step applies. The tests of `rule` are gone through in its order.
+-- Assumes nothing.
+use mathlib.Core.Path.{_≡_, refl, sym, _∙_}
+use mathlib.Core.Bool.{Bool, true, false, not, _&&_, true≢false}
+use mathlib.Core.List.{List, [], _∷_}
+use Prim.Native.Nat.{ℕ, zero, suc, _<_}
+use native.Mathlib.Nat.{zero-lt-suc}
+use native.Mathlib.Omega.{arith}
+use borrow.Author.Tests.{eqb-true, eq-eqb}
+use Rattle.words.specs.Sets.{bit, count}
+use Rattle.words.proofs.Truth.{and-l, and-r, and-i, on, not-t, not-f}
+use Rattle.words.proofs.Upto.{count-some, lowest-hit}
+use Rattle.tables.specs.declared.Row.{Row}
+use Rattle.tables.specs.Rows.{padding, satisfied, free, holds, freeIn}
+use Rattle.tables.proofs.Rows.{unsatisfied-padding, unsatisfied-literals}
+use Rattle.solver.specs.declared.Rule.{Rule}
+use Rattle.solver.specs.declared.Rule.the-variants.{AllSatisfied, Conflict, Unit, Choice}
+use Rattle.solver.specs.Rules.{allRows, anyRow, left, unitOr, choice, rule}
+use Rattle.solver.specs.Truth.{occurs}
+use Rattle.solver.proofs.RowLaws.{In, in-head, in-tail, any-row-e, any-row-i, not-all-rows, no-row}
+
+-- ---- what holds
+
+-- an unsatisfied row without a free literal
+pub record Conflicts (n : ℕ) (rows : List Row) (t f : ℕ) : Type 0 where
+  pub row : Row
+  pub of-rows : In row rows
+  pub no-literal : left 0 n t f row ≡ true
+
+-- an unsatisfied row whose one free literal has this variable and this sign
+pub record Forces (n : ℕ) (rows : List Row) (t f v : ℕ) (positive : Bool) : Type 0 where
+  pub row : Row
+  pub of-rows : In row rows
+  pub one-literal : left 1 n t f row ≡ true
+  pub low : v < n
+  pub free-there : freeIn row t f v ≡ true
+  pub sign : positive ≡ bit (row .positive) v
+
+-- an unsatisfied row in which the variable is free
+pub record Chooses (n : ℕ) (rows : List Row) (t f v : ℕ) : Type 0 where
+  pub row : Row
+  pub of-rows : In row rows
+  pub unsatisfied : satisfied n row t f ≡ false
+  pub low : v < n
+  pub free-there : freeIn row t f v ≡ true
+
+abbrev pub Ruled : ℕ → List Row → ℕ → ℕ → Rule → Type 0
+Ruled n rows t f AllSatisfied = allRows (λ r. satisfied n r t f) rows ≡ true
+Ruled n rows t f Conflict = Conflicts n rows t f
+Ruled n rows t f (Unit v positive) = Forces n rows t f v positive
+Ruled n rows t f (Choice v) = Chooses n rows t f v
+
+-- a variable that a rule may set: below n, free, and in a row that is no padding
+pub record Settable (n : ℕ) (rows : List Row) (t f v : ℕ) : Type 0 where
+  pub low : v < n
+  pub is-free : free t f v ≡ true
+  pub occurring : occurs n rows v ≡ true
+
+-- ---- rows with k free literals
+
+module _ (k n t f : ℕ) (r : Row) (e : left k n t f r ≡ true) where
+  pub left-unsatisfied : satisfied n r t f ≡ false
+  unfolding left
+  left-unsatisfied = not-f _ (and-l (not (satisfied n r t f)) _ e)
+
+  pub left-count : count (λ i. freeIn r t f i) n ≡ k
+  unfolding left
+  left-count = sym (unsatisfied-literals n r t f left-unsatisfied) ∙ eqb-true _ k (and-r (not (satisfied n r t f)) _ e)
+
+left-some : (n t f : ℕ) (r : Row) → satisfied n r t f ≡ false → left 0 n t f r ≡ false → 0 < count (λ i. freeIn r t f i) n
+unfolding left
+left-some n t f r e h = go (count (λ i. freeIn r t f i) n) refl
+  where
+    go : (c : ℕ) → count (λ i. freeIn r t f i) n ≡ c → 0 < c
+    go zero q = absurd (true≢false (sym (and-i (not-t e) (eq-eqb _ 0 (unsatisfied-literals n r t f e ∙ q))) ∙ h))
+    go (suc c) q = zero-lt-suc c
+
+-- ---- the rule that applies
+
+module _ (n : ℕ) (rows : List Row) (t f : ℕ) where
+  -- rule 3, looked for in some of the rows
+  ruled-unit : (rs : List Row) → ((x : Row) → In x rs → In x rows) → (other : Rule) → Ruled n rows t f other → Ruled n rows t f (unitOr n t f rs other)
+  unfolding unitOr
+  ruled-unit [] inc other h = h
+  ruled-unit (r ∷ rs) inc other h =
+      on (left 1 n t f r)
+      (λ e. rw (e, unitOr)
+      (let c = left-count 1 n t f r e in
+      let i = count-some (λ i. freeIn r t f i) n (omega arith) in
+      let v = lowest-hit (λ i. freeIn r t f i) n (i .0) (i .1) (i .2) in
+      record { row = r; of-rows = inc r (in-head r rs); one-literal = e; low = v .0; free-there = v .1; sign = refl }))
+      (λ e. rw (e, unitOr) (ruled-unit rs (λ x m. inc x (in-tail x r rs m)) other h))
+
+  module _ (e₁ : allRows (λ r. satisfied n r t f) rows ≡ false) (e₂ : anyRow (left 0 n t f) rows ≡ false) where
+    -- some row is not satisfied and none is in conflict, so some variable can be chosen
+    pub choice-hit : (choice n rows t f < n) × (anyRow (λ r. not (satisfied n r t f) && freeIn r t f (choice n rows t f)) rows ≡ true)
+    unfolding choice
+    choice-hit =
+        let x = not-all-rows (λ r. satisfied n r t f) rows e₁ in
+        let r : Row = x .0 in
+        let c : left 0 n t f r ≡ false = not-f _ (x .1 (λ r. not (left 0 n t f r)) (no-row (left 0 n t f) rows e₂)) in
+        let i = count-some (λ i. freeIn r t f i) n (left-some n t f r (x .2) c) in
+        lowest-hit (λ i. anyRow (λ r. not (satisfied n r t f) && freeIn r t f i) rows) n (i .0) (i .1)
+        (any-row-i (λ r. not (satisfied n r t f) && freeIn r t f (i .0)) rows r (x .1) (and-i (not-t (x .2)) (i .2)))
+
+    ruled-choice : Ruled n rows t f (Choice (choice n rows t f))
+    ruled-choice =
+        let v = choice-hit in
+        let y = any-row-e (λ r. not (satisfied n r t f) && freeIn r t f (choice n rows t f)) rows (v .1) in
+        record {
+          row = y .0;
+          of-rows = y .1;
+          unsatisfied = not-f _ (and-l (not (satisfied n (y .0) t f)) _ (y .2));
+          low = v .0;
+          free-there = and-r (not (satisfied n (y .0) t f)) _ (y .2);
+        }
+
+  pub ruled : Ruled n rows t f (rule n rows t f)
+  unfolding rule
+  ruled =
+      on (allRows (λ r. satisfied n r t f) rows)
+      (λ e. rw (e, rule) e)
+      (λ e₁. on (anyRow (left 0 n t f) rows)
+      (λ e₂. rw (e₁, rule) (rw e₂ (let x = any-row-e (left 0 n t f) rows e₂ in record { row = x .0; of-rows = x .1; no-literal = x .2 })))
+      (λ e₂. rw (e₁, rule) (rw e₂ (ruled-unit rows (λ x m. m) (Choice (choice n rows t f)) (ruled-choice e₁ e₂)))))
+
+  -- ---- a rule's variable
+
+  settable : (v : ℕ) (r : Row) → In r rows → satisfied n r t f ≡ false → v < n → freeIn r t f v ≡ true → Settable n rows t f v
+  unfolding occurs
+  settable v r m e b h = record {
+    low = b;
+    is-free = and-l (free t f v) _ h;
+    occurring = any-row-i (λ r. not (padding n r) && holds r v) rows r m (and-i (not-t (unsatisfied-padding n r t f e)) (and-r (free t f v) _ h));
+  }
+
+  pub unit-settable : {v : ℕ} {positive : Bool} → Forces n rows t f v positive → Settable n rows t f v
+  unit-settable {v = v} w = settable v (w .row) (w .of-rows) (left-unsatisfied 1 n t f (w .row) (w .one-literal)) (w .low) (w .free-there)
+
+  pub choice-settable : {v : ℕ} → Chooses n rows t f v → Settable n rows t f v
+  choice-settable {v = v} w = settable v (w .row) (w .of-rows) (w .unsatisfied) (w .low) (w .free-there)
+
+  pub rule-unit : (v : ℕ) (positive : Bool) → rule n rows t f ≡ Unit v positive → Settable n rows t f v
+  rule-unit v positive e = unit-settable (rw e at ruled)
+
+  pub rule-choice : (v : ℕ) → rule n rows t f ≡ Choice v → Settable n rows t f v
+  rule-choice v e = choice-settable (rw e at ruled)

@@ -1,0 +1,13 @@
+-- `solver::Run::fresh` meets its contract: the definition computes.
+-- Assumes nothing.
+use mathlib.Core.Path.{refl}
+use Rattle.solver.specs.State.{runOf}
+use Rattle.solver.proofs.Run.fresh.Statement.{statement}
+use Rattle.solver.proofs.Run.fresh.Tie as tie
+
+returns : tie.Need-returns
+unfolding runOf
+returns c = refl
+
+pub fresh-spec : {M : Type 1} → statement M
+fresh-spec = tie.close (tie.spec returns)

@@ -1,0 +1,85 @@
+-- The budgeted run against the states after k steps: what it counts and where it ends, and that a closed state stays. By induction on the steps.
+-- Assumes nothing.
+use mathlib.Core.Path.{_≡_, refl, ap, _∙_}
+use mathlib.Core.List.{List}
+use Prim.Native.Nat.{ℕ, zero, suc, _≤_, _<_, zero-le, suc-le-suc}
+use native.Mathlib.Nat.{not-suc-le-zero, le-of-suc-le-suc}
+use native.Mathlib.Omega.{arith}
+use Rattle.tables.specs.declared.Row.{Row}
+use Rattle.solver.specs.declared.Standing.{Standing}
+use Rattle.solver.specs.declared.Standing.the-variants.{Open, Satisfied, Refuted}
+use Rattle.solver.specs.State.{State}
+use Rattle.solver.specs.Rules.{rule}
+use Rattle.solver.specs.Step.{follow, ifOpen, step, after}
+use Rattle.solver.specs.Answers.{Ran, runFrom}
+
+module _ (n : ℕ) (rows : List Row) where
+  -- ---- the states after k steps
+
+  -- the last step may be told apart instead of the first
+  pub after-suc : (k : ℕ) (s : State) → after n rows (suc k) s ≡ step n rows (after n rows k s)
+  unfolding after
+  after-suc zero s = refl
+  after-suc (suc k) s = after-suc k (step n rows s)
+
+  pub step-closed : (s : State) → (s .standing ≡ Open → ⊥) → step n rows s ≡ s
+  unfolding step
+  step-closed s h = go (s .standing) h
+    where
+      go : (st : Standing) → (st ≡ Open → ⊥) → ifOpen st (follow s (rule n rows (s .t) (s .f))) s ≡ s
+      go Open h = absurd (h refl)
+      go Satisfied h = refl
+      go Refuted h = refl
+
+  -- a closed state stays as it is
+  pub after-closed : (k : ℕ) (s : State) → (s .standing ≡ Open → ⊥) → after n rows k s ≡ s
+  unfolding after
+  after-closed zero s h = refl
+  after-closed (suc k) s h = ap (after n rows k) (step-closed s h) ∙ after-closed k s h
+
+  -- ---- the run
+
+  -- what a run from s with this budget is
+  pub record RunOf (budget : ℕ) (s : State) (r : Ran) : Type 0 where
+    pub most : r .steps ≤ budget
+    pub final-after : r .final ≡ after n rows (r .steps) s
+    pub open-before : (k : ℕ) → k < r .steps → after n rows k s .standing ≡ Open
+    pub open-whole : r .final .standing ≡ Open → r .steps ≡ budget
+
+  -- a closed state is the end
+  ended : (budget : ℕ) (s : State) → (s .standing ≡ Open → ⊥) → RunOf budget s (record { steps = 0; final = s })
+  unfolding after
+  ended budget s h = record {
+    most = zero-le;
+    final-after = refl;
+    open-before = λ k b. absurd (not-suc-le-zero b);
+    open-whole = λ e. absurd (h e);
+  }
+
+  -- one step more from an open state
+  goes-on : (budget : ℕ) (s : State) → s .standing ≡ Open → (r : Ran) → RunOf budget (step n rows s) r → RunOf (suc budget) s (record { steps = suc (r .steps); final = r .final })
+  unfolding after
+  goes-on budget s e r w = record {
+    most = suc-le-suc (w .most);
+    final-after = w .final-after;
+    open-before = before;
+    open-whole = λ h. ap suc (w .open-whole h);
+  }
+    where
+      before : (k : ℕ) → k < suc (r .steps) → after n rows k s .standing ≡ Open
+      before zero b = e
+      before (suc k) b = w .open-before k (le-of-suc-le-suc b)
+
+  pub run-of : (budget : ℕ) (s : State) → RunOf budget s (runFrom n rows budget s)
+  unfolding runFrom after
+  run-of zero s = record { most = zero-le; final-after = refl; open-before = λ k b. absurd (not-suc-le-zero b); open-whole = λ e. refl }
+  run-of (suc budget) s = go (runFrom n rows budget (step n rows s)) (run-of budget (step n rows s)) (s .standing) refl
+    where
+      go : (r : Ran) → RunOf budget (step n rows s) r → (st : Standing) → s .standing ≡ st → RunOf (suc budget) s (elim st [
+        | Open ↦ record { steps = suc (r .steps); final = r .final }
+        | Satisfied ↦ record { steps = 0; final = s }
+        | Refuted ↦ record { steps = 0; final = s }
+      ])
+      go r w Open e = goes-on budget s e r w
+      go r w Satisfied e = ended (suc budget) s (λ h. let z : _≡_ {A = ℕ} 0 1 = cc in omega arith)
+      go r w Refuted e = ended (suc budget) s (λ h. let z : _≡_ {A = ℕ} 0 1 = cc in omega arith)

@@ -1,0 +1,85 @@
+-- A satisfied run's model makes every row true: the standing becomes satisfied by rule 1 alone, and a variable that satisfies a row makes it true under T.
+-- Assumes nothing.
+use mathlib.Core.Path.{_≡_, refl}
+use mathlib.Core.Bool.{true, false, not, _&&_, _||_}
+use mathlib.Core.List.{List, [], _∷_}
+use Prim.Native.Nat.{ℕ, _≤_}
+use native.Mathlib.Omega.{arith}
+use Rattle.words.specs.Booleans.{imp}
+use Rattle.words.specs.Sets.{bit, any}
+use Rattle.words.proofs.Truth.{mp, and-i, taut4}
+use Rattle.words.proofs.Upto.{any-mono}
+use Rattle.tables.specs.declared.Row.{Row}
+use Rattle.tables.specs.Rows.{satisfied}
+use Rattle.tables.proofs.Rows.{satisfies, satisfied-any}
+use Rattle.solver.specs.declared.Level.{Level}
+use Rattle.solver.specs.declared.Rule.{Rule}
+use Rattle.solver.specs.declared.Rule.the-variants.{AllSatisfied, Conflict, Unit, Choice}
+use Rattle.solver.specs.declared.Standing.{Standing}
+use Rattle.solver.specs.declared.Standing.the-variants.{Open, Satisfied, Refuted}
+use Rattle.solver.specs.Rules.{allRows, rule}
+use Rattle.solver.specs.State.{State, fresh}
+use Rattle.solver.specs.Step.{back, follow, ifOpen, step, after}
+use Rattle.solver.specs.Truth.{rowTrue, allTrue}
+use Rattle.solver.proofs.RowLaws.{all-rows-mono}
+use Rattle.solver.proofs.RuleLaws.{Ruled, ruled}
+use Rattle.solver.proofs.WellFormedLaws.{Sets}
+use Rattle.solver.proofs.StepLaws.{after-keeps, after-formed, fresh-formed}
+use Rattle.solver.proofs.LowRows.{lowRow}
+use Rattle.solver.proofs.TruthLaws.{literal, row-true}
+
+module _ (n : ℕ) (rows : List Row) where
+  -- if the standing is satisfied, all rows are
+  abbrev Met : State → Type 0
+  Met s = s .standing ≡ Satisfied → allRows (λ r. satisfied n r (s .t) (s .f)) rows ≡ true
+
+  abbrev Unmet : Standing → Type 0
+  Unmet st = st ≡ Satisfied → ⊥
+
+  unmet-open : Unmet Open
+  unmet-open e = let z : _≡_ {A = ℕ} 0 1 = cc in omega arith
+
+  unmet-refuted : Unmet Refuted
+  unmet-refuted e = let z : _≡_ {A = ℕ} 0 1 = cc in omega arith
+
+  back-unmet : (s : State) (ls : List Level) → Unmet (back s ls .standing)
+  back-unmet s [] = unmet-refuted
+  back-unmet s (l ∷ ls) = unmet-open
+
+  follow-met : (s : State) (k : Rule) → Ruled n rows (s .t) (s .f) k → Met (follow s k)
+  follow-met s AllSatisfied w e = w
+  follow-met s Conflict w e = absurd (back-unmet s (s .levels) e)
+  follow-met s (Unit v true) w e = absurd (unmet-open e)
+  follow-met s (Unit v false) w e = absurd (unmet-open e)
+  follow-met s (Choice v) w e = absurd (unmet-open e)
+
+  step-met : (s : State) → Met s → Met (step n rows s)
+  unfolding step
+  step-met s m = go (s .standing)
+    where
+      go : (st : Standing) → Met (ifOpen st (follow s (rule n rows (s .t) (s .f))) s)
+      go Open = follow-met s (rule n rows (s .t) (s .f)) (ruled n rows (s .t) (s .f))
+      go Satisfied = m
+      go Refuted = m
+
+  -- a satisfied run has satisfied every row
+  pub after-met : (k : ℕ) → after n rows k fresh .standing ≡ Satisfied → allRows (λ r. satisfied n r (after n rows k fresh .t) (after n rows k fresh .f)) rows ≡ true
+  after-met k = after-keeps n rows Met step-met k fresh (λ e. absurd (unmet-open e))
+
+-- a satisfied row is true where T is true and the rest false
+satisfied-true : (n t f : ℕ) → Sets n t f → (r : Row) → satisfied n r t f ≡ true → any (λ i. literal (bit t) r i) n ≡ true
+satisfied-true n t f d r e =
+    any-mono (λ i. satisfies r t f i) (λ i. literal (bit t) r i) n
+    (λ i b h. mp _ _
+    (taut4 (λ p q t f. imp ((p && q || p && t || q && f) && not (t && f)) ((p && t) || (q && not t))) refl (bit (r .positive) i) (bit (r .negative) i) (bit t i) (bit f i))
+    (and-i h (d .apart i b)))
+    (rw (satisfied-any n r t f) at e)
+
+pub satisfied-model : (n : ℕ) (rows : List Row) → n ≤ 32 → allRows (lowRow n) rows ≡ true → (k : ℕ)
+    → after n rows k fresh .standing ≡ Satisfied → allTrue (bit (after n rows k fresh .t)) rows ≡ true
+unfolding allTrue
+satisfied-model n rows few low k e =
+    let s : State = after n rows k fresh in
+    all-rows-mono (λ r. satisfied n r (s .t) (s .f)) (λ r. rowTrue (bit (s .t)) r) rows
+    (λ r m h. rw (row-true n few (bit (s .t)) r (m (lowRow n) low)) (satisfied-true n (s .t) (s .f) (after-formed n rows k fresh (fresh-formed n) .own) r h))
+    (after-met n rows k e)

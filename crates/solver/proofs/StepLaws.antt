@@ -1,0 +1,127 @@
+-- A step keeps a state well-formed, and so does any number of steps; at depth n no variable is chosen. By cases on the rule.
+-- Assumes nothing.
+use mathlib.Core.Path.{_≡_, refl}
+use mathlib.Core.Bool.{Bool, true, false}
+use mathlib.Core.List.{List, [], _∷_}
+use Prim.Native.Nat.{ℕ, zero, suc, _≤_, _<_, zero-le}
+use native.Mathlib.Omega.{arith}
+use lib.ListN.{length}
+use lib.Pow.{pow-pos}
+use Rattle.words.specs.Sets.{put}
+use Rattle.words.proofs.Bits.{bit-zero}
+use Rattle.tables.specs.declared.Row.{Row}
+use Rattle.solver.specs.declared.Level.{Level}
+use Rattle.solver.specs.declared.Rule.{Rule}
+use Rattle.solver.specs.declared.Rule.the-variants.{AllSatisfied, Conflict, Unit, Choice}
+use Rattle.solver.specs.declared.Standing.{Standing}
+use Rattle.solver.specs.declared.Standing.the-variants.{Open, Satisfied, Refuted}
+use Rattle.solver.specs.Rules.{rule}
+use Rattle.solver.specs.State.{State, fresh}
+use Rattle.solver.specs.Step.{back, assign, follow, ifOpen, step, after}
+use Rattle.solver.specs.WellFormed.{chain, wellFormedState}
+use Rattle.solver.proofs.RuleLaws.{Ruled, ruled, Settable, unit-settable, choice-settable, rule-choice}
+use Rattle.solver.proofs.WellFormedLaws.{Sets, Formed, formed-e, formed-i, chain-head, chain-tail, chain-cons}
+use Rattle.solver.proofs.SettingLaws.{put-keeps, put-has, sets-t, sets-f, free-less-t, chain-mono, depth-free}
+
+-- what each step keeps, any number of steps keeps
+pub after-keeps : (n : ℕ) (rows : List Row) (P : State → Type 0) → ((s : State) → P s → P (step n rows s)) → (k : ℕ) (s : State) → P s → P (after n rows k s)
+unfolding after
+after-keeps n rows P h zero s p = p
+after-keeps n rows P h (suc k) s p = after-keeps n rows P h k (step n rows s) (h s p)
+
+pub fresh-formed : (n : ℕ) → Formed n fresh
+unfolding chain
+fresh-formed n = record {
+  own = record { low-t = pow-pos n; low-f = pow-pos n; apart = λ i b. rw bit-zero };
+  few = zero-le;
+  linked = refl;
+}
+
+module _ (n : ℕ) (rows : List Row) where
+  -- a free variable, so fewer than n levels
+  pub settable-depth : (s : State) (v : ℕ) → Formed n s → Settable n rows (s .t) (s .f) v → length (s .levels) < n
+  settable-depth s v o w =
+      omega (
+        arith,
+        depth-free n (s .t) (s .f) (s .levels) (o .linked),
+        free-less-t n (s .t) (s .f) v (w .low) (w .is-free) (λ i. true) refl,
+      )
+
+  -- ---- rules
+
+  back-formed : (s : State) (ls : List Level) → Sets n (s .t) (s .f) → length ls ≤ n → chain n (s .t) (s .f) ls ≡ true → Formed n (back s ls)
+  back-formed s [] o k c = record { own = o; few = k; linked = c }
+  back-formed s (l ∷ ls) o k c =
+      let w = chain-head n l (s .t) (s .f) ls c in record {
+        own = sets-f n (l .t) (l .f) (l .chosen) (w .low) (w .was-free) (w .own);
+        few = omega arith;
+        linked = chain-mono n (l .t) (l .f) (l .t) (put (l .f) (l .chosen)) ls (λ i b e. e) (λ i b. put-keeps (l .f) (l .chosen) i) (chain-tail n l (s .t) (s .f) ls c);
+      }
+
+  assign-formed : (s : State) (v : ℕ) (positive : Bool) → Settable n rows (s .t) (s .f) v → Formed n s → Formed n (assign s v positive)
+  assign-formed s v true w o = record {
+    own = sets-t n (s .t) (s .f) v (w .low) (w .is-free) (o .own);
+    few = o .few;
+    linked = chain-mono n (s .t) (s .f) (put (s .t) v) (s .f) (s .levels) (λ i b. put-keeps (s .t) v i) (λ i b e. e) (o .linked);
+  }
+  assign-formed s v false w o = record {
+    own = sets-f n (s .t) (s .f) v (w .low) (w .is-free) (o .own);
+    few = o .few;
+    linked = chain-mono n (s .t) (s .f) (s .t) (put (s .f) v) (s .levels) (λ i b e. e) (λ i b. put-keeps (s .f) v i) (o .linked);
+  }
+
+  choice-formed : (s : State) (v : ℕ) → Settable n rows (s .t) (s .f) v → Formed n s → Formed n (follow s (Choice v))
+  choice-formed s v w o = record {
+    own = sets-t n (s .t) (s .f) v (w .low) (w .is-free) (o .own);
+    few = settable-depth s v o w;
+    linked = chain-cons n (record { t = s .t; f = s .f; chosen = v }) (put (s .t) v) (s .f) (s .levels)
+        (record {
+          own = o .own;
+          low = w .low;
+          was-free = w .is-free;
+          in-t = λ i b. put-keeps (s .t) v i;
+          in-f = λ i b e. e;
+          now-true = put-has (s .t) v;
+        })
+        (o .linked);
+  }
+
+  pub follow-formed : (s : State) (k : Rule) → Ruled n rows (s .t) (s .f) k → Formed n s → Formed n (follow s k)
+  follow-formed s AllSatisfied w o = record { own = o .own; few = o .few; linked = o .linked }
+  follow-formed s Conflict w o = back-formed s (s .levels) (o .own) (o .few) (o .linked)
+  follow-formed s (Unit v positive) w o = assign-formed s v positive (unit-settable n rows (s .t) (s .f) w) o
+  follow-formed s (Choice v) w o = choice-formed s v (choice-settable n rows (s .t) (s .f) w) o
+
+  -- ---- steps
+
+  pub step-formed : (s : State) → Formed n s → Formed n (step n rows s)
+  unfolding step
+  step-formed s o = go (s .standing)
+    where
+      go : (st : Standing) → Formed n (ifOpen st (follow s (rule n rows (s .t) (s .f))) s)
+      go Open = follow-formed s (rule n rows (s .t) (s .f)) (ruled n rows (s .t) (s .f)) o
+      go Satisfied = o
+      go Refuted = o
+
+  -- a step keeps a state well-formed
+  pub step-well-formed : (s : State) → wellFormedState n s ≡ true → wellFormedState n (step n rows s) ≡ true
+  step-well-formed s e = formed-i n (step n rows s) (step-formed s (formed-e n s e))
+
+  -- and so does any number of steps
+  pub after-formed : (k : ℕ) (s : State) → Formed n s → Formed n (after n rows k s)
+  after-formed = after-keeps n rows (Formed n) step-formed
+
+  pub after-well-formed : (k : ℕ) (s : State) → wellFormedState n s ≡ true → wellFormedState n (after n rows k s) ≡ true
+  after-well-formed k s e = formed-i n (after n rows k s) (after-formed k s (formed-e n s e))
+
+  -- at depth n no variable is chosen
+  pub choice-depth : (s : State) (v : ℕ) → wellFormedState n s ≡ true → rule n rows (s .t) (s .f) ≡ Choice v → length (s .levels) < n
+  choice-depth s v e c = settable-depth s v (formed-e n s e) (rule-choice n rows (s .t) (s .f) v c)
+
+-- ---- from fresh
+
+pub fresh-well-formed : (n : ℕ) → wellFormedState n fresh ≡ true
+fresh-well-formed n = formed-i n fresh (fresh-formed n)
+
+pub run-well-formed : (n : ℕ) (rows : List Row) (k : ℕ) → wellFormedState n (after n rows k fresh) ≡ true
+run-well-formed n rows k = after-well-formed n rows k fresh (fresh-well-formed n)

@@ -1,0 +1,35 @@
+-- `solver::check_all` meets its contract: the checks of the tables come first.
+-- Assumes nothing.
+use denote.Ref.{now}
+use mathlib.Core.Path.{sym, _∙_}
+use Rattle.solver.proofs.Entries.{refuse-tables, state-decides}
+use borrow.Author.Needs.{needs}
+use Rattle.solver.proofs.check_all.Statement.{statement}
+use Rattle.solver.proofs.check_all.Tie as tie
+
+accept-requires : tie.Need-accept-requires
+accept-requires c κs = search needs
+
+enum-known-checked : tie.Need-enum-known-checked
+enum-known-checked c = search needs
+
+enum-told : tie.Need-enum-told
+enum-told c = search needs
+
+check-state-requires : tie.Need-check-state-requires
+check-state-requires c κs = search needs
+
+returns : tie.Need-returns
+returns c =
+    let start = c .before .before .before .before .before .before in
+    refuse-tables (start .args .d) (now (start .args .left)) (now (start .args .right)) (start .args .run) (c .before .checked .given .0 .0) (sym (c .before .checked .given .1) ∙ c .before .before .before .accept .ensures)
+
+returns-2 : tie.Need-returns-2
+returns-2 c =
+    let start = c .before .before .before .before .before .before in
+    c .check-state .ensures ∙ state-decides (start .args .d) (now (start .args .left)) (now (start .args .right)) (start .args .run) (sym (c .before .enum-told .given .1) ∙ c .before .before .before .accept .ensures)
+
+pub check-all-spec : {M : Type 1} → statement M
+check-all-spec =
+    tie.close
+    (tie.spec accept-requires enum-known-checked enum-told check-state-requires returns returns-2)

@@ -1,0 +1,100 @@
+-- `solver::rules::giant_step` meets its contract: the function of the rule that applies gives the run of the next state, and a closed run stays.
+-- Assumes nothing.
+use lib.ListN.{length-map}
+use Rattle.solver.proofs.HeldStep.{open-step, satisfied-stays, refuted-stays, unit-low, choice-low, choice-room}
+use borrow.Author.Needs.{needs}
+use Rattle.solver.proofs.rules.giant_step.Statement.{statement}
+use Rattle.solver.proofs.rules.giant_step.Tie as tie
+
+enum-told : tie.Need-enum-told
+enum-told c = search needs
+
+rule-requires : tie.Need-rule-requires
+rule-requires c κs = search needs
+
+enum-told-2 : tie.Need-enum-told-2
+enum-told-2 c = search needs
+
+satisfy-requires : tie.Need-satisfy-requires
+satisfy-requires c κs = search needs
+
+enum-told-3 : tie.Need-enum-told-3
+enum-told-3 c = search needs
+
+back-requires : tie.Need-back-requires
+back-requires c κs = search needs
+
+enum-known-rule : tie.Need-enum-known-rule
+enum-known-rule c = search needs
+
+assign-requires : tie.Need-assign-requires
+assign-requires c κs =
+    let start = c .before .before .before .before .before .before .before .before in
+    (start .pre .1 .0, unit-low _ _ (start .args .run) (start .pre .1 .1) (start .pre .1 .0) _ (c .before .before .before .rule .ensures) _ _ (c .before .rule2 .given .1))
+
+enum-known-rule-2 : tie.Need-enum-known-rule-2
+enum-known-rule-2 c = search needs
+
+choose-requires : tie.Need-choose-requires
+choose-requires c κs =
+    let start = c .before .before .before .before .before .before .before .before in
+    (start .pre .1 .0, (choice-low _ _ (start .args .run) (start .pre .1 .1) (start .pre .1 .0) _ (c .before .before .before .rule .ensures) _ (c .before .rule3 .given .1), choice-room _ _ (start .args .run) (start .pre .1 .1) (start .pre .1 .0) _ (c .before .before .before .rule .ensures) _ (c .before .rule3 .given .1)))
+
+enum-told-4 : tie.Need-enum-told-4
+enum-told-4 c = search needs
+
+enum-told-5 : tie.Need-enum-told-5
+enum-told-5 c = search needs
+
+returns : tie.Need-returns
+returns c =
+    let start = c .before .before .before .before .before .before .before .before in
+    open-step _ _ (start .args .run) (start .pre .1 .1) (c .before .before .before .before .enum-told .given .1) _ (c .before .before .before .rule .ensures) _ (c .before .enum-told2 .given .1) _ (c .satisfy .ensures)
+
+returns-2 : tie.Need-returns-2
+returns-2 c =
+    let start = c .before .before .before .before .before .before .before .before in
+    open-step _ _ (start .args .run) (start .pre .1 .1) (c .before .before .before .before .enum-told .given .1) _ (c .before .before .before .rule .ensures) _ (c .before .enum-told3 .given .1) _ (c .back .ensures)
+
+returns-3 : tie.Need-returns-3
+returns-3 c =
+    let start = c .before .before .before .before .before .before .before .before .before in
+    open-step _ _ (start .args .run) (start .pre .1 .1) (c .before .before .before .before .before .enum-told .given .1) _ (c .before .before .before .before .rule .ensures) _ (c .before .before .rule2 .given .1) _ (c .assign .ensures)
+
+returns-4 : tie.Need-returns-4
+returns-4 c =
+    let start = c .before .before .before .before .before .before .before .before .before in
+    open-step _ _ (start .args .run) (start .pre .1 .1) (c .before .before .before .before .before .enum-told .given .1) _ (c .before .before .before .before .rule .ensures) _ (c .before .before .rule3 .given .1) _ (c .choose .ensures)
+
+returns-5 : tie.Need-returns-5
+returns-5 c =
+    let start = c .before .before .before .before in
+    satisfied-stays _ _ (start .args .run) (start .pre .1 .1) (start .pre .1 .0) (simp length-map at (start .good .1 .1 .1 .0 .1 .1 .1 .1 .1 .1 .1 .0 .1 .0 .1)) (c .enum-told4 .given .1)
+
+returns-6 : tie.Need-returns-6
+returns-6 c =
+    let start = c .before .before .before .before in
+    refuted-stays _ _ (start .args .run) (start .pre .1 .1) (start .pre .1 .0) (simp length-map at (start .good .1 .1 .1 .0 .1 .1 .1 .1 .1 .1 .1 .0 .1 .0 .1)) (c .enum-told5 .given .1)
+
+pub giant-step-spec : {M : Type 1} → statement M
+giant-step-spec =
+    tie.close
+    (tie.spec
+    enum-told
+    rule-requires
+    enum-told-2
+    satisfy-requires
+    enum-told-3
+    back-requires
+    enum-known-rule
+    assign-requires
+    enum-known-rule-2
+    choose-requires
+    enum-told-4
+    enum-told-5
+    returns
+    returns-2
+    returns-3
+    returns-4
+    returns-5
+    returns-6)

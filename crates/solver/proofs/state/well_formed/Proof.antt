@@ -1,0 +1,57 @@
+-- `solver::state::well_formed` meets its contract: each test that fails makes the definition false, and the unused levels decide where all hold.
+-- Assumes nothing.
+use mathlib.Core.Path.{sym, _∙_}
+use borrow.Author.Needs.{needs}
+use borrow.Author.Tests.{not-true, not-false}
+use Rattle.solver.proofs.StateTests.{too-few, too-many, not-sets, too-deep, not-linked, rest-decides}
+use Rattle.solver.proofs.state.well_formed.Statement.{statement}
+use Rattle.solver.proofs.state.well_formed.Tie as tie
+
+cast-n : tie.Need-cast-n
+cast-n c = search needs
+
+returns : tie.Need-returns
+returns c = too-few _ (c .if1 .taken)
+
+returns-2 : tie.Need-returns-2
+returns-2 c = too-many _ (c .before .if1 .left) (c .if2 .taken)
+
+sets-requires : tie.Need-sets-requires
+sets-requires c κs = search needs
+
+returns-3 : tie.Need-returns-3
+returns-3 c = not-sets _ (c .before .before .before .if1 .left) (c .before .before .if2 .left) (sym (c .before .sets .ensures) ∙ not-true _ (c .if3 .taken))
+
+cast-if4 : tie.Need-cast-if4
+cast-if4 c = search needs
+
+returns-4 : tie.Need-returns-4
+returns-4 c = too-deep _ (c .before .before .before .before .before .if1 .left) (c .before .before .before .before .if2 .left) (sym (c .before .before .before .sets .ensures) ∙ not-false _ (c .before .before .if3 .left)) (c .if4 .taken)
+
+chain-requires : tie.Need-chain-requires
+chain-requires c κs = search needs
+
+returns-5 : tie.Need-returns-5
+returns-5 c = not-linked _ (c .before .before .before .before .before .before .before .if1 .left) (c .before .before .before .before .before .before .if2 .left) (sym (c .before .before .before .before .before .sets .ensures) ∙ not-false _ (c .before .before .before .before .if3 .left)) (c .before .before .if4 .left) (sym (c .before .chain .ensures) ∙ not-true _ (c .if5 .taken))
+
+unused-requires : tie.Need-unused-requires
+unused-requires c κs = search needs
+
+returns-6 : tie.Need-returns-6
+returns-6 c = c .unused .ensures ∙ rest-decides _ (c .before .before .before .before .before .before .before .before .if1 .left) (c .before .before .before .before .before .before .before .if2 .left) (sym (c .before .before .before .before .before .before .sets .ensures) ∙ not-false _ (c .before .before .before .before .before .if3 .left)) (c .before .before .before .if4 .left) (sym (c .before .before .chain .ensures) ∙ not-false _ (c .before .if5 .left))
+
+pub well-formed-spec : {M : Type 1} → statement M
+well-formed-spec =
+    tie.close
+    (tie.spec
+    cast-n
+    returns
+    returns-2
+    sets-requires
+    returns-3
+    cast-if4
+    returns-4
+    chain-requires
+    returns-5
+    unused-requires
+    returns-6)

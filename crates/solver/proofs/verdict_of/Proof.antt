@@ -1,0 +1,30 @@
+-- `solver::verdict_of` meets its contract: by the standing.
+-- Assumes nothing.
+use mathlib.Core.Path.{sym, ap}
+use Rattle.solver.specs.declared.Standing.{Standing}
+use Rattle.solver.specs.Answers.{verdictOf}
+use borrow.Author.Needs.{needs}
+use Rattle.solver.proofs.verdict_of.Statement.{statement}
+use Rattle.solver.proofs.verdict_of.Tie as tie
+
+enum-told : tie.Need-enum-told
+enum-told c = search needs
+
+enum-told-2 : tie.Need-enum-told-2
+enum-told-2 c = search needs
+
+enum-told-3 : tie.Need-enum-told-3
+enum-told-3 c = search needs
+
+returns : tie.Need-returns
+returns c = search needs
+
+returns-2 : tie.Need-returns-2
+returns-2 c = sym (ap (λ (st : Standing). verdictOf st (c .before .before .args .run .t)) (c .enum-told2 .given .1))
+
+returns-3 : tie.Need-returns-3
+returns-3 c = search needs
+
+pub verdict-of-spec : {M : Type 1} → statement M
+verdict-of-spec =
+    tie.close (tie.spec enum-told enum-told-2 enum-told-3 returns returns-2 returns-3)

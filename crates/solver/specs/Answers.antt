@@ -1,0 +1,84 @@
+-- The budgeted run's answer, and what each entry gives: document 01, "Giant step" and "Turned back".
+use Prim.Native.Nat.{ℕ, zero, suc}
+use mathlib.Core.Bool.{Bool, true, false, not}
+use mathlib.Core.List.{List, [], _∷_, _++_}
+use Rattle.refusals.specs.Checks.{check, outcome, given}
+use Rattle.refusals.specs.declared.Outcome.the-variants.{Taken}
+use Rattle.refusals.specs.declared.Outcome.the-variants as outcomes
+use Rattle.refusals.specs.declared.Refusal.the-variants.{NoModel}
+use Rattle.refusals.specs.declared.Refusal.the-variants as refusal
+use Rattle.tables.specs.declared.Dimensions.{Dimensions}
+use Rattle.tables.specs.declared.Row.{Row}
+use Rattle.tables.specs.Rows.{rowsOf}
+use Rattle.tables.specs.Acceptance.{tableChecks}
+use Rattle.solver.specs.declared.Answer.{Answer}
+use Rattle.solver.specs.declared.Modelled.{Modelled}
+use Rattle.solver.specs.declared.Modelled.the-variants as modelled
+use Rattle.solver.specs.declared.Run.{Run}
+use Rattle.solver.specs.declared.Solved.{Solved}
+use Rattle.solver.specs.declared.Solved.the-variants as solved′
+use Rattle.solver.specs.declared.Standing.{Standing}
+use Rattle.solver.specs.declared.Standing.the-variants.{Open, Satisfied, Refuted}
+use Rattle.solver.specs.declared.Stepped.{Stepped}
+use Rattle.solver.specs.declared.Verdict.{Verdict}
+use Rattle.solver.specs.declared.Verdict.the-variants.{Satisfiable, Unsatisfiable, Unknown}
+use Rattle.solver.specs.State.{State, fresh, stateOf, runOf}
+use Rattle.solver.specs.Step.{step}
+use Rattle.solver.specs.WellFormed.{wellFormed, stateChecks}
+
+-- ---- the budgeted run
+
+-- how many steps were taken, and the state then
+pub record Ran : Type 0 where
+  pub steps : ℕ
+  pub final : State
+
+-- steps through the one that closes the run, at most the budget
+unfoldable pub runFrom : ℕ → List Row → ℕ → State → Ran
+unfolding step
+runFrom n rows zero s = record { steps = 0; final = s }
+runFrom n rows (suc budget) s =
+    elim (s .standing) [
+      | Open ↦ let r = runFrom n rows budget (step n rows s) in record { steps = suc (r .steps); final = r .final }
+      | Satisfied ↦ record { steps = 0; final = s }
+      | Refuted ↦ record { steps = 0; final = s }
+    ]
+
+-- the verdict, with T as the model if it is satisfiable
+abbrev pub verdictOf : Standing → ℕ → Verdict
+verdictOf Open t = Unknown
+verdictOf Satisfied t = Satisfiable t
+verdictOf Refuted t = Unsatisfiable
+
+unfoldable pub answerOf : ℕ → List Row → ℕ → Answer
+unfolding runFrom
+answerOf n rows budget =
+    let r = runFrom n rows budget fresh in
+    record { count = r .steps; verdict = verdictOf (r .final .standing) (r .final .t) }
+
+-- ---- the entries
+
+-- the step's entry: 1, 2, 4, 3, 12, 13, and then the run is as it was
+unfoldable pub stepped : Dimensions → List ℕ → List ℕ → Run → Stepped
+unfolding step runOf wellFormed
+stepped d left right run =
+    given (outcome (tableChecks d left right ++ stateChecks d run))
+    (record { outcome = Taken; run = runOf (d .n) (step (d .n) (rowsOf d left right) (stateOf run)) })
+    (λ r. record { outcome = outcomes.Refused r; run = run })
+
+-- the budgeted run's entry: 1, 2, 4, 3
+unfoldable pub solved : Dimensions → List ℕ → List ℕ → ℕ → Solved
+unfolding answerOf
+solved d left right budget = given (outcome (tableChecks d left right)) (solved′.Of (answerOf (d .n) (rowsOf d left right) budget)) solved′.Refused
+
+abbrev pub isSatisfied : Standing → Bool
+isSatisfied Open = false
+isSatisfied Satisfied = true
+isSatisfied Refuted = false
+
+-- the model of a run: 12, 14
+unfoldable pub modelOf : Run → Modelled
+unfolding wellFormed
+modelOf run =
+    given (outcome (check (not (wellFormed run)) refusal.State ∷ check (not (isSatisfied (run .standing))) NoModel ∷ []))
+    (modelled.Model (run .t)) modelled.Refused

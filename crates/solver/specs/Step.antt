@@ -1,0 +1,51 @@
+-- The giant step, and what some number of steps gives: document 01, "Giant step".
+use Prim.Native.Nat.{ℕ, zero, suc}
+use mathlib.Core.Bool.{Bool, true, false}
+use mathlib.Core.List.{List, [], _∷_}
+use Rattle.words.specs.Sets.{put}
+use Rattle.tables.specs.declared.Row.{Row}
+use Rattle.solver.specs.declared.Level.{Level}
+use Rattle.solver.specs.declared.Rule.{Rule}
+use Rattle.solver.specs.declared.Rule.the-variants.{AllSatisfied, Conflict, Unit, Choice}
+use Rattle.solver.specs.declared.Standing.{Standing}
+use Rattle.solver.specs.declared.Standing.the-variants.{Open, Satisfied, Refuted}
+use Rattle.solver.specs.State.{State}
+use Rattle.solver.specs.Rules.{rule}
+
+-- rule 2: with no level left, refuted; else the last level is removed, its T and F are restored, and its variable goes to F
+abbrev pub back : State → List Level → State
+back s [] = record { standing = Refuted; t = s .t; f = s .f; levels = [] }
+back s (l ∷ ls) = record { standing = Open; t = l .t; f = put (l .f) (l .chosen); levels = ls }
+
+-- rule 3: the literal is made true
+abbrev pub assign : State → ℕ → Bool → State
+assign s v true = record { standing = Open; t = put (s .t) v; f = s .f; levels = s .levels }
+assign s v false = record { standing = Open; t = s .t; f = put (s .f) v; levels = s .levels }
+
+-- an open state after the rule
+abbrev pub follow : State → Rule → State
+follow s AllSatisfied = record { standing = Satisfied; t = s .t; f = s .f; levels = s .levels }
+follow s Conflict = back s (s .levels)
+follow s (Unit v positive) = assign s v positive
+follow s (Choice v) = record {
+  standing = Open;
+  t = put (s .t) v;
+  f = s .f;
+  levels = record { t = s .t; f = s .f; chosen = v } ∷ s .levels;
+}
+
+abbrev pub ifOpen {ℓ} : {A : Type ℓ} → Standing → A → A → A
+ifOpen Open a b = a
+ifOpen Satisfied a b = b
+ifOpen Refuted a b = b
+
+-- one giant step; a closed state stays as it is
+unfoldable pub step : ℕ → List Row → State → State
+unfolding rule
+step n rows s = ifOpen (s .standing) (follow s (rule n rows (s .t) (s .f))) s
+
+-- the state after k steps
+unfoldable pub after : ℕ → List Row → ℕ → State → State
+unfolding step
+after n rows zero s = s
+after n rows (suc k) s = after n rows k (step n rows s)

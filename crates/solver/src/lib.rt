@@ -1,0 +1,219 @@
+// The giant step and the budgeted run over two stations' tables: whether one assignment satisfies both.
+mod rules;
+mod scan;
+mod state;
+
+use refusals::Outcome;
+use refusals::Refusal;
+use tables::Dimensions;
+ghost use mathlib.Core.Path.{_≡_};
+ghost use mathlib.Core.Bool.{true, false};
+ghost use mathlib.Core.List.{_++_};
+ghost use lib.Dec.{ltb};
+ghost use Rattle.refusals.specs.Checks.{outcome};
+ghost use Rattle.refusals.specs.declared.Outcome.the-variants.{Taken};
+ghost use Rattle.tables.specs.Acceptance.{tableChecks};
+ghost use Rattle.tables.specs.Rows.{rowsOf};
+ghost use Rattle.solver.specs.State as State;
+ghost use Rattle.solver.specs.State.{runOf};
+ghost use Rattle.solver.specs.Step.{ifOpen};
+ghost use Rattle.solver.specs.WellFormed.{stateChecks};
+ghost use Rattle.solver.specs.Answers.{verdictOf, answerOf, stepped, solved, modelOf};
+
+// Where a run stands. Satisfied and refuted runs are closed.
+pub enum Standing {
+    Open,
+    Satisfied,
+    Refuted,
+}
+
+// T and F from before a choice, and the variable chosen, from 0.
+pub struct Level {
+    pub t: u32,
+    pub f: u32,
+    pub chosen: u32,
+}
+
+// A run over n variables: those set true, those set false, and the levels, of which the first `depth` are used.
+pub struct Run {
+    pub n: u8,
+    pub standing: Standing,
+    pub t: u32,
+    pub f: u32,
+    pub depth: usize,
+    pub levels: [Level; 32],
+}
+
+// The rule of the giant step that applies: a unit has its variable and whether it becomes true, a choice its variable.
+pub enum Rule {
+    AllSatisfied,
+    Conflict,
+    Unit(u32, bool),
+    Choice(u32),
+}
+
+// A run after one step, or as it was with the refusal.
+pub struct Stepped {
+    pub outcome: Outcome,
+    pub run: Run,
+}
+
+// Satisfiable has its model: the set of the variables that are true.
+pub enum Verdict {
+    Satisfiable(u32),
+    Unsatisfiable,
+    Unknown,
+}
+
+// How many steps were taken, and what they led to.
+pub struct Answer {
+    pub count: u64,
+    pub verdict: Verdict,
+}
+
+// The budgeted run's answer, or why there is none.
+pub enum Solved {
+    Of(Answer),
+    Refused(Refusal),
+}
+
+// A run's model, or why there is none.
+pub enum Modelled {
+    Model(u32),
+    Refused(Refusal),
+}
+
+impl Run {
+    // The fresh run: open, with nothing set and no level.
+    pub fn fresh(n: u8) -> Self
+        ensures { λ r. ⌜ r ≡ runOf n State.fresh ⌝ }
+    {
+        Run {
+            n,
+            standing: Standing::Open,
+            t: 0,
+            f: 0,
+            depth: 0,
+            levels: [Level {
+                t: 0,
+                f: 0,
+                chosen: 0,
+            }; 32],
+        }
+    }
+}
+
+// Whether the run is a well-formed state of the tables' n: 12 or 13 if not.
+pub fn check_state(d: Dimensions, run: Run) -> Outcome
+    ensures { λ r. ⌜ r ≡ outcome (stateChecks d run) ⌝ }
+{
+    if !state::well_formed(run) {
+        return Outcome::Refused(Refusal::State);
+    }
+    if run.n != d.n {
+        return Outcome::Refused(Refusal::OtherVariables);
+    }
+    Outcome::Taken
+}
+
+// Whether the tables are accepted and the run is a well-formed state of their n: 1, 2, 4, 3, 12 or 13 if not.
+fn check_all(d: Dimensions, left: &[u32], right: &[u32], run: Run) -> Outcome
+    ensures { λ r. ⌜ r ≡ outcome (tableChecks d (now (left .entry)) (now (right .entry)) ++ stateChecks d run) ⌝ }
+{
+    let checked = tables::accept(d, left, right);
+    match checked {
+        Outcome::Refused(refusal) => Outcome::Refused(refusal),
+        Outcome::Taken => check_state(d, run),
+    }
+}
+
+// The run after one giant step; as it was where the call is turned back.
+pub fn step(d: Dimensions, left: &[u32], right: &[u32], run: Run) -> Stepped
+    ensures { λ r. ⌜ r ≡ stepped d (now (left .entry)) (now (right .entry)) run ⌝ }
+{
+    let outcome = check_all(d, left, right, run);
+    match outcome {
+        Outcome::Taken => Stepped {
+            outcome,
+            run: rules::giant_step(d, left, right, run),
+        },
+        Outcome::Refused(_) => Stepped { outcome, run },
+    }
+}
+
+// One giant step of the host's own run, which a refusal leaves as it was.
+pub fn step_in_place(d: Dimensions, left: &[u32], right: &[u32], run: &mut Run) -> Outcome
+    ensures { λ r. ⌜ r ≡ stepped d (now (left .entry)) (now (right .entry)) (now (run .entry)) .outcome ⌝ }
+    ensures { λ _. ⌜ now (run .exit) ≡ stepped d (now (left .entry)) (now (right .entry)) (now (run .entry)) .run ⌝ }
+{
+    let next = step(d, left, right, *run);
+    *run = next.run;
+    next.outcome
+}
+
+// Whether the run has steps left to take.
+fn goes_on(run: Run, count: u64, budget: u64) -> bool
+    ensures { λ r. ⌜ r ≡ ifOpen (run .standing) (ltb count budget) false ⌝ }
+{
+    let standing = run.standing;
+    match standing {
+        Standing::Open => count < budget,
+        Standing::Satisfied => false,
+        Standing::Refuted => false,
+    }
+}
+
+// The verdict of a run that goes no further.
+fn verdict_of(run: Run) -> Verdict
+    ensures { λ r. ⌜ r ≡ verdictOf (run .standing) (run .t) ⌝ }
+{
+    let standing = run.standing;
+    match standing {
+        Standing::Open => Verdict::Unknown,
+        Standing::Satisfied => Verdict::Satisfiable(run.t),
+        Standing::Refuted => Verdict::Unsatisfiable,
+    }
+}
+
+// The answer of a fresh run over accepted tables.
+fn run_to_close(d: Dimensions, left: &[u32], right: &[u32], budget: u64) -> Answer
+    requires { ⌜ outcome (tableChecks d (now left) (now right)) ≡ Taken ⌝ }
+    ensures { λ r. ⌜ r ≡ answerOf (d .n) (rowsOf d (now (left .entry)) (now (right .entry))) budget ⌝ }
+{
+    let mut run = Run::fresh(d.n);
+    let mut count = 0;
+    while goes_on(run, count, budget) {
+        run = rules::giant_step(d, left, right, run);
+        count += 1;
+    }
+    Answer {
+        count,
+        verdict: verdict_of(run),
+    }
+}
+
+// The answer of a fresh run that stops when it is closed or the budget is spent; 1, 2, 4 or 3 if the tables are not accepted.
+pub fn solve(d: Dimensions, left: &[u32], right: &[u32], budget: u64) -> Solved
+    ensures { λ r. ⌜ r ≡ solved d (now (left .entry)) (now (right .entry)) budget ⌝ }
+{
+    let checked = tables::accept(d, left, right);
+    match checked {
+        Outcome::Refused(refusal) => Solved::Refused(refusal),
+        Outcome::Taken => Solved::Of(run_to_close(d, left, right, budget)),
+    }
+}
+
+// The model of a satisfied run; 12 or 14 if there is none.
+pub fn model(run: Run) -> Modelled
+    ensures { λ r. ⌜ r ≡ modelOf run ⌝ }
+{
+    if !state::well_formed(run) {
+        return Modelled::Refused(Refusal::State);
+    }
+    let standing = run.standing;
+    match standing {
+        Standing::Satisfied => Modelled::Model(run.t),
+        Standing::Open => Modelled::Refused(Refusal::NoModel),
+        Standing::Refuted => Modelled::Refused(Refusal::NoModel),
+    }
+}

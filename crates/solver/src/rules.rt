@@ -1,0 +1,139 @@
+// The giant step by value (document 01, "Giant step"): one function a rule, and the step that follows the rule.
+use crate::Level;
+use crate::Rule;
+use crate::Run;
+use crate::Standing;
+use tables::Dimensions;
+ghost use mathlib.Core.Path.{_≡_};
+ghost use mathlib.Core.Bool.{true};
+ghost use Prim.Native.Nat.{_<_};
+ghost use Rattle.refusals.specs.Checks.{outcome};
+ghost use Rattle.refusals.specs.declared.Outcome.the-variants.{Taken};
+ghost use Rattle.tables.specs.Acceptance.{tableChecks};
+ghost use Rattle.tables.specs.Rows.{rowsOf};
+ghost use Rattle.solver.specs.declared.Rule.the-variants.{AllSatisfied, Conflict, Unit, Choice};
+ghost use Rattle.solver.specs.State.{stateOf, runOf};
+ghost use Rattle.solver.specs.Step as Step;
+ghost use Rattle.solver.specs.Step.{follow};
+ghost use Rattle.solver.specs.WellFormed.{wellFormed};
+
+// Rule 1: nothing but the standing changes.
+fn satisfy(run: Run) -> Run
+    requires { ⌜ wellFormed run ≡ true ⌝ }
+    ensures { λ r. ⌜ r ≡ runOf (run .n) (follow (stateOf run) AllSatisfied) ⌝ }
+{
+    let levels = run.levels;
+    Run {
+        n: run.n,
+        standing: Standing::Satisfied,
+        t: run.t,
+        f: run.f,
+        depth: run.depth,
+        levels,
+    }
+}
+
+// Rule 2: the last level is removed and its variable goes to F; with no level left the run is refuted.
+fn back(run: Run) -> Run
+    requires { ⌜ wellFormed run ≡ true ⌝ }
+    ensures { λ r. ⌜ r ≡ runOf (run .n) (follow (stateOf run) Conflict) ⌝ }
+{
+    let mut levels = run.levels;
+    let depth = run.depth;
+    if depth == 0 {
+        return Run {
+            n: run.n,
+            standing: Standing::Refuted,
+            t: run.t,
+            f: run.f,
+            depth,
+            levels,
+        };
+    }
+    let last = depth - 1;
+    let level = levels[last];
+    levels[last] = Level {
+        t: 0,
+        f: 0,
+        chosen: 0,
+    };
+    Run {
+        n: run.n,
+        standing: Standing::Open,
+        t: level.t,
+        f: words::put(level.f, level.chosen),
+        depth: last,
+        levels,
+    }
+}
+
+// Rule 3: the literal is made true.
+fn assign(run: Run, variable: u32, positive: bool) -> Run
+    requires { ⌜ wellFormed run ≡ true ⌝ }
+    requires { ⌜ variable < 32 ⌝ }
+    ensures { λ r. ⌜ r ≡ runOf (run .n) (follow (stateOf run) (Unit variable positive)) ⌝ }
+{
+    let levels = run.levels;
+    let mut t = run.t;
+    let mut f = run.f;
+    if positive {
+        t = words::put(t, variable);
+    } else {
+        f = words::put(f, variable);
+    }
+    Run {
+        n: run.n,
+        standing: Standing::Open,
+        t,
+        f,
+        depth: run.depth,
+        levels,
+    }
+}
+
+// Rule 4: a level is added and the variable goes to T.
+fn choose(run: Run, variable: u32) -> Run
+    requires { ⌜ wellFormed run ≡ true ⌝ }
+    requires { ⌜ variable < 32 ⌝ }
+    requires { ⌜ run .depth < 32 ⌝ }
+    ensures { λ r. ⌜ r ≡ runOf (run .n) (follow (stateOf run) (Choice variable)) ⌝ }
+{
+    let mut levels = run.levels;
+    let depth = run.depth;
+    levels[depth] = Level {
+        t: run.t,
+        f: run.f,
+        chosen: variable,
+    };
+    Run {
+        n: run.n,
+        standing: Standing::Open,
+        t: words::put(run.t, variable),
+        f: run.f,
+        depth: depth + 1,
+        levels,
+    }
+}
+
+// One giant step of a well-formed run over accepted tables of its n.
+pub(crate) fn giant_step(d: Dimensions, left: &[u32], right: &[u32], run: Run) -> Run
+    requires { ⌜ outcome (tableChecks d (now left) (now right)) ≡ Taken ⌝ }
+    requires { ⌜ wellFormed run ≡ true ⌝ }
+    requires { ⌜ run .n ≡ d .n ⌝ }
+    ensures { λ r. ⌜ r ≡ runOf (d .n) (Step.step (d .n) (rowsOf d (now (left .entry)) (now (right .entry))) (stateOf run)) ⌝ }
+{
+    let standing = run.standing;
+    match standing {
+        Standing::Open => {
+            let rule = crate::scan::rule(d, left, right, run.t, run.f);
+            match rule {
+                Rule::AllSatisfied => satisfy(run),
+                Rule::Conflict => back(run),
+                Rule::Unit(variable, positive) => assign(run, variable, positive),
+                Rule::Choice(variable) => choose(run, variable),
+            }
+        }
+        Standing::Satisfied => run,
+        Standing::Refuted => run,
+    }
+}
