@@ -1,0 +1,75 @@
+-- A dozen texts and what they mean, computed.
+-- Assumes nothing.
+use mathlib.Core.Path.{_≡_, refl}
+use mathlib.Core.List.{List, [], _∷_}
+use Prim.Native.Nat.{ℕ}
+use Prim.Native.String.{String}
+use lib.ListN.{take}
+use Rattle.words.specs.Sets.{put}
+use Rattle.lexer.specs.Spelling.{bytes}
+use Rattle.lexer.specs.Bytes.{trimmed, same}
+use Rattle.lexer.specs.Pieces.{cut, filled, partsFrom}
+use Rattle.lexer.specs.Numbers.{digitsAfter, leadingZero, decimalOf, numberOf}
+use Rattle.dimacs.specs.Clauses.{clauses}
+use Rattle.dimacs.specs.Header.{pastRemarks}
+use Rattle.dimacs.specs.Text.{tableOf}
+use Rattle.dimacs.proofs.Endings.{ending}
+
+-- the ending, n, the row count and the first four words
+meaning : String → List ℕ
+unfolding tableOf pastRemarks partsFrom cut filled trimmed same clauses numberOf decimalOf leadingZero digitsAfter put
+meaning s = let t = tableOf (bytes s) in ending (t .outcome) ∷ (t .n ∷ (t .rows ∷ take 4 (t .words)))
+
+abbrev table : ℕ → ℕ → ℕ → ℕ → ℕ → ℕ → List ℕ
+table n m a b c d = 0 ∷ (n ∷ (m ∷ (a ∷ (b ∷ (c ∷ (d ∷ []))))))
+
+abbrev refusal : ℕ → List ℕ
+refusal k = k ∷ (0 ∷ (0 ∷ (0 ∷ (0 ∷ (0 ∷ (0 ∷ []))))))
+
+several-lines : meaning "c one\nc\np cnf 3 2\n1\n-2 0 3\n\n0" ≡ table 3 2 1 2 4 0
+unfolding meaning
+several-lines = refl
+
+tabs-and-returns : meaning "p\tcnf \t2\t1 \t\r\n\t1\t2\r\n0\r" ≡ table 2 1 3 0 0 0
+unfolding meaning
+tabs-and-returns = refl
+
+largest-variable : meaning "p cnf 32 1\n-32 32 0" ≡ table 32 1 2147483648 2147483648 0 0
+unfolding meaning
+largest-variable = refl
+
+empty-clause : meaning "p cnf 1 2\n0 1 0" ≡ table 1 2 0 0 1 0
+unfolding meaning
+empty-clause = refl
+
+repeated-literals : meaning "p cnf 2 1\n2 2 -1 2 -1 0" ≡ table 2 1 2 1 0 0
+unfolding meaning
+repeated-literals = refl
+
+minus-zero : meaning "p cnf 2 1\n1 2 -0" ≡ refusal 5
+unfolding meaning
+minus-zero = refl
+
+far-above-n : meaning "p cnf 2 1\n1 -100000000000000000000000000001 0" ≡ refusal 5
+unfolding meaning
+far-above-n = refl
+
+clause-too-many : meaning "p cnf 2 1\n1 0 2 0" ≡ refusal 5
+unfolding meaning
+clause-too-many = refl
+
+late-remark : meaning "p cnf 2 1\nc no\n1 2 0" ≡ refusal 5
+unfolding meaning
+late-remark = refl
+
+return-in-header : meaning "p cnf 2\r1\n1 2 0" ≡ refusal 5
+unfolding meaning
+return-in-header = refl
+
+rows-of-any-length : meaning "p cnf 1 100000000000000000000000000000\nx" ≡ refusal 2
+unfolding meaning
+rows-of-any-length = refl
+
+variables-first : meaning "p cnf 33 0\nx" ≡ refusal 1
+unfolding meaning
+variables-first = refl

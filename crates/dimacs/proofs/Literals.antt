@@ -1,0 +1,127 @@
+-- A clause's row is the set of its literals: repeated ones count once, their order does not matter, and a variable with both
+-- signs makes padding. By the bits of the two words, a literal at a time.
+-- Assumes nothing.
+use mathlib.Core.Path.{_≡_, refl, sym, ap, ap₂, _∙_}
+use mathlib.Core.Bool.{Bool, true, false, not, _&&_, _||_, false≢true, or-false, or-assoc}
+use mathlib.Core.List.{List, [], _∷_}
+use Prim.Native.Nat.{ℕ, suc, _+_, _^_, _≤_, _<_}
+use native.Mathlib.Omega.{arith}
+use lib.Dec.{eqb, ltb}
+use lib.Pow.{pow-pos}
+use borrow.Author.Tests.{lt-ltb, ltb-true, eqb-true}
+use Rattle.words.specs.Sets.{bit}
+use Rattle.words.proofs.Truth.{on, and-l, and-r, and-i}
+use Rattle.words.proofs.Bits.{bit-zero, bit-put, put-lt}
+use Rattle.words.proofs.Operations.{bit-ext}
+use Rattle.dimacs.specs.Rows.{Literal, emptyRow, withLiteral, withLiterals, rowOf}
+use Rattle.dimacs.specs.declared.clauses.Row.{Row}
+
+-- the word of a sign
+abbrev pub wordFor : Bool → Row → ℕ
+wordFor false r = r .positive
+wordFor true r = r .negative
+
+abbrev same : Bool → Bool → Bool
+same true b = b
+same false b = not b
+
+-- whether a clause holds variable i + 1 in a sign
+abbrev pub holds : Bool → ℕ → List Literal → Bool
+holds s i [] = false
+holds s i (l ∷ ls) = same s (l .minus) && eqb i (l .bit) || holds s i ls
+
+bit-with : (s m : Bool) (v i : ℕ) (r : Row) → bit (wordFor s (withLiteral m v r)) i ≡ bit (wordFor s r) i || (same s m && eqb i v)
+bit-with false false v i r = bit-put (r .positive) v i
+bit-with false true v i r = sym (or-false (bit (r .positive) i))
+bit-with true false v i r = sym (or-false (bit (r .negative) i))
+bit-with true true v i r = bit-put (r .negative) v i
+
+bits-with : (s : Bool) (i : ℕ) (r : Row) (ls : List Literal) → bit (wordFor s (withLiterals r ls)) i ≡ bit (wordFor s r) i || holds s i ls
+bits-with s i r [] = sym (or-false (bit (wordFor s r) i))
+bits-with s i r (l ∷ ls) =
+    bits-with s i (withLiteral (l .minus) (l .bit) r) ls
+    ∙ ap (λ (x : Bool). x || holds s i ls) (bit-with s (l .minus) (l .bit) i r)
+    ∙ or-assoc (bit (wordFor s r) i) (same s (l .minus) && eqb i (l .bit)) (holds s i ls)
+
+-- the row has exactly the clause's literals
+pub row-holds : (s : Bool) (i : ℕ) (ls : List Literal) → bit (wordFor s (rowOf ls)) i ≡ holds s i ls
+row-holds s i ls = bits-with s i emptyRow ls ∙ ap (λ (x : Bool). x || holds s i ls) (empty s)
+  where
+    empty : (s : Bool) → bit (wordFor s emptyRow) i ≡ false
+    empty true = bit-zero i
+    empty false = bit-zero i
+
+-- ---- clauses whose variables are below n
+
+abbrev pub below : ℕ → List Literal → Bool
+below n [] = true
+below n (l ∷ ls) = ltb (l .bit) n && below n ls
+
+with-lt : (n : ℕ) (s m : Bool) (v : ℕ) (r : Row) → v < n → wordFor s r < 2 ^ n → wordFor s (withLiteral m v r) < 2 ^ n
+with-lt n false false v r h k = put-lt n (r .positive) v k h
+with-lt n false true v r h k = k
+with-lt n true false v r h k = k
+with-lt n true true v r h k = put-lt n (r .negative) v k h
+
+withs-lt : (n : ℕ) (s : Bool) (ls : List Literal) (r : Row) → below n ls ≡ true → wordFor s r < 2 ^ n → wordFor s (withLiterals r ls) < 2 ^ n
+withs-lt n s [] r h k = k
+withs-lt n s (l ∷ ls) r h k =
+    withs-lt n s ls (withLiteral (l .minus) (l .bit) r) (and-r (ltb (l .bit) n) (below n ls) h)
+    (with-lt n s (l .minus) (l .bit) r (ltb-true (l .bit) n (and-l (ltb (l .bit) n) (below n ls) h)) k)
+
+-- their row has no bit at or above n
+pub row-lt : (n : ℕ) (s : Bool) (ls : List Literal) → below n ls ≡ true → wordFor s (rowOf ls) < 2 ^ n
+row-lt n s ls h = withs-lt n s ls emptyRow h (empty s)
+  where
+    empty : (s : Bool) → wordFor s emptyRow < 2 ^ n
+    empty true = pow-pos n
+    empty false = pow-pos n
+
+-- ---- the same literals, the same row
+
+width : List Literal → ℕ
+width [] = 0
+width (l ∷ ls) = suc (l .bit) + width ls
+
+below-more : (a b : ℕ) (ls : List Literal) → a ≤ b → below a ls ≡ true → below b ls ≡ true
+below-more a b [] h e = refl
+below-more a b (l ∷ ls) h e =
+    and-i (lt-ltb (l .bit) b (omega (arith, ltb-true (l .bit) a (and-l (ltb (l .bit) a) (below a ls) e))))
+    (below-more a b ls h (and-r (ltb (l .bit) a) (below a ls) e))
+
+below-width : (ls : List Literal) → below (width ls) ls ≡ true
+unfolding width
+below-width [] = refl
+below-width (l ∷ ls) = and-i (lt-ltb (l .bit) (suc (l .bit) + width ls) (omega arith)) (below-more (width ls) (suc (l .bit) + width ls) ls (omega arith) (below-width ls))
+
+pub same-row : (ls ks : List Literal) → ((s : Bool) (i : ℕ) → holds s i ls ≡ holds s i ks) → rowOf ls ≡ rowOf ks
+same-row ls ks h = ap₂ (λ (p q : ℕ). record { positive = p; negative = q }) (words false) (words true)
+  where
+    words : (s : Bool) → wordFor s (rowOf ls) ≡ wordFor s (rowOf ks)
+    words s =
+        bit-ext (width ls + width ks) (wordFor s (rowOf ls)) (wordFor s (rowOf ks))
+        (row-lt (width ls + width ks) s ls (below-more (width ls) (width ls + width ks) ls (omega arith) (below-width ls)))
+        (row-lt (width ls + width ks) s ks (below-more (width ks) (width ls + width ks) ks (omega arith) (below-width ks)))
+        (λ i k. row-holds s i ls ∙ h s i ∙ sym (row-holds s i ks))
+
+-- a repeated literal counts once
+pub repeated : (l : Literal) (ls : List Literal) → holds (l .minus) (l .bit) ls ≡ true → rowOf (l ∷ ls) ≡ rowOf ls
+repeated l ls e = same-row (l ∷ ls) ls (λ s i. go s i)
+  where
+    same-true : (s t : Bool) → same s t ≡ true → t ≡ s
+    same-true true t e = e
+    same-true false true e = absurd (false≢true e)
+    same-true false false e = refl
+
+    go : (s : Bool) (i : ℕ) → holds s i (l ∷ ls) ≡ holds s i ls
+    go s i =
+        on (same s (l .minus) && eqb i (l .bit))
+        (λ q. let a : l .minus ≡ s = same-true s (l .minus) (and-l (same s (l .minus)) (eqb i (l .bit)) q) in
+        let b : i ≡ l .bit = eqb-true i (l .bit) (and-r (same s (l .minus)) (eqb i (l .bit)) q) in
+        rw q (sym (ap₂ (λ (t : Bool) (j : ℕ). holds t j ls) (sym a) b ∙ e)))
+        (λ q. rw q)
+
+-- a variable with both signs makes padding: its bit is in both words
+pub padding : (i : ℕ) (ls : List Literal) → holds false i ls ≡ true → holds true i ls ≡ true
+    → bit (rowOf ls .positive) i && bit (rowOf ls .negative) i ≡ true
+padding i ls p q = and-i (row-holds false i ls ∙ p) (row-holds true i ls ∙ q)

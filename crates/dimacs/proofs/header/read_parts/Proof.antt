@@ -1,0 +1,129 @@
+-- `read_parts` meets its contract: each part that is found is the next, and each test is the definition's. Assumes nothing.
+use mathlib.Core.Path.{sym, ap, _∙_}
+use mathlib.Core.List.{List}
+use Prim.Native.Nat.{ℕ}
+use native.Mathlib.Omega.{arith}
+use borrow.Author.Tests.{not-true, not-false}
+use borrow.Author.Needs.{needs}
+use Rattle.lexer.specs.Bytes.{isBlank}
+use Rattle.lexer.proofs.Cuts.{Found, found, missing}
+use Rattle.dimacs.specs.Answers.{numbersHeld}
+use Rattle.dimacs.proofs.Parts.{no-part, one-part, not-first, not-p, not-cnf, both-names}
+use Rattle.dimacs.proofs.header.read_parts.Statement.{statement}
+use Rattle.dimacs.proofs.header.read_parts.Tie as tie
+
+-- p and f are the first two parts
+abbrev lineAt : tie.Start → List ℕ
+lineAt w = w .args .line .now
+
+p-found : (w : tie.After-p) → Found isBlank (lineAt (w .before .before .before .before)) 0 (w .p .given .0 .0) (w .p .given .0 .1 .0)
+p-found w = found isBlank _ _ _ _ (sym (w .before .before .next-part .ensures) ∙ w .p .given .1)
+
+f-found : (w : tie.After-f) → Found isBlank (lineAt (w .before .before .before .before .before .before .before .before)) (w .before .before .before .before .p .given .0 .1 .0) (w .f .given .0 .0) (w .f .given .0 .1 .0)
+f-found w = found isBlank _ _ _ _ (sym (w .before .before .next-part2 .ensures) ∙ w .f .given .1)
+
+next-part-requires : tie.Need-next-part-requires
+next-part-requires c κs = search needs
+
+enum-known-p : tie.Need-enum-known-p
+enum-known-p c = search needs
+
+enum-told : tie.Need-enum-told
+enum-told c = search needs
+
+returns : tie.Need-returns
+returns c = sym (ap numbersHeld (no-part _ (missing isBlank _ _ (sym (c .before .before .next-part .ensures) ∙ c .enum-told .given .1))))
+
+next-part-requires-2 : tie.Need-next-part-requires-2
+next-part-requires-2 c κs = search needs
+
+enum-known-f : tie.Need-enum-known-f
+enum-known-f c = search needs
+
+enum-told-2 : tie.Need-enum-told-2
+enum-told-2 c = search needs
+
+returns-2 : tie.Need-returns-2
+returns-2 c =
+    sym (ap numbersHeld (one-part _ _ _ (p-found (c .before .before .before .before)) (missing isBlank _ _ (sym (c .before .before .next-part2 .ensures) ∙ c .enum-told2 .given .1))))
+
+returns-3 : tie.Need-returns-3
+returns-3 c = sym (ap numbersHeld (not-first _ _ _ (p-found (c .before .before .before .before .before .before)) _ _ (f-found (c .before .before)) (c .if1 .taken)))
+
+sub-equal : tie.Need-sub-equal
+sub-equal c = search needs
+
+part-equal-start : tie.Need-part-equal-start
+part-equal-start c = search needs
+
+part-equal-end : tie.Need-part-equal-end
+part-equal-end c = p-found (c .before .before .before .before .before .before) .within
+
+slice-aggregate-equal : tie.Need-slice-aggregate-equal
+slice-aggregate-equal c = search needs
+
+equal-requires : tie.Need-equal-requires
+equal-requires c κs = search needs
+
+returns-4 : tie.Need-returns-4
+returns-4 c =
+    sym (ap numbersHeld (not-p _ _ _ (p-found (c .before .before .before .before .before .before .before .before .before .before)) _ _ (f-found (c .before .before .before .before .before .before)) (c .before .before .before .before .if1 .left) (sym (c .before .equal .ensures) ∙ not-true _ (c .if2 .taken))))
+
+sub-equal-2 : tie.Need-sub-equal-2
+sub-equal-2 c = omega (arith, f-found (c .before .before .before .before .before .before) .filled)
+
+part-equal-start-2 : tie.Need-part-equal-start-2
+part-equal-start-2 c = omega (arith, f-found (c .before .before .before .before .before .before) .filled)
+
+part-equal-end-2 : tie.Need-part-equal-end-2
+part-equal-end-2 c = f-found (c .before .before .before .before .before .before) .within
+
+slice-aggregate-equal-2 : tie.Need-slice-aggregate-equal-2
+slice-aggregate-equal-2 c = search needs
+
+equal-requires-2 : tie.Need-equal-requires-2
+equal-requires-2 c κs = search needs
+
+returns-5 : tie.Need-returns-5
+returns-5 c =
+    sym (ap numbersHeld (not-cnf _ _ _ (p-found (c .before .before .before .before .before .before .before .before .before .before .before .before .before .before)) _ _ (f-found (c .before .before .before .before .before .before .before .before .before .before)) (c .before .before .before .before .before .before .before .before .if1 .left)
+    (sym (c .before .before .before .before .before .equal .ensures) ∙ not-false _ (c .before .before .before .before .if2 .left))
+    (sym (c .before .equal2 .ensures) ∙ not-true _ (c .if3 .taken))))
+
+read-sizes-requires : tie.Need-read-sizes-requires
+read-sizes-requires c κs = search needs
+
+returns-6 : tie.Need-returns-6
+returns-6 c =
+    c .read-sizes .ensures
+    ∙ sym (ap numbersHeld (both-names _ _ _ (p-found (c .before .before .before .before .before .before .before .before .before .before .before .before .before .before .before)) _ _ (f-found (c .before .before .before .before .before .before .before .before .before .before .before)) (c .before .before .before .before .before .before .before .before .before .if1 .left)
+    (sym (c .before .before .before .before .before .before .equal .ensures) ∙ not-false _ (c .before .before .before .before .before .if2 .left))
+    (sym (c .before .before .equal2 .ensures) ∙ not-false _ (c .before .if3 .left))))
+
+pub read-parts-spec : {M : Type 1} → statement M
+read-parts-spec =
+    tie.close
+    (tie.spec
+    next-part-requires
+    enum-known-p
+    enum-told
+    returns
+    next-part-requires-2
+    enum-known-f
+    enum-told-2
+    returns-2
+    returns-3
+    sub-equal
+    part-equal-start
+    part-equal-end
+    slice-aggregate-equal
+    equal-requires
+    returns-4
+    sub-equal-2
+    part-equal-start-2
+    part-equal-end-2
+    slice-aggregate-equal-2
+    equal-requires-2
+    returns-5
+    read-sizes-requires
+    returns-6)

@@ -1,0 +1,50 @@
+-- Clauses: literals, each clause closed by 0, possibly over several lines (document 01, "DIMACS").
+use Prim.Native.Nat.{ℕ, zero, suc}
+use mathlib.Core.Bool.{Bool, true, false, cond}
+use mathlib.Core.List.{List, [], _∷_}
+use lib.Dec.{ltb}
+use Rattle.lexer.specs.Pieces.{Piece, behind, tokensFrom}
+use Rattle.lexer.specs.Numbers.{Number, number, malformed, numberOf}
+use Rattle.dimacs.specs.Rows.{Literal, rowOf}
+use Rattle.dimacs.specs.declared.clauses.Row.{Row}
+
+-- What reading clause by clause finds: clauses, each with its literals, the place of its first token and the place behind
+-- its 0; then the end of the text, or a clause that cannot be read.
+pub data Reading : Type 0 where
+  clause : List Literal → ℕ → ℕ → Reading → Reading
+  ended : Reading
+  unreadable : Reading
+
+-- a literal at a place joins the clause that follows; where none does, its 0 is missing
+abbrev pub joined : Literal → ℕ → Reading → Reading
+joined l at (clause ls from to rest) = clause (l ∷ ls) at to rest
+joined l at ended = unreadable
+joined l at unreadable = unreadable
+
+-- a token, as a number, in front of what follows: 0 closes a clause, a variable from 1 to n is a literal
+abbrev pub before : ℕ → Piece → Number → Reading → Reading
+before n t malformed rest = unreadable
+before n t (number s zero) rest = clause [] (t .at) (behind t) rest
+before n t (number s (suc i)) rest = cond (ltb i n) (joined (record { minus = s; bit = i }) (t .at) rest) unreadable
+
+unfoldable pub clauses : ℕ → List Piece → Reading
+clauses n [] = ended
+clauses n (t ∷ ts) = before n t (numberOf (t .bytes)) (clauses n ts)
+
+-- the clauses of a text from a place on
+abbrev pub clausesFrom : ℕ → List ℕ → ℕ → Reading
+clausesFrom n text at = clauses n (tokensFrom text at)
+
+abbrev pub rowsOf : Reading → List Row
+rowsOf (clause ls from to rest) = rowOf ls ∷ rowsOf rest
+rowsOf ended = []
+rowsOf unreadable = []
+
+-- m clauses, and then the end
+abbrev pub counts : ℕ → Reading → Bool
+counts zero (clause ls from to rest) = false
+counts zero ended = true
+counts zero unreadable = false
+counts (suc m) (clause ls from to rest) = counts m rest
+counts (suc m) ended = false
+counts (suc m) unreadable = false

@@ -1,0 +1,5 @@
+pub mod Cases
+pub mod Runs
+pub mod Trims
+pub mod Cuts
+pub mod Decimals

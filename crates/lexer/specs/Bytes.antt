@@ -1,0 +1,55 @@
+-- Kinds of bytes, and runs of them in a text (document 01, "DIMACS").
+use Prim.Native.Nat.{ℕ, suc, _+_, _-_}
+use mathlib.Core.Bool.{Bool, true, false, _&&_, _||_, cond}
+use mathlib.Core.List.{List, [], _∷_}
+use lib.Dec.{eqb, leb}
+use lib.ListN.{take, drop}
+
+-- a space or a tab
+abbrev pub isBlank : ℕ → Bool
+isBlank b = eqb b 32 || eqb b 9
+
+-- a space, a tab or a CR
+abbrev pub isTail : ℕ → Bool
+isTail b = isBlank b || eqb b 13
+
+-- a space, a tab, a CR or an LF
+abbrev pub isSeparator : ℕ → Bool
+isSeparator b = isTail b || eqb b 10
+
+abbrev pub isLineFeed : ℕ → Bool
+isLineFeed b = eqb b 10
+
+abbrev pub isDigit : ℕ → Bool
+isDigit b = leb 48 b && leb b 57
+
+-- how many bytes in front pass
+unfoldable pub run : (ℕ → Bool) → List ℕ → ℕ
+run p [] = 0
+run p (b ∷ bs) = cond (p b) (suc (run p bs)) 0
+
+-- the first place from `at` on whose byte does not pass; the text's end if there is none
+unfoldable pub runEnd : (ℕ → Bool) → List ℕ → ℕ → ℕ
+runEnd p text at = at + run p (drop at text)
+
+-- the bytes from one place up to another
+abbrev pub part : ℕ → ℕ → List ℕ → List ℕ
+part from to text = take (to - from) (drop from text)
+
+-- a byte in front of what is kept; where nothing is, a byte that passes goes too
+abbrev pub kept : Bool → ℕ → List ℕ → List ℕ
+kept true b [] = []
+kept false b [] = b ∷ []
+kept passed b (c ∷ cs) = b ∷ (c ∷ cs)
+
+-- a text without the bytes that pass at its end
+unfoldable pub trimmed : (ℕ → Bool) → List ℕ → List ℕ
+trimmed p [] = []
+trimmed p (b ∷ bs) = kept (p b) b (trimmed p bs)
+
+-- whether two texts are the same bytes
+unfoldable pub same : List ℕ → List ℕ → Bool
+same [] [] = true
+same [] (b ∷ bs) = false
+same (a ∷ xs) [] = false
+same (a ∷ xs) (b ∷ bs) = eqb a b && same xs bs

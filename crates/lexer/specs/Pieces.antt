@@ -1,0 +1,47 @@
+-- A text cut into pieces, each with its place: lines, and the tokens between separators.
+use Prim.Native.Nat.{ℕ, suc, _+_}
+use mathlib.Core.Bool.{Bool, true, false}
+use mathlib.Core.List.{List, [], _∷_}
+use lib.ListN.{length, drop}
+use Rattle.lexer.specs.Bytes.{isSeparator, isLineFeed}
+
+-- a piece of a text: where it starts, and its bytes
+pub record Piece : Type 0 where
+  pub at : ℕ
+  pub bytes : List ℕ
+
+-- the place behind a piece
+abbrev pub behind : Piece → ℕ
+behind p = p .at + length (p .bytes)
+
+-- byte b stands at a place, in front of pieces: it ends an empty piece, or joins the first
+abbrev pub joined : Bool → ℕ → ℕ → List Piece → List Piece
+joined true at b ps = record { at = at; bytes = [] } ∷ ps
+joined false at b [] = []
+joined false at b (p ∷ ps) = record { at = at; bytes = b ∷ p .bytes } ∷ ps
+
+-- bytes that start at a place, cut at each byte that passes: always at least one piece
+unfoldable pub cut : (ℕ → Bool) → ℕ → List ℕ → List Piece
+cut p at [] = record { at = at; bytes = [] } ∷ []
+cut p at (b ∷ bs) = joined (p b) at b (cut p (suc at) bs)
+
+-- the pieces that are not empty
+unfoldable pub filled : List Piece → List Piece
+filled [] = []
+filled (p ∷ ps) = keep (p .bytes) p (filled ps)
+  where
+    keep : List ℕ → Piece → List Piece → List Piece
+    keep [] p ps = ps
+    keep (b ∷ bs) p ps = p ∷ ps
+
+-- the lines of a text from a place on
+abbrev pub linesFrom : List ℕ → ℕ → List Piece
+linesFrom text at = cut isLineFeed at (drop at text)
+
+-- the longest runs of bytes that do not pass, from a place on
+unfoldable pub partsFrom : (ℕ → Bool) → List ℕ → ℕ → List Piece
+partsFrom p text at = filled (cut p at (drop at text))
+
+-- the tokens of a text from a place on: what separators set apart
+abbrev pub tokensFrom : List ℕ → ℕ → List Piece
+tokensFrom text at = partsFrom isSeparator text at
