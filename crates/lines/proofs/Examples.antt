@@ -1,0 +1,93 @@
+-- Lines and answers of document 01 and what stands just beside them, computed.
+-- Assumes nothing.
+use mathlib.Core.Path.{_≡_, refl}
+use mathlib.Core.List.{List}
+use Prim.Native.Nat.{ℕ, _-_, _^_}
+use Prim.Native.String.{String}
+use Rattle.words.specs.Sets.{bit}
+use Rattle.refusals.specs.declared.Refusal.the-variants.{TextsDiffer, NumberLine}
+use Rattle.lexer.specs.Spelling.{bytes}
+use Rattle.lexer.specs.Bytes.{run}
+use Rattle.lexer.specs.Numbers.{digitsAfter}
+use Rattle.text.specs.Decimal.{decimal}
+use Rattle.solver.specs.declared.Verdict.the-variants.{Satisfiable, Unsatisfiable, Unknown}
+use Rattle.lines.specs.declared.Budget.{Budget}
+use Rattle.lines.specs.declared.Budget.the-variants as budget
+use Rattle.lines.specs.declared.Size.{Size}
+use Rattle.lines.specs.declared.Size.the-variants as size
+use Rattle.lines.specs.Numbers.{fieldOf, budgetOf, sizeOf}
+use Rattle.lines.specs.Answers.{literals, answerText, refusalText}
+
+-- ---- answers
+
+example : answerText 2 (record { count = 3; verdict = Satisfiable 2 }) ≡ bytes "c steps 3\ns SATISFIABLE\nv -1 2 0\n"
+unfolding answerText literals decimal bit
+example = refl
+
+no-model : answerText 2 (record { count = 18446744073709551615; verdict = Unsatisfiable }) ≡ bytes "c steps 18446744073709551615\ns UNSATISFIABLE\n"
+unfolding answerText decimal
+no-model = refl
+
+no-step : answerText 1 (record { count = 0; verdict = Unknown }) ≡ bytes "c steps 0\ns UNKNOWN\n"
+unfolding answerText decimal
+no-step = refl
+
+a-refusal : refusalText TextsDiffer ≡ bytes "c refused 6\ns UNKNOWN\n"
+unfolding refusalText decimal
+a-refusal = refl
+
+-- ---- the budget line
+
+budgetIn : String → Budget
+unfolding fieldOf run digitsAfter
+budgetIn s = budgetOf (bytes s)
+
+rest-not-read : budgetIn "9\nx" ≡ budget.Of 9
+unfolding budgetIn
+rest-not-read = refl
+
+leading-zeros : budgetIn "0009\n" ≡ budget.Of 9
+unfolding budgetIn
+leading-zeros = refl
+
+greatest : budgetIn "18446744073709551615\n" ≡ budget.Of (2 ^ 64 - 1)
+unfolding budgetIn
+greatest = refl
+
+too-great : budgetIn "18446744073709551616\n" ≡ budget.Refused NumberLine
+unfolding budgetIn
+too-great = refl
+
+no-digit : budgetIn "\n" ≡ budget.Refused NumberLine
+unfolding budgetIn
+no-digit = refl
+
+no-line-feed : budgetIn "9" ≡ budget.Refused NumberLine
+unfolding budgetIn
+no-line-feed = refl
+
+carriage-return : budgetIn "9\r\n" ≡ budget.Refused NumberLine
+unfolding budgetIn
+carriage-return = refl
+
+-- ---- the dimension line
+
+sizeIn : String → Size
+unfolding fieldOf run digitsAfter
+sizeIn s = sizeOf (bytes s)
+
+three-numbers : sizeIn "2 1 1\n" ≡ size.Of 2 1 1
+unfolding sizeIn
+three-numbers = refl
+
+two-spaces : sizeIn "2  1 1\n" ≡ size.Refused NumberLine
+unfolding sizeIn
+two-spaces = refl
+
+a-tab : sizeIn "2\t1 1\n" ≡ size.Refused NumberLine
+unfolding sizeIn
+a-tab = refl
+
+two-numbers : sizeIn "2 1\n" ≡ size.Refused NumberLine
+unfolding sizeIn
+two-numbers = refl

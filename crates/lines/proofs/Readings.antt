@@ -1,0 +1,138 @@
+-- What a place found says of the text: the field there, and that what is left of the line starts at the place behind it.
+-- Assumes nothing.
+use mathlib.Core.Path.{_≡_, refl, sym, ap, _∙_}
+use mathlib.Core.Bool.{cond}
+use mathlib.Core.List.{List, [], _∷_}
+use Prim.Native.Nat.{ℕ, _+_, _-_, _^_, _≤_, _<_}
+use native.Mathlib.Omega.{arith}
+use lib.Dec.{eqb, ltb, leb}
+use lib.ListN.{length, take, drop, length-drop, drop-of-length-le}
+use lib.Seq.{drop-drop}
+use borrow.Author.Tests.{ltb-true, ltb-false}
+use Rattle.words.proofs.Truth.{on}
+use Rattle.lexer.specs.Bytes.{isDigit, run}
+use Rattle.lexer.specs.Numbers.{Decimal, decimal, none, digitsAfter}
+use Rattle.refusals.specs.declared.Refusal.the-variants.{NumberLine}
+use Rattle.lines.specs.declared.Budget.the-variants as budget
+use Rattle.lines.specs.declared.Size.the-variants as size
+use Rattle.lines.specs.declared.numbers.Place.the-variants.{Behind, Malformed}
+use Rattle.lines.specs.Numbers.{Field, field, malformed, bounded, closed, fieldOf, short, budgetFrom, budgetOf, firstFrom, secondFrom, thirdFrom, sizeOf}
+use Rattle.lines.specs.Places.{placeOf, placeAt}
+
+bounded-rest : (d : Decimal) (text rest : List ℕ) (v : ℕ) → bounded d text ≡ field v rest → text ≡ rest
+bounded-rest none text rest v e = cc
+bounded-rest (decimal w) text rest v e = on (ltb w (2 ^ 64)) (λ q. let f = rw q at e in cc) (λ q. let f = rw q at e in cc)
+
+-- a field's rest starts behind the closing byte
+closed-rest : (closing : ℕ) (ds text rest : List ℕ) (v : ℕ) → closed closing ds text ≡ field v rest → drop 1 text ≡ rest
+closed-rest closing [] text rest v e = cc
+closed-rest closing (d ∷ ds) [] rest v e = cc
+closed-rest closing (d ∷ ds) (b ∷ bs) rest v e =
+    on (eqb b closing) (λ q. bounded-rest (digitsAfter 0 (d ∷ ds)) bs rest v (rw q at e)) (λ q. let f = rw q at e in cc)
+
+bounded-below : (d : Decimal) (text rest : List ℕ) (v : ℕ) → bounded d text ≡ field v rest → v < 2 ^ 64
+bounded-below none text rest v e = let z : _≡_ {A = ℕ} 0 1 = cc in omega arith
+bounded-below (decimal w) text rest v e =
+    on (ltb w (2 ^ 64))
+    (λ q. let f = rw q at e in let same : w ≡ v = cc in omega (arith, ltb-true w (2 ^ 64) q))
+    (λ q. let f = rw q at e in let z : _≡_ {A = ℕ} 0 1 = cc in omega arith)
+
+closed-below : (closing : ℕ) (ds text rest : List ℕ) (v : ℕ) → closed closing ds text ≡ field v rest → v < 2 ^ 64
+closed-below closing [] text rest v e = let z : _≡_ {A = ℕ} 0 1 = cc in omega arith
+closed-below closing (d ∷ ds) [] rest v e = let z : _≡_ {A = ℕ} 0 1 = cc in omega arith
+closed-below closing (d ∷ ds) (b ∷ bs) rest v e =
+    on (eqb b closing)
+    (λ q. bounded-below (digitsAfter 0 (d ∷ ds)) bs rest v (rw q at e))
+    (λ q. let f = rw q at e in let z : _≡_ {A = ℕ} 0 1 = cc in omega arith)
+
+-- a field's value has 64 bits
+field-below : (closing : ℕ) (text rest : List ℕ) (v : ℕ) → fieldOf closing text ≡ field v rest → v < 2 ^ 64
+unfolding fieldOf
+field-below closing text rest v e = closed-below closing (take (run isDigit text) text) (drop (run isDigit text) text) rest v e
+
+-- what is left of a line stands as far from its end as it is long
+left-behind : (line : List ℕ) (k : ℕ) → drop (length line - length (drop k line)) line ≡ drop k line
+left-behind line k =
+    on (ltb k (length line))
+    (λ q.
+    let same : length line - length (drop k line) ≡ k = omega (arith, length-drop k line, ltb-true k (length line) q) in
+    ap (λ (j : ℕ). drop j line) same)
+    (λ q.
+    let past : length line ≤ k = ltb-false k (length line) q in
+    let far : length line ≤ length line - length (drop k line) = omega (arith, length-drop k line) in
+    drop-of-length-le line far ∙ sym (drop-of-length-le line past))
+
+-- a field of a line from `at` on, with the place behind it
+pub record Found (line : List ℕ) (at closing v end : ℕ) : Type 0 where
+  pub reads : fieldOf closing (drop at line) ≡ field v (drop end line)
+  pub behind : length line - length (drop end line) ≡ end
+
+-- the rest of a field of a line stands in the line
+rest-in : (line : List ℕ) (at closing v : ℕ) (rest : List ℕ) → fieldOf closing (drop at line) ≡ field v rest → drop (length line - length rest) line ≡ rest
+unfolding fieldOf
+rest-in line at closing v rest e =
+    let digits = run isDigit (drop at line) in
+    let here : drop (at + digits + 1) line ≡ rest =
+    sym (drop-drop 1 (at + digits) line) ∙ ap (drop 1) (sym (drop-drop digits at line))
+    ∙ closed-rest closing (take digits (drop at line)) (drop digits (drop at line)) rest v e in
+    ap (λ (r : List ℕ). drop (length line - length r) line) (sym here) ∙ left-behind line (at + digits + 1) ∙ here
+
+pub found : (line : List ℕ) (at closing v end : ℕ) → placeAt line at closing ≡ Behind v end → Found line at closing v end
+found line at closing v end p = go (fieldOf closing (drop at line)) refl p
+  where
+    go : (f : Field) → fieldOf closing (drop at line) ≡ f → placeOf line f ≡ Behind v end → Found line at closing v end
+    go (field w rest) e q =
+        let place : length line - length rest ≡ end = cc in
+        let value : w ≡ v = cc in
+        let there : drop end line ≡ rest = ap (λ (j : ℕ). drop j line) (sym place) ∙ rest-in line at closing w rest e in
+        record {
+          reads = e ∙ ap (λ (x : ℕ). field x rest) value ∙ ap (field v) (sym there);
+          behind = ap (λ (r : List ℕ). length line - length r) there ∙ place;
+        }
+    go malformed e q = record { reads = cc; behind = cc }
+
+pub lost : (line : List ℕ) (at closing : ℕ) → placeAt line at closing ≡ Malformed → fieldOf closing (drop at line) ≡ malformed
+lost line at closing p = go (fieldOf closing (drop at line)) p
+  where
+    go : (f : Field) → placeOf line f ≡ Malformed → f ≡ malformed
+    go (field w rest) q = cc
+    go malformed q = refl
+
+-- ---- the budget line
+
+pub no-budget : (input : List ℕ) → placeAt input 0 10 ≡ Malformed → budgetOf input ≡ budget.Refused NumberLine
+no-budget input p = ap (budgetFrom input) (lost input 0 10 p)
+
+pub one-budget : (input : List ℕ) (v end : ℕ) → placeAt input 0 10 ≡ Behind v end → budgetOf input ≡ cond (leb end 100) (budget.Of v) (budget.Refused NumberLine)
+one-budget input v end p =
+    let f = found input 0 10 v end p in
+    ap (budgetFrom input) (f .reads) ∙ ap (λ (k : ℕ). cond (leb k 100) (budget.Of v) (budget.Refused NumberLine)) (f .behind)
+
+-- a budget has 64 bits
+pub budget-below : (input : List ℕ) (v : ℕ) → budgetOf input ≡ budget.Of v → v < 2 ^ 64
+budget-below input v e = go (fieldOf 10 input) refl e
+  where
+    go : (f : Field) → fieldOf 10 input ≡ f → budgetFrom input f ≡ budget.Of v → v < 2 ^ 64
+    go malformed h k = let z : _≡_ {A = ℕ} 0 1 = cc in omega arith
+    go (field w rest) h k =
+        on (short input rest)
+        (λ q. let f = rw q at k in let same : w ≡ v = cc in omega (arith, field-below 10 input rest w h))
+        (λ q. let f = rw q at k in let z : _≡_ {A = ℕ} 0 1 = cc in omega arith)
+
+-- ---- the dimension line
+
+pub no-first : (input : List ℕ) → placeAt input 0 32 ≡ Malformed → sizeOf input ≡ size.Refused NumberLine
+no-first input p = ap (firstFrom input) (lost input 0 32 p)
+
+pub one-first : (input : List ℕ) (n second : ℕ) → placeAt input 0 32 ≡ Behind n second → sizeOf input ≡ secondFrom input n (fieldOf 32 (drop second input))
+one-first input n second p = ap (firstFrom input) (found input 0 32 n second p .reads)
+
+pub one-second : (input : List ℕ) (n second left third : ℕ) → placeAt input second 32 ≡ Behind left third
+    → secondFrom input n (fieldOf 32 (drop second input)) ≡ thirdFrom input n left (fieldOf 10 (drop third input))
+one-second input n second left third p = ap (secondFrom input n) (found input second 32 left third p .reads)
+
+pub one-third : (input : List ℕ) (n left third right end : ℕ) → placeAt input third 10 ≡ Behind right end
+    → thirdFrom input n left (fieldOf 10 (drop third input)) ≡ cond (leb end 100) (size.Of n left right) (size.Refused NumberLine)
+one-third input n left third right end p =
+    let f = found input third 10 right end p in
+    ap (thirdFrom input n left) (f .reads) ∙ ap (λ (k : ℕ). cond (leb k 100) (size.Of n left right) (size.Refused NumberLine)) (f .behind)

@@ -1,0 +1,52 @@
+-- The printed answer: document 01, "Programs".
+use Prim.Native.Nat.{ℕ, zero, suc, _+_}
+use mathlib.Core.Bool.{Bool, true, false}
+use mathlib.Core.List.{List, [], _∷_, _++_}
+use Rattle.words.specs.Sets.{bit}
+use Rattle.refusals.specs.Numbers.{numberOf}
+use Rattle.refusals.specs.declared.Refusal.{Refusal}
+use Rattle.lexer.specs.Spelling.{bytes}
+use Rattle.text.specs.Decimal.{decimal}
+use Rattle.solver.specs.declared.Answer.{Answer}
+use Rattle.solver.specs.declared.Solved.{Solved}
+use Rattle.solver.specs.declared.Solved.the-variants as solved
+use Rattle.solver.specs.declared.Verdict.{Verdict}
+use Rattle.solver.specs.declared.Verdict.the-variants.{Satisfiable, Unsatisfiable, Unknown}
+
+-- a line ends in LF
+abbrev pub line : List ℕ → List ℕ
+line text = text ++ (10 ∷ [])
+
+-- a space, a minus for false, the variable
+abbrev pub literal : ℕ → Bool → List ℕ
+literal v true = bytes " " ++ decimal v
+literal v false = bytes " -" ++ decimal v
+
+-- the literals of k variables, from bit i on
+unfoldable pub literals : ℕ → ℕ → ℕ → List ℕ
+literals zero i model = []
+literals (suc k) i model = literal (i + 1) (bit model i) ++ literals k (suc i) model
+
+-- the verdict's line and, with a model, each variable in order, closed by 0
+abbrev pub verdictText : ℕ → Verdict → List ℕ
+verdictText n (Satisfiable model) = line (bytes "s SATISFIABLE") ++ line (bytes "v" ++ literals n 0 model ++ bytes " 0")
+verdictText n Unsatisfiable = line (bytes "s UNSATISFIABLE")
+verdictText n Unknown = line (bytes "s UNKNOWN")
+
+-- the answer of a run over n variables
+unfoldable pub answerText : ℕ → Answer → List ℕ
+unfolding literals
+answerText n answer = line (bytes "c steps " ++ decimal (answer .count)) ++ verdictText n (answer .verdict)
+
+-- a refusal's line, all that the circuit program prints of it
+abbrev pub refusedLine : Refusal → List ℕ
+refusedLine r = line (bytes "c refused " ++ decimal (numberOf r))
+
+-- a refusal in the pair program
+unfoldable pub refusalText : Refusal → List ℕ
+refusalText r = refusedLine r ++ line (bytes "s UNKNOWN")
+
+-- what is printed for two tables of n variables
+abbrev pub solvedText : ℕ → Solved → List ℕ
+solvedText n (solved.Of answer) = answerText n answer
+solvedText n (solved.Refused r) = refusalText r
