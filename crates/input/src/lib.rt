@@ -1,0 +1,22 @@
+// A line of standard input, as both programs read it.
+ghost use Rattle.io.specs.Counts.{Counts};
+
+// Reads a byte at a time up to the first LF, and nothing behind it; a line that does not fit or end is left without its LF, which is 8.
+pub fn read_line(fd: i32, buf: &mut [u8]) -> usize
+    ensures { λ r. ⌜ Counts r (now (buf .exit)) ⌝ }
+{
+    let mut done = 0;
+    while done < buf.len() {
+        let mut one = [0u8; 1];
+        let got = libc::read(fd, &mut one);
+        if got <= 0 {
+            return done;
+        }
+        buf[done] = one[0];
+        done += 1;
+        if one[0] == b'\n' {
+            return done;
+        }
+    }
+    done
+}

@@ -1,0 +1,51 @@
+-- Document 01's example and the order of its refusals, from bytes to bytes. By computation.
+-- Assumes nothing.
+use mathlib.Core.Path.{_≡_, refl}
+use mathlib.Core.List.{List}
+use Prim.Native.Nat.{ℕ}
+use Prim.Native.String.{String}
+use Rattle.words.specs.Sets.{bit, put, any, count, lowest}
+use Rattle.lexer.specs.Spelling.{bytes}
+use Rattle.lexer.specs.Bytes.{run, trimmed, same}
+use Rattle.lexer.specs.Pieces.{cut, filled, partsFrom}
+use Rattle.lexer.specs.Numbers.{digitsAfter, leadingZero, decimalOf, numberOf}
+use Rattle.text.specs.Decimal.{decimal}
+use Rattle.tables.specs.Rows.{padding, satisfied, freeLiterals}
+use Rattle.tables.specs.Acceptance.{allBelow}
+use Rattle.dimacs.specs.Clauses.{clauses}
+use Rattle.dimacs.specs.Header.{pastRemarks}
+use Rattle.dimacs.specs.Text.{tableOf}
+use Rattle.solver.specs.Answers.{answerOf, solved}
+use Rattle.lines.specs.Numbers.{fieldOf}
+use Rattle.lines.specs.Answers.{literals, answerText, refusalText}
+use Rattle.reply.specs.Reply.{replyText}
+
+printed : String → String → String → List ℕ
+unfolding replyText solved answerOf tableOf pastRemarks partsFrom cut filled trimmed same clauses numberOf decimalOf leadingZero digitsAfter run fieldOf put bit any count lowest padding satisfied freeLiterals allBelow literals answerText refusalText decimal
+printed left right line = replyText (bytes left) (bytes right) (bytes line)
+
+example : printed "p cnf 2 1\n1 2 0\n" "p cnf 2 1\n-1 0\n" "9\n" ≡ bytes "c steps 3\ns SATISFIABLE\nv -1 2 0\n"
+unfolding printed
+example = refl
+
+unsatisfiable : printed "p cnf 2 2\n1 2 0 1 -2 0" "p cnf 2 2\n-1 2 0 -1 -2 0" "9\n" ≡ bytes "c steps 5\ns UNSATISFIABLE\n"
+unfolding printed
+unsatisfiable = refl
+
+unknown : printed "p cnf 2 2\n1 2 0 1 -2 0" "p cnf 2 2\n-1 2 0 -1 -2 0" "4\n" ≡ bytes "c steps 4\ns UNKNOWN\n"
+unfolding printed
+unknown = refl
+
+-- left's 5 before right's 1
+left-first : printed "p cnf 2 1\n1 2" "p cnf 33 1\n-1 0\n" "\n" ≡ bytes "c refused 5\ns UNKNOWN\n"
+unfolding printed
+left-first = refl
+
+-- 6 before 8
+differ-first : printed "p cnf 2 1\n1 2 0\n" "p cnf 3 1\n-1 0\n" "\n" ≡ bytes "c refused 6\ns UNKNOWN\n"
+unfolding printed
+differ-first = refl
+
+line-last : printed "p cnf 2 1\n1 2 0\n" "p cnf 2 1\n-1 0\n" "\n" ≡ bytes "c refused 8\ns UNKNOWN\n"
+unfolding printed
+line-last = refl

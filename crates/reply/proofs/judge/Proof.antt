@@ -1,0 +1,39 @@
+-- `reply::judge` meets its contract: each case of the pair's outcome is the definition's.
+-- Assumes nothing.
+use mathlib.Core.Path.{sym, ap, _∙_}
+use Rattle.refusals.specs.Checks.{given}
+use Rattle.refusals.specs.declared.Outcome.{Outcome}
+use Rattle.solver.specs.declared.Solved.the-variants.{Refused}
+use Rattle.lines.specs.Numbers.{budgetOf}
+use Rattle.reply.specs.Reply.{answered}
+use borrow.Author.Needs.{needs}
+use Rattle.reply.proofs.judge.Statement.{statement}
+use Rattle.reply.proofs.judge.Tie as tie
+
+enum-known-outcome : tie.Need-enum-known-outcome
+enum-known-outcome c = search needs
+
+enum-told : tie.Need-enum-told
+enum-told c = search needs
+
+read-budget-requires : tie.Need-read-budget-requires
+read-budget-requires c κs = search needs
+
+answer-requires : tie.Need-answer-requires
+answer-requires c κs = search needs
+
+returns : tie.Need-returns
+returns c =
+    let start = c .before .before .before .before .args in
+    sym (ap (λ (o : Outcome). given o (answered (start .pair) (budgetOf (start .line .now))) Refused) (c .before .outcome .given .1))
+
+returns-2 : tie.Need-returns-2
+returns-2 c =
+    let start = c .before .before .before .before .before .args in
+    c .answer .ensures ∙ ap (answered (start .pair)) (c .before .read-budget .ensures)
+    ∙ sym (ap (λ (o : Outcome). given o (answered (start .pair) (budgetOf (start .line .now))) Refused) (c .before .before .enum-told .given .1))
+
+pub judge-spec : {M : Type 1} → statement M
+judge-spec =
+    tie.close
+    (tie.spec enum-known-outcome enum-told read-budget-requires answer-requires returns returns-2)
