@@ -1,0 +1,44 @@
+-- What evaluating gives, by what its checks find: each law computes the list of checks. The last is the one for circuits.
+-- Assumes nothing.
+use mathlib.Core.Path.{_≡_, refl, ap, ap₂, sym, _∙_}
+use mathlib.Core.Bool.{Bool, true, false}
+use mathlib.Core.List.{List}
+use Prim.Native.Nat.{ℕ, _+_, _/_, _≤_, _<_}
+use native.Mathlib.Omega.{arith}
+use borrow.Author.Tests.{lt-ltb, le-ltb}
+use lib.ListN.{length, length-map}
+use Rattle.words.specs.Booleans.{digit}
+use Rattle.refusals.specs.declared.Refusal.the-variants.{Gates, Wires}
+use Rattle.refusals.specs.declared.Outcome.the-variants.{Taken, Refused}
+use Rattle.refusals.specs.Checks.{outcome}
+use Rattle.gates.specs.Gates.{Gate, wiresOf}
+use Rattle.gates.specs.Memory.{wordsOf, gatesOf, accepted, bytesOf, bitsOf, bits}
+use Rattle.gates.specs.Evaluation.{checks, over, filled}
+use Rattle.gates.proofs.Circuits.{ordered}
+use Rattle.gates.proofs.InMemory.{words-length, gates-words, accepted-words, bits-bytes, bitsOf-bytesOf}
+
+module _ (g s w : List ℕ) where
+  pub no-gates : accepted (length s) g ≡ false → (Refused Gates ≡ outcome (checks g s w)) × (w ≡ filled g s w)
+  no-gates e = rw e (refl, refl)
+
+  module _ (e : accepted (length s) g ≡ true) where
+    pub no-room : length w < length s + length g / 3 → (Refused Wires ≡ outcome (checks g s w)) × (w ≡ filled g s w)
+    no-room h = rw (e, lt-ltb _ _ h) (refl, refl)
+
+    module _ (h : length s + length g / 3 ≤ length w) where
+      pub no-bits : bits s ≡ false → (Refused Wires ≡ outcome (checks g s w)) × (w ≡ filled g s w)
+      no-bits b = rw (e, le-ltb _ _ h, b) (refl, refl)
+
+      pub taken : bits s ≡ true → (Taken ≡ outcome (checks g s w)) × (over (bytesOf (wiresOf (bitsOf s) (gatesOf g))) w ≡ filled g s w)
+      taken b = rw (e, le-ltb _ _ h, b) (refl, refl)
+
+-- a circuit's words on its inputs' bytes: with room for its wires they are taken, and the circuit's values fill the front
+pub evaluates : (w : List Bool) (gs : List Gate) (buffer : List ℕ) → ordered (length w) gs ≡ true → length w + length gs ≤ length buffer
+    → (outcome (checks (wordsOf gs) (bytesOf w) buffer) ≡ Taken) × (filled (wordsOf gs) (bytesOf w) buffer ≡ over (bytesOf (wiresOf w gs)) buffer)
+evaluates w gs buffer o h =
+    let e : accepted (length (bytesOf w)) (wordsOf gs) ≡ true =
+    ap (λ (k : ℕ). accepted k (wordsOf gs)) (length-map w digit) ∙ accepted-words (length w) gs ∙ o in
+    let t = taken (wordsOf gs) (bytesOf w) buffer e (omega (arith, length-map w digit, words-length gs)) (bits-bytes w) in (
+      sym (t .0),
+      sym (t .1) ∙ ap₂ (λ (v : List Bool) (l : List Gate). over (bytesOf (wiresOf v l)) buffer) (bitsOf-bytesOf w) (gates-words gs),
+    )

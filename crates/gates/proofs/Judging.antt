@@ -1,0 +1,74 @@
+-- What the loops that judge words and bytes go by: what is left is judged as the whole is.
+-- Assumes nothing.
+use mathlib.Core.Path.{_≡_, refl, ap, sym, _∙_}
+use mathlib.Core.Bool.{Bool, true, false, _&&_, cond}
+use mathlib.Core.List.{List, [], _∷_}
+use Prim.Native.Nat.{ℕ, zero, suc, _+_, _%_, _^_, _≤_, _<_}
+use native.Mathlib.Numerals.{add-one}
+use native.Mathlib.Omega.{arith}
+use borrow.Author.Tests.{ltb-true, lt-ltb, eqb-true}
+use lib.Dec.{ltb, eqb, leb·suc-suc, leb·suc-zero, eqb·suc-zero}
+use lib.ListN.{length, getD, drop}
+use lib.Seq.{drop-cons}
+use Rattle.words.proofs.Truth.{and-l, and-r, on}
+use Rattle.gates.specs.Memory.{drives, accepted, bits}
+use Rattle.gates.proofs.InMemory.{accepted-length}
+
+pub accepted-uneven : (m : ℕ) (ws : List ℕ) → (length ws % 3 ≡ 0 → ⊥) → accepted m ws ≡ false
+accepted-uneven m ws h =
+    on (accepted m ws) (λ e. absurd (h (omega (arith, accepted-length m ws e)))) (λ e. e)
+
+-- beyond all words the number of wires does not matter
+pub accepted-far : (m n : ℕ) (ws : List ℕ) → 2 ^ 32 ≤ m → 2 ^ 32 ≤ n → ((i : ℕ) → getD ws i 0 < 2 ^ 32) → accepted m ws ≡ accepted n ws
+unfolding accepted
+accepted-far m n [] hm hn h = refl
+accepted-far m n (k ∷ []) hm hn h = refl
+accepted-far m n (k ∷ (a ∷ [])) hm hn h = refl
+accepted-far m n (k ∷ (a ∷ (b ∷ ws))) hm hn h =
+    rw (
+      lt-ltb a m (omega (arith, h 1)),
+      lt-ltb a n (omega (arith, h 1)),
+      lt-ltb b m (omega (arith, h 2)),
+      lt-ltb b n (omega (arith, h 2)),
+      accepted-far (suc m) (suc n) ws (omega arith) (omega arith) (λ i. h (suc (suc (suc i)))),
+    )
+
+pub below-one : (b : ℕ) → ltb b 1 ≡ eqb b 0
+below-one zero = refl
+below-one (suc b) = leb·suc-suc (suc b) 0 ∙ leb·suc-zero b ∙ sym (eqb·suc-zero b)
+
+-- the three words at i, and the rest
+pub drop-three : (g : List ℕ) (i : ℕ) → i + 3 ≤ length g → drop i g ≡ getD g i 0 ∷ (getD g (i + 1) 0 ∷ (getD g (i + 2) 0 ∷ drop (i + 3) g))
+drop-three g i h =
+    let e₁ : suc i ≡ i + 1 = omega arith in
+    let e₂ : suc (i + 1) ≡ i + 2 = omega arith in
+    let e₃ : suc (i + 2) ≡ i + 3 = omega arith in
+    drop-cons g i 0 (omega arith)
+    ∙ ap (λ (l : List ℕ). getD g i 0 ∷ l)
+    (ap (λ (j : ℕ). drop j g) e₁ ∙ drop-cons g (i + 1) 0 (omega arith)
+    ∙ ap (λ (l : List ℕ). getD g (i + 1) 0 ∷ l)
+    (ap (λ (j : ℕ). drop j g) e₂ ∙ drop-cons g (i + 2) 0 (omega arith) ∙ ap (λ (j : ℕ). getD g (i + 2) 0 ∷ drop j g) e₃))
+
+pub accepted-at : (g : List ℕ) (i : ℕ) → i + 3 ≤ length g → (m : ℕ)
+    → accepted m (drop i g) ≡ drives m (getD g i 0) (getD g (i + 1) 0) (getD g (i + 2) 0) && accepted (m + 1) (drop (i + 3) g)
+unfolding accepted
+accepted-at g i h m = ap (λ (l : List ℕ). accepted m l) (drop-three g i h) ∙ rw (add-one m)
+
+pub bits-at : (s : List ℕ) (i : ℕ) → i < length s → bits (drop i s) ≡ ltb (getD s i 0) 2 && bits (drop (i + 1) s)
+unfolding bits
+bits-at s i h = rw (add-one, drop-cons s i 0)
+
+-- INV's second word is below m too, being 0
+bound : (m k b : ℕ) → 0 < m → cond (eqb k 2) (eqb b 0) (ltb b m) ≡ true → b < m
+bound m k b p = go (eqb k 2)
+  where
+    go : (t : Bool) → cond t (eqb b 0) (ltb b m) ≡ true → b < m
+    go true e = omega (arith, eqb-true b 0 e)
+    go false e = ltb-true b m e
+
+-- a gate that may drive a wire is of a known kind and reads earlier wires
+pub drives-below : (m k a b : ℕ) → drives m k a b ≡ true → (k < 3) × (a < m) × (b < m)
+drives-below m k a b e =
+    let e₁ = and-r (ltb k 3) _ e in
+    let h = ltb-true a m (and-l _ _ e₁) in
+    (ltb-true k 3 (and-l _ _ e), h, bound m k b (omega arith) (and-r (ltb a m) _ e₁))

@@ -1,0 +1,5 @@
+pub mod Circuits
+pub mod InMemory
+pub mod Judging
+pub mod Running
+pub mod Evaluation

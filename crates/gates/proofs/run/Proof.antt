@@ -1,0 +1,141 @@
+-- `run` meets its contract: `Run` holds at each turn, and at the end says that the buffer is filled.
+-- Assumes nothing.
+use borrow.Author.Needs.{needs}
+use Prim.Native.Nat.{ℕ, _≤_, _<_, _-_, _+_}
+use native.Mathlib.Omega.{arith}
+use lib.ListN.{length, getD}
+use Rattle.gates.proofs.Running.{Run, start, more, all-run, whole, fits-next, below, read-bit, again, done}
+use Rattle.gates.proofs.run.Statement.{statement}
+use Rattle.gates.proofs.run.Tie as tie
+
+abbrev Inv-loop : tie.InvT-loop
+Inv-loop gates wires₀ n end i₀ m₀ wires i m = Run gates wires₀ n wires i m
+
+abbrev μ-loop : tie.MeasureT-loop
+μ-loop gates wires₀ n end i₀ m₀ wires i m = end - m
+
+-- what is known of the gate of a turn
+turn : (c : tie.In-loop Inv-loop μ-loop)
+    → let g = c .before .before .before .before .args .gates .now in
+    let l = c .before .loop in
+    (l .i + 3 ≤ length g) × (getD g (l .i) 0 < 3) × (getD g (l .i + 1) 0 < l .m) × (getD g (l .i + 2) 0 < l .m) × (l .m < length (l .wires))
+    × ((a : ℕ) → a < l .m → getD (l .wires) a 0 < 2)
+turn c =
+    let s = c .before .before .before .before in
+    let l = c .before .loop in
+    let h = more _ _ _ _ _ _ (l .inv) (s .pre .1 .0) (omega arith) in
+    let b = below _ _ _ _ _ _ (l .inv) (s .pre .1 .0) h in (
+      whole _ _ _ _ _ _ (l .inv) (s .pre .1 .0) h,
+      b .0,
+      b .1,
+      b .2,
+      fits-next _ _ _ _ _ _ (l .inv) (s .pre .1 .0) h,
+      read-bit _ _ _ _ _ _ (l .inv) (s .pre .1 .0),
+    )
+
+add-end : tie.Need-add-end Inv-loop μ-loop
+add-end c = search needs
+
+loop-holds : tie.Need-loop-holds Inv-loop μ-loop
+loop-holds c = let p = c .before .before .pre in start _ _ _ (p .0) (p .1 .1)
+
+mul-kind : tie.Need-mul-kind Inv-loop μ-loop
+mul-kind c = search needs
+
+shared-slice-read-kind : tie.Need-shared-slice-read-kind Inv-loop μ-loop
+shared-slice-read-kind c = search needs
+
+add-wide : tie.Need-add-wide Inv-loop μ-loop
+add-wide c = let t = turn (c .before) in omega arith
+
+mul-wide : tie.Need-mul-wide Inv-loop μ-loop
+mul-wide c = let t = turn (c .before) in omega arith
+
+shared-slice-read-wide : tie.Need-shared-slice-read-wide Inv-loop μ-loop
+shared-slice-read-wide c = let t = turn (c .before .before) in omega arith
+
+wide-requires : tie.Need-wide-requires Inv-loop μ-loop
+wide-requires c κs = search needs
+
+add-wide-2 : tie.Need-add-wide-2 Inv-loop μ-loop
+add-wide-2 c = let t = turn (c .before .before .before) in omega arith
+
+mul-wide-2 : tie.Need-mul-wide-2 Inv-loop μ-loop
+mul-wide-2 c = let t = turn (c .before .before .before) in omega arith
+
+shared-slice-read-wide-2 : tie.Need-shared-slice-read-wide-2 Inv-loop μ-loop
+shared-slice-read-wide-2 c = let t = turn (c .before .before .before .before) in omega arith
+
+wide-requires-2 : tie.Need-wide-requires-2 Inv-loop μ-loop
+wide-requires-2 c κs = search needs
+
+slice-read-gate-value : tie.Need-slice-read-gate-value Inv-loop μ-loop
+slice-read-gate-value c = let t = turn (c .before .before .before .before .before .before) in omega (arith, c .before .before .before .wide .ensures)
+
+slice-read-gate-value-2 : tie.Need-slice-read-gate-value-2 Inv-loop μ-loop
+slice-read-gate-value-2 c = let t = turn (c .before .before .before .before .before .before .before) in omega (arith, c .before .before .wide2 .ensures)
+
+gate-value-requires : tie.Need-gate-value-requires Inv-loop μ-loop
+gate-value-requires c κs =
+    let t = turn (c .before .before .before .before .before .before .before) in
+    let a = c .before .before .before .before .wide in
+    let b = c .before .before .wide2 in
+    (t .1, (t .5 (a .result) (omega (arith, a .ensures)), t .5 (b .result) (omega (arith, b .ensures))))
+
+slice-write-wires : tie.Need-slice-write-wires Inv-loop μ-loop
+slice-write-wires c = let t = turn (c .before .before .before .before .before .before .before .before) in omega arith
+
+add-i : tie.Need-add-i Inv-loop μ-loop
+add-i c = let t = turn (c .before .before .before .before .before .before .before .before) in omega arith
+
+add-m : tie.Need-add-m Inv-loop μ-loop
+add-m c = let t = turn (c .before .before .before .before .before .before .before .before) in omega arith
+
+loop-less : tie.Need-loop-less Inv-loop μ-loop
+loop-less c = search needs
+
+loop-again : tie.Need-loop-again Inv-loop μ-loop
+loop-again c =
+    let h = c .before .before .before .before .before .before .before .before in
+    let l = h .before in
+    let s = l .before .before .before in
+    again _ _ _ _ _ _ (l .loop .inv) (s .pre .1 .0) (c .gate-value .result) (more _ _ _ _ _ _ (l .loop .inv) (s .pre .1 .0) (omega (arith, h .loop-test .taken)))
+    (rw (← (c .before .before .before .wide2 .ensures), ← (c .before .before .before .before .before .wide .ensures)) (c .gate-value .ensures))
+
+same-length : tie.Need-same-length Inv-loop μ-loop
+same-length c = c .before .loop .inv .size
+
+returns : tie.Need-returns Inv-loop μ-loop
+returns c =
+    let r = c .before .loop .inv in
+    let p = c .before .before .before .before .pre .1 .0 in
+    done _ _ _ _ _ _ r p (all-run _ _ _ _ _ _ r p (omega arith))
+
+pub run-spec : {M : Type 1} → statement M
+run-spec =
+    tie.close
+    (tie.spec
+    Inv-loop
+    μ-loop
+    add-end
+    loop-holds
+    mul-kind
+    shared-slice-read-kind
+    add-wide
+    mul-wide
+    shared-slice-read-wide
+    wide-requires
+    add-wide-2
+    mul-wide-2
+    shared-slice-read-wide-2
+    wide-requires-2
+    slice-read-gate-value
+    slice-read-gate-value-2
+    gate-value-requires
+    slice-write-wires
+    add-i
+    add-m
+    loop-less
+    loop-again
+    same-length
+    returns)

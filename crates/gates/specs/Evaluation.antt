@@ -1,0 +1,26 @@
+-- What evaluating gates on input bytes gives, and what it leaves in the wire buffer (document 01, "Circuit", refusals 9 and 10).
+use mathlib.Core.Bool.{not}
+use mathlib.Core.List.{List, [], _∷_, _++_}
+use Prim.Native.Nat.{ℕ, _+_, _/_}
+use lib.ListN.{length, drop}
+use lib.Dec.{ltb}
+use Rattle.refusals.specs.declared.Refusal.the-variants.{Gates, Wires}
+use Rattle.refusals.specs.Checks.{Check, check, outcome, given}
+use Rattle.gates.specs.Gates.{wiresOf}
+use Rattle.gates.specs.Memory.{gatesOf, accepted, bitsOf, bytesOf, bits}
+
+-- 9, then 10: a buffer shorter than inputs plus gates, or an input byte that is not 0 or 1
+abbrev pub checks : List ℕ → List ℕ → List ℕ → List Check
+checks gates inputs wires =
+    check (not (accepted (length inputs) gates)) Gates
+    ∷ (check (ltb (length wires) (length inputs + length gates / 3)) Wires
+    ∷ (check (not (bits inputs)) Wires ∷ []))
+
+-- a list whose front is written over
+abbrev pub over : List ℕ → List ℕ → List ℕ
+over front list = front ++ drop (length front) list
+
+-- the wire buffer afterwards: the wires' values, then the bytes that stood there; refused, as it was
+abbrev pub filled : List ℕ → List ℕ → List ℕ → List ℕ
+filled gates inputs wires =
+    given (outcome (checks gates inputs wires)) (over (bytesOf (wiresOf (bitsOf inputs) (gatesOf gates))) wires) (λ r. wires)
