@@ -1,0 +1,129 @@
+-- Where the bits of rows and of a state stand in a list of wires: the list is cut part by part, in the order of the wires.
+-- Assumes nothing.
+use mathlib.Core.Path.{_≡_, refl, sym, ap, ap₂, _∙_, subst}
+use mathlib.Core.Bool.{Bool}
+use mathlib.Core.List.{List, [], _∷_, _++_, append-assoc}
+use Prim.Native.Nat.{ℕ, suc, _+_, _*_, _≤_, _<_}
+use native.Mathlib.Nat.{le-of-suc-le-suc}
+use native.Mathlib.Omega.{arith}
+use lib.ListN.{length, getD}
+use Rattle.words.specs.Sets.{bit}
+use Rattle.tables.specs.declared.Row.{Row}
+use Rattle.tables.specs.Sizes.{stateWires}
+use Rattle.gates.specs.Gates.{wire}
+use Rattle.wires.specs.Layout.{upto, joined, rowBits, rowsBits, Bits, inOrder}
+use Rattle.wires.specs.Reading.{levelAt, stateAt}
+use Rattle.wires.proofs.Series.{upto-at, upto-here, upto-past, upto-cong, upto-add, joined-cong, joined-at, joined-past, upto-mul}
+use Rattle.wires.proofs.Lengths.{row-length, group-length, width-is}
+
+-- ---- bits that are the same on every wire
+
+pub record Same (n : ℕ) (a b : Bits) : Type 0 where
+  pub same-T : (i : ℕ) → i < n → a .T i ≡ b .T i
+  pub same-F : (i : ℕ) → i < n → a .F i ≡ b .F i
+  pub same-D : (k : ℕ) → k ≤ n → a .D k ≡ b .D k
+  pub same-LT : (l i : ℕ) → l < n → i < n → a .LT l i ≡ b .LT l i
+  pub same-LF : (l i : ℕ) → l < n → i < n → a .LF l i ≡ b .LF l i
+  pub same-LV : (l i : ℕ) → l < n → i < n → a .LV l i ≡ b .LV l i
+  pub same-SAT : a .SAT ≡ b .SAT
+  pub same-REF : a .REF ≡ b .REF
+
+pub same-trans : (n : ℕ) (a b c : Bits) → Same n a b → Same n b c → Same n a c
+same-trans n a b c x y = record {
+  same-T = λ i h. x .same-T i h ∙ y .same-T i h;
+  same-F = λ i h. x .same-F i h ∙ y .same-F i h;
+  same-D = λ k h. x .same-D k h ∙ y .same-D k h;
+  same-LT = λ l i h k. x .same-LT l i h k ∙ y .same-LT l i h k;
+  same-LF = λ l i h k. x .same-LF l i h k ∙ y .same-LF l i h k;
+  same-LV = λ l i h k. x .same-LV l i h k ∙ y .same-LV l i h k;
+  same-SAT = x .same-SAT ∙ y .same-SAT;
+  same-REF = x .same-REF ∙ y .same-REF;
+}
+
+pub order-cong : (n : ℕ) (a b : Bits) → Same n a b → inOrder n a ≡ inOrder n b
+unfolding inOrder
+order-cong n a b s =
+    ap₂ _++_ (upto-cong _ _ n (s .same-T)) (
+    ap₂ _++_ (upto-cong _ _ n (s .same-F)) (
+    ap₂ _++_ (upto-cong _ _ (suc n) (λ k h. s .same-D k (le-of-suc-le-suc h))) (
+    ap₂ _++_
+    (joined-cong _ _ n (λ l h. ap₂ _++_ (upto-cong _ _ n (λ i k. s .same-LT l i h k)) (
+    ap₂ _++_ (upto-cong _ _ n (λ i k. s .same-LF l i h k)) (upto-cong _ _ n (λ i k. s .same-LV l i h k)))))
+    (ap₂ (λ (x y : Bool). x ∷ (y ∷ [])) (s .same-SAT) (s .same-REF)))))
+
+-- ---- rows
+
+-- the row of number j from 0
+abbrev pub rowOf : List Row → ℕ → Row
+rowOf rows j = getD rows j (record { positive = 0; negative = 0 })
+
+rows-joined : (n : ℕ) (rows : List Row) → rowsBits n rows ≡ joined (λ j. rowBits n (rowOf rows j)) (length rows)
+unfolding rowsBits joined
+rows-joined n [] = refl
+rows-joined n (r ∷ rs) = ap (λ (l : List Bool). rowBits n r ++ l) (rows-joined n rs)
+
+module _ (n : ℕ) (rows : List Row) (rest : List Bool) where
+  row-at : (j i : ℕ) → j < length rows → i < n + n → wire (rowsBits n rows ++ rest) ((n + n) * j + i) ≡ wire (rowBits n (rowOf rows j)) i
+  row-at j i h b =
+      ap (λ (l : List Bool). wire (l ++ rest) ((n + n) * j + i)) (rows-joined n rows)
+      ∙ joined-at (n + n) (λ j. rowBits n (rowOf rows j)) (length rows) rest j i (λ j. row-length n (rowOf rows j)) h b
+
+  pub positive-at : (j i : ℕ) → j < length rows → i < n → wire (rowsBits n rows ++ rest) ((n + n) * j + i) ≡ bit (rowOf rows j .positive) i
+  positive-at j i h b = row-at j i h (omega arith) ∙ upto-here _ n _ i b
+
+  pub negative-at : (j i : ℕ) → j < length rows → i < n → wire (rowsBits n rows ++ rest) ((n + n) * j + (n + i)) ≡ bit (rowOf rows j .negative) i
+  negative-at j i h b = row-at j (n + i) h (omega arith) ∙ upto-past _ n _ i ∙ upto-at _ n i b
+
+  pub rows-past : (k : ℕ) → wire (rowsBits n rows ++ rest) ((n + n) * length rows + k) ≡ wire rest k
+  rows-past k =
+      ap (λ (l : List Bool). wire (l ++ rest) ((n + n) * length rows + k)) (rows-joined n rows)
+      ∙ joined-past (n + n) (λ j. rowBits n (rowOf rows j)) (length rows) rest k (λ j. row-length n (rowOf rows j))
+
+-- ---- a state
+
+module _ (n : ℕ) (b : Bits) where
+  abbrev level : ℕ → List Bool
+  level l = upto (b .LT l) n ++ (upto (b .LF l) n ++ upto (b .LV l) n)
+
+  -- the parts, with the rest behind them
+  parts : (rest : List Bool) → inOrder n b ++ rest ≡ upto (b .T) n ++ (upto (b .F) n ++ (upto (b .D) (suc n) ++ (joined level n ++ (b .SAT ∷ (b .REF ∷ rest)))))
+  unfolding inOrder
+  parts rest = simp append-assoc
+
+  module _ (rest : List Bool) where
+    abbrev W : List Bool
+    W = upto (b .T) n ++ (upto (b .F) n ++ (upto (b .D) (suc n) ++ (joined level n ++ (b .SAT ∷ (b .REF ∷ rest)))))
+
+    levels-at : (k : ℕ) → wire W (n + (n + (suc n + k))) ≡ wire (joined level n ++ (b .SAT ∷ (b .REF ∷ rest))) k
+    levels-at k = upto-past (b .T) n _ (n + (suc n + k)) ∙ upto-past (b .F) n _ (suc n + k) ∙ upto-past (b .D) (suc n) _ k
+
+    level-at : (l i : ℕ) → l < n → i < n + (n + n) → wire W (n + (n + (suc n + (levelAt n l + i)))) ≡ wire (level l) i
+    level-at l i h k = levels-at (levelAt n l + i) ∙ joined-at (n + (n + n)) level n _ l i (group-length n b) h k
+
+    parts-at : Same n (stateAt n (λ k. wire W k)) b
+    parts-at = record {
+      same-T = λ i h. upto-here _ n _ i h;
+      same-F = λ i h. upto-past _ n _ i ∙ upto-here _ n _ i h;
+      same-D = λ k h. upto-past _ n _ (n + k) ∙ upto-past _ n _ k ∙ upto-here _ (suc n) _ k (omega arith);
+      same-LT = λ l i h k. level-at l i h (omega arith) ∙ upto-here _ n _ i k;
+      same-LF = λ l i h k. level-at l (n + i) h (omega arith) ∙ upto-past _ n _ i ∙ upto-here _ n _ i k;
+      same-LV = λ l i h k. level-at l (n + (n + i)) h (omega arith) ∙ upto-past _ n _ (n + i) ∙ upto-past _ n _ i ∙ upto-at _ n i k;
+      same-SAT = levels-at _ ∙ joined-past (n + (n + n)) level n _ 0 (group-length n b);
+      same-REF = levels-at _ ∙ joined-past (n + (n + n)) level n _ 1 (group-length n b);
+    }
+
+    pub state-at : Same n (stateAt n (λ k. wire (inOrder n b ++ rest) k)) b
+    state-at = subst (λ (l : List Bool). Same n (stateAt n (λ k. wire l k)) b) (sym (parts rest)) parts-at
+
+-- a state's wires in a row, by number
+pub state-row : (n : ℕ) (f : ℕ → Bool) → inOrder n (stateAt n f) ≡ upto f (stateWires n)
+unfolding inOrder upto
+state-row n f =
+    sym (ap (upto f) (sym (width-is n)) ∙
+    upto-add f n _ ∙ ap (λ (l : List Bool). upto f n ++ l) (
+    upto-add (λ i. f (n + i)) n _ ∙ ap (λ (l : List Bool). upto (λ i. f (n + i)) n ++ l) (
+    upto-add (λ i. f (n + (n + i))) (suc n) _ ∙ ap (λ (l : List Bool). upto (λ i. f (n + (n + i))) (suc n) ++ l) (
+    upto-add (λ i. f (n + (n + (suc n + i)))) (levelAt n n) 2 ∙ ap (λ (l : List Bool). l ++ upto (λ i. f (n + (n + (suc n + (levelAt n n + i))))) 2) (
+    upto-mul (λ i. f (n + (n + (suc n + i)))) (n + (n + n)) n ∙ joined-cong _ _ n (λ l h.
+    upto-add (λ i. f (n + (n + (suc n + (levelAt n l + i))))) n (n + n) ∙ ap (λ (x : List Bool). upto (λ i. f (n + (n + (suc n + (levelAt n l + i))))) n ++ x) (
+    upto-add (λ i. f (n + (n + (suc n + (levelAt n l + (n + i)))))) n n)))))))

@@ -1,0 +1,83 @@
+-- How many wires rows and a state have: the sum of their parts.
+-- Assumes nothing.
+use mathlib.Core.Path.{_≡_, refl, sym, ap, ap₂, _∙_}
+use mathlib.Core.List.{List, [], _∷_, _++_}
+use Prim.Native.Nat.{ℕ, zero, suc, _+_, _*_, _≤_}
+use native.Mathlib.Nat.{mul-zero, mul-suc, add-mul, mul-add, mul-le-mul}
+use native.Mathlib.Omega.{arith}
+use lib.ListN.{length, length-append}
+use Rattle.tables.specs.declared.Dimensions.{Dimensions}
+use Rattle.tables.specs.declared.Row.{Row}
+use Rattle.tables.specs.Rows.{rowsFrom, rowsOf}
+use Rattle.tables.specs.Sizes.{rowCount, stateWires, inputWires}
+use Rattle.solver.specs.declared.Level.{Level}
+use Rattle.solver.specs.State.{State}
+use Rattle.wires.specs.Layout.{Bits, upto, rowBits, rowsBits, bitsIn, inOrder, stateBits}
+use Rattle.wires.specs.Levels.{levelBits}
+use Rattle.wires.specs.Packing.{inputBits}
+use Rattle.wires.specs.Reading.{levelAt}
+use Rattle.wires.proofs.Series.{length-upto, length-joined}
+
+pub row-length : (n : ℕ) (r : Row) → length (rowBits n r) ≡ n + n
+row-length n r = simp (length-append, length-upto)
+
+pub level-length : (n : ℕ) (x : Level) → length (levelBits n x) ≡ n + (n + n)
+level-length n x = simp (length-append, length-upto)
+
+-- the levels' wires of any bits
+pub group-length : (n : ℕ) (b : Bits) (l : ℕ) → length (upto (b .LT l) n ++ (upto (b .LF l) n ++ upto (b .LV l) n)) ≡ n + (n + n)
+group-length n b l = simp (length-append, length-upto)
+
+-- the state's wires, part by part
+abbrev pub stateWidth : ℕ → ℕ
+stateWidth n = n + (n + (suc n + (levelAt n n + 2)))
+
+-- 3n² + 3n + 3
+pub width-is : (n : ℕ) → stateWidth n ≡ stateWires n
+width-is n = omega (arith, add-mul n (n + n) n, add-mul n n n, add-mul (n + n) n n, ap (λ (k : ℕ). k * n) (thrice n))
+  where
+    thrice : (n : ℕ) → 3 * n ≡ n + n + n
+    thrice n = omega arith
+
+pub order-length : (n : ℕ) (b : Bits) → length (inOrder n b) ≡ stateWidth n
+unfolding inOrder
+order-length n b =
+    let e = length-joined (n + (n + n)) (λ l. upto (b .LT l) n ++ (upto (b .LF l) n ++ upto (b .LV l) n)) n (group-length n b) in
+    simp (length-append, length-upto) (ap (λ (k : ℕ). n + (n + (suc n + (k + 2)))) e)
+
+pub state-length : (n : ℕ) (s : State) → length (stateBits n s) ≡ stateWires n
+unfolding stateBits
+state-length n s = order-length n (bitsIn s) ∙ width-is n
+
+-- a state of at most 32 variables has at most 3171 wires
+pub state-most : (n : ℕ) → n ≤ 32 → stateWires n ≤ 3171
+state-most n h = omega (arith, mul-le-mul {n₁ = 3 * n} {m₁ = n} {n₂ = 96} {m₂ = 32} (omega arith) h)
+
+pub rows-length : (n : ℕ) (rows : List Row) → length (rowsBits n rows) ≡ (n + n) * length rows
+unfolding rowsBits
+rows-length n [] = sym (mul-zero (n + n))
+rows-length n (r ∷ rs) = length-append (rowBits n r) (rowsBits n rs) ∙ ap₂ _+_ (row-length n r) (rows-length n rs) ∙ omega (arith, mul-suc (n + n) (length rs))
+
+pub table-length : (words : List ℕ) (i k : ℕ) → length (rowsFrom words i k) ≡ k
+table-length words i zero = refl
+table-length words i (suc k) = ap suc (table-length words (suc i) k)
+
+pub both-length : (d : Dimensions) (left right : List ℕ) → length (rowsOf d left right) ≡ rowCount d
+both-length d left right = length-append (rowsFrom left 0 (d .left)) _ ∙ ap₂ _+_ (table-length left 0 (d .left)) (table-length right 0 (d .right))
+
+pub twice : (n m : ℕ) → (n + n) * m ≡ 2 * n * m
+twice n m = ap (λ (k : ℕ). k * m) (two n)
+  where
+    two : (n : ℕ) → n + n ≡ 2 * n
+    two n = omega arith
+
+-- the input wires
+pub input-length : (d : Dimensions) (left right : List ℕ) (s : State) → length (inputBits d left right s) ≡ inputWires d
+unfolding inputBits
+input-length d left right s =
+    length-append (rowsBits (d .n) (rowsOf d left right)) (stateBits (d .n) s)
+    ∙ ap₂ _+_ (rows-length (d .n) (rowsOf d left right) ∙ ap (λ (k : ℕ). (d .n + d .n) * k) (both-length d left right) ∙ twice (d .n) (rowCount d)) (state-length (d .n) s)
+
+-- left rows, right rows and state, one behind the other
+pub input-parts : (d : Dimensions) → inputWires d ≡ (d .n + d .n) * d .left + (d .n + d .n) * d .right + stateWires (d .n)
+input-parts d = ap (λ (k : ℕ). k + stateWires (d .n)) (sym (twice (d .n) (rowCount d)) ∙ mul-add (d .n + d .n) (d .left) (d .right))

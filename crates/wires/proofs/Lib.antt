@@ -1,0 +1,12 @@
+pub mod Series
+pub mod Lengths
+pub mod Addresses
+pub mod Stores
+pub mod Tables
+pub mod ArrayLevels
+pub mod Words
+pub mod RunRead
+pub mod Sameness
+pub mod Checks
+pub mod StateBack
+pub mod RoundTrip

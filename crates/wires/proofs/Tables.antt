@@ -1,0 +1,62 @@
+-- A table's rows, one behind the other, and both tables' rows and a state behind one another. By induction on the number of rows.
+-- Assumes nothing.
+use mathlib.Core.Path.{_≡_, refl, sym, ap, ap₂, _∙_, fun-ext}
+use mathlib.Core.Bool.{Bool}
+use mathlib.Core.List.{List, [], _∷_, _++_, append-assoc}
+use Prim.Native.Nat.{ℕ, zero, suc, _+_, _*_, _≤_}
+use native.Mathlib.Nat.{add-zero}
+use native.Mathlib.Omega.{arith}
+use lib.ListN.{length}
+use Rattle.tables.specs.declared.Dimensions.{Dimensions}
+use Rattle.tables.specs.declared.Row.{Row}
+use Rattle.tables.specs.Rows.{rowAt, rowsFrom}
+use Rattle.tables.specs.Sizes.{inputWires}
+use Rattle.solver.specs.declared.Run.{Run}
+use Rattle.solver.specs.State.{stateOf}
+use Rattle.gates.specs.Memory.{bytesOf}
+use Rattle.gates.specs.Evaluation.{over}
+use Rattle.wires.specs.Layout.{joined, rowBits, rowsBits, stateBits}
+use Rattle.wires.specs.Packing.{inputBits}
+use Rattle.wires.proofs.Lengths.{rows-length, table-length, input-length}
+use Rattle.wires.proofs.Stores.{stored, stored-then, stored-front}
+
+pub rows-append : (n : ℕ) (xs ys : List Row) → rowsBits n (xs ++ ys) ≡ rowsBits n xs ++ rowsBits n ys
+unfolding rowsBits
+rows-append n [] ys = refl
+rows-append n (x ∷ xs) ys = ap (λ (l : List Bool). rowBits n x ++ l) (rows-append n xs ys) ∙ sym (append-assoc (rowBits n x) (rowsBits n xs) (rowsBits n ys))
+
+rows-from : (n : ℕ) (words : List ℕ) (i k : ℕ) → rowsBits n (rowsFrom words i k) ≡ joined (λ j. rowBits n (rowAt words (i + j))) k
+unfolding rowsBits joined
+rows-from n words i zero = refl
+rows-from n words i (suc k) =
+    ap₂ (λ (x y : List Bool). x ++ y) (ap (λ (j : ℕ). rowBits n (rowAt words j)) (sym (add-zero i)))
+    (rows-from n words (suc i) k ∙ ap (λ (f : ℕ → List Bool). joined f k) (fun-ext (λ j. ap (λ (m : ℕ). rowBits n (rowAt words m)) (next j))))
+  where
+    next : (j : ℕ) → suc i + j ≡ i + suc j
+    next j = omega arith
+
+pub rows-joined : (n : ℕ) (words : List ℕ) (k : ℕ) → joined (λ j. rowBits n (rowAt words j)) k ≡ rowsBits n (rowsFrom words 0 k)
+rows-joined n words k =
+    ap (λ (f : ℕ → List Bool). joined f k) (fun-ext (λ j. ap (λ (m : ℕ). rowBits n (rowAt words m)) (front j))) ∙ sym (rows-from n words 0 k)
+  where
+    front : (j : ℕ) → j ≡ 0 + j
+    front j = omega arith
+
+-- left rows, right rows and state, stored one behind the other at the front
+pub inputs-stored : (d : Dimensions) (left right : List ℕ) (run : Run) (b b₁ b₂ b₃ : List ℕ) (p q : ℕ)
+    → b₁ ≡ stored b 0 (rowsBits (d .n) (rowsFrom left 0 (d .left))) → p ≡ 0 + (d .n + d .n) * d .left
+    → b₂ ≡ stored b₁ p (rowsBits (d .n) (rowsFrom right 0 (d .right))) → q ≡ p + (d .n + d .n) * d .right
+    → b₃ ≡ stored b₂ q (stateBits (d .n) (stateOf run)) → inputWires d ≤ length b
+    → b₃ ≡ over (bytesOf (inputBits d left right (stateOf run))) b
+unfolding inputBits
+inputs-stored d left right run b b₁ b₂ b₃ p q e₁ h₁ e₂ h₂ e₃ room =
+    let L = rowsBits (d .n) (rowsFrom left 0 (d .left)) in
+    let R = rowsBits (d .n) (rowsFrom right 0 (d .right)) in
+    let S = stateBits (d .n) (stateOf run) in
+    stored-then b 0 p L (R ++ S) e₁ (h₁ ∙ ap (λ (k : ℕ). 0 + k) (sym (table-wires left (d .left))))
+    (stored-then b₁ p q R S e₂ (h₂ ∙ ap (λ (k : ℕ). p + k) (sym (table-wires right (d .right)))) e₃)
+    ∙ ap (stored b 0) (sym (append-assoc L R S) ∙ ap (λ (l : List Bool). l ++ S) (sym (rows-append (d .n) (rowsFrom left 0 (d .left)) (rowsFrom right 0 (d .right)))))
+    ∙ stored-front b (inputBits d left right (stateOf run)) (omega (arith, input-length d left right (stateOf run)))
+  where
+    table-wires : (words : List ℕ) (k : ℕ) → length (rowsBits (d .n) (rowsFrom words 0 k)) ≡ (d .n + d .n) * k
+    table-wires words k = rows-length (d .n) (rowsFrom words 0 k) ∙ ap (λ (m : ℕ). (d .n + d .n) * m) (table-length words 0 k)

@@ -1,0 +1,50 @@
+-- `check` meets its contract: each test of the code is a condition of the definition, in its order.
+-- Assumes nothing.
+use mathlib.Core.Path.{sym, subst, _∙_}
+use Prim.Native.Nat.{ℕ, _≤_, _<_}
+use Rattle.wires.proofs.Checks.{refuse-tables, refuse-room, state-decides}
+use borrow.Author.Needs.{needs}
+use Rattle.wires.proofs.check.Statement.{statement}
+use Rattle.wires.proofs.check.Tie as tie
+
+accept-requires : tie.Need-accept-requires
+accept-requires c κs = search needs
+
+enum-told : tie.Need-enum-told
+enum-told c = search needs
+
+enum-known-refusal : tie.Need-enum-known-refusal
+enum-known-refusal c = search needs
+
+returns : tie.Need-returns
+returns c = let s = c .before .before .before .before .before .before in refuse-tables (s .args .d) (s .args .left .now) (s .args .right .now) (s .args .run) (s .args .room) _ (sym (c .before .before .before .accept .ensures) ∙ c .before .refusal .given .1)
+
+input-wires-requires : tie.Need-input-wires-requires
+input-wires-requires c κs = search needs
+
+returns-2 : tie.Need-returns-2
+returns-2 c = let s = c .before .before .before .before .before .before .before in
+    refuse-room (s .args .d) (s .args .left .now) (s .args .right .now) (s .args .run) (s .args .room) (sym (c .before .before .before .before .accept .ensures) ∙ c .before .before .enum-told .given .1)
+    (subst (λ (k : ℕ). s .args .room < k) (c .before .input-wires .ensures) (c .if1 .taken))
+
+check-state-requires : tie.Need-check-state-requires
+check-state-requires c κs = search needs
+
+returns-3 : tie.Need-returns-3
+returns-3 c = let s = c .before .before .before .before .before .before .before .before in
+    c .check-state .ensures
+    ∙ state-decides (s .args .d) (s .args .left .now) (s .args .right .now) (s .args .run) (s .args .room) (sym (c .before .before .before .before .before .accept .ensures) ∙ c .before .before .before .enum-told .given .1)
+    (subst (λ (k : ℕ). k ≤ s .args .room) (c .before .before .input-wires .ensures) (c .before .if1 .left))
+
+pub check-spec : {M : Type 1} → statement M
+check-spec =
+    tie.close
+    (tie.spec
+    accept-requires
+    enum-told
+    enum-known-refusal
+    returns
+    input-wires-requires
+    returns-2
+    check-state-requires
+    returns-3)

@@ -1,0 +1,24 @@
+-- `level_at` meets its contract.
+-- Assumes nothing.
+use borrow.Author.Tests.{lt-ltb, le-ltb}
+use borrow.Author.Needs.{needs}
+use Rattle.wires.proofs.packing.level_at.Statement.{statement}
+use Rattle.wires.proofs.packing.level_at.Tie as tie
+
+mul-result : tie.Need-mul-result
+mul-result c = search needs
+
+array-copy-out-result : tie.Need-array-copy-out-result
+array-copy-out-result c = search needs
+
+returns : tie.Need-returns
+returns c = rw (lt-ltb _ _ (c .before .if1 .taken))
+
+cast-t11 : tie.Need-cast-t11
+cast-t11 c = search needs
+
+returns-2 : tie.Need-returns-2
+returns-2 c = rw (le-ltb _ _ (c .if1 .left))
+
+pub level-at-spec : {M : Type 1} → statement M
+level-at-spec = tie.close (tie.spec mul-result array-copy-out-result returns cast-t11 returns-2)

@@ -1,0 +1,4 @@
+pub mod Layout
+pub mod Packing
+pub mod Reading
+pub mod Levels

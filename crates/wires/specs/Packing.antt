@@ -1,0 +1,31 @@
+-- Rows and a run packed into bytes, a byte a wire: document 01, "Circuit", refusals 1, 2, 4, 3, then 10, 12, 13.
+use Prim.Native.Nat.{ℕ}
+use mathlib.Core.Bool.{Bool}
+use mathlib.Core.List.{List, _∷_, _++_}
+use lib.Dec.{ltb}
+use lib.ListN.{length}
+use Rattle.refusals.specs.Checks.{Check, check, outcome, given}
+use Rattle.refusals.specs.declared.Refusal.the-variants.{Wires}
+use Rattle.tables.specs.declared.Dimensions.{Dimensions}
+use Rattle.tables.specs.Sizes.{inputWires}
+use Rattle.tables.specs.Rows.{rowsOf}
+use Rattle.tables.specs.Acceptance.{tableChecks}
+use Rattle.solver.specs.declared.Run.{Run}
+use Rattle.solver.specs.State.{State, stateOf}
+use Rattle.solver.specs.WellFormed.{stateChecks}
+use Rattle.gates.specs.Memory.{bytesOf}
+use Rattle.gates.specs.Evaluation.{over}
+use Rattle.wires.specs.Layout.{rowsBits, stateBits}
+
+-- the input values: left rows, right rows, state
+unfoldable pub inputBits : Dimensions → List ℕ → List ℕ → State → List Bool
+inputBits d left right s = rowsBits (d .n) (rowsOf d left right) ++ stateBits (d .n) s
+
+-- for so many lent bytes
+abbrev pub packChecks : Dimensions → List ℕ → List ℕ → Run → ℕ → List Check
+packChecks d left right run room = tableChecks d left right ++ (check (ltb room (inputWires d)) Wires ∷ stateChecks d run)
+
+-- the lent bytes afterwards: the input values, then what stood there; refused, as they were
+unfoldable pub packed : Dimensions → List ℕ → List ℕ → Run → List ℕ → List ℕ
+packed d left right run bytes =
+    given (outcome (packChecks d left right run (length bytes))) (over (bytesOf (inputBits d left right (stateOf run))) bytes) (λ r. bytes)
