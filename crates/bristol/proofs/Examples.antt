@@ -1,0 +1,42 @@
+-- Document 01's lines, computed: the header for n = 1 and one row each, its three gate lines, and whole texts.
+-- Assumes nothing.
+use mathlib.Core.Path.{_≡_, refl}
+use mathlib.Core.List.{[], _∷_, flatten}
+use Rattle.lexer.specs.Spelling.{bytes}
+use Rattle.text.specs.Decimal.{decimalWithin, decimal}
+use Rattle.tables.specs.declared.Dimensions.{Dimensions}
+use Rattle.gates.specs.Gates.Gate.{XOR, AND, INV}
+use Rattle.bristol.specs.Lines.{inputLine, outputLine, gateLine, gateLines, linesOf, circuitText}
+
+abbrev one : Dimensions
+one = record { n = 1; left = 1; right = 1 }
+
+pub second-header : inputLine one ≡ bytes "3 2 2 9\n"
+unfolding decimal decimalWithin
+second-header = refl
+
+pub third-header : outputLine one ≡ bytes "2 9 1\n"
+unfolding decimal decimalWithin
+third-header = refl
+
+pub xor-line : gateLine 13 (XOR 0 1) ≡ bytes "2 1 0 1 13 XOR\n"
+unfolding decimal decimalWithin
+xor-line = refl
+
+pub and-line : gateLine 13 (AND 0 1) ≡ bytes "2 1 0 1 13 AND\n"
+unfolding decimal decimalWithin
+and-line = refl
+
+pub inv-line : gateLine 14 (INV 13) ≡ bytes "1 1 13 14 INV\n"
+unfolding decimal decimalWithin
+inv-line = refl
+
+-- 13 inputs, so the first gate drives wire 13
+pub two-gates : circuitText one (XOR 0 1 ∷ INV 13 ∷ []) ≡ bytes "2 15\n3 2 2 9\n2 9 1\n\n2 1 0 1 13 XOR\n1 1 13 14 INV\n"
+unfolding circuitText linesOf gateLines flatten decimal decimalWithin
+two-gates = refl
+
+-- the largest dimensions: 64 wires a row, 3171 for the state
+pub largest : circuitText (record { n = 32; left = 128; right = 128 }) (AND 19554 7 ∷ []) ≡ bytes "1 19556\n3 8192 8192 3171\n2 3171 1\n\n2 1 19554 7 19555 AND\n"
+unfolding circuitText linesOf gateLines flatten decimal decimalWithin
+largest = refl

@@ -1,0 +1,6 @@
+pub mod Composing
+pub mod Numbering
+pub mod Requests
+pub mod Joining
+pub mod Examples
+pub mod Injective

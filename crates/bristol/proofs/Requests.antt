@@ -1,0 +1,106 @@
+-- What asking for a line gives, by what its checks find: each law computes the list of checks.
+-- Assumes nothing.
+use mathlib.Core.Path.{_≡_, refl, sym, ap, _∙_}
+use mathlib.Core.Bool.{Bool, true, false, not, _||_, cond}
+use mathlib.Core.List.{List, [], _∷_}
+use Prim.Native.Nat.{ℕ, _-_, _≤_, _<_}
+use native.Mathlib.Omega.{arith}
+use borrow.Author.Tests.{lt-ltb, le-ltb, not-false}
+use lib.Dec.{ltb}
+use lib.ListN.{length, take, replicate, List·getD-eq-default}
+use lib.Seq.{take-append-seam}
+use Rattle.refusals.specs.declared.Refusal.{Refusal}
+use Rattle.refusals.specs.declared.Refusal.the-variants.{Variables, RowCount, Gates, LineBuffer}
+use Rattle.refusals.specs.declared.Outcome.{Outcome}
+use Rattle.refusals.specs.declared.Outcome.the-variants.{Taken, Refused}
+use Rattle.refusals.specs.Checks.{check, unless, outcome, given}
+use Rattle.refusals.proofs.Outcomes.{outcome-taken, outcome-refused, unless-passed, unless-taken}
+use Rattle.text.specs.declared.Text.{Text}
+use Rattle.text.specs.Texts.{textOf}
+use Rattle.tables.specs.declared.Dimensions.{Dimensions}
+use Rattle.tables.specs.Sizes.{outside, sizeChecks, inputWires}
+use Rattle.gates.specs.Memory.{gatesOf, accepted}
+use Rattle.gates.specs.Evaluation.{over}
+use Rattle.bristol.specs.declared.Written.{Written}
+use Rattle.bristol.specs.declared.Written.the-variants as W
+use Rattle.bristol.specs.Lines.{linesOf}
+use Rattle.bristol.specs.Writing.{circuitChecks, lineAt, checks, written, filled}
+
+module _ (d : Dimensions) (ws : List ℕ) where
+  pub refuse-size : (q : Refusal) → outcome (sizeChecks (d .n) (d .left) (d .right)) ≡ Refused q → Refused q ≡ outcome (circuitChecks d ws)
+  refuse-size q e = sym (outcome-refused (sizeChecks (d .n) (d .left) (d .right)) (check (not (accepted (inputWires d) ws)) Gates ∷ []) q e)
+
+  module _ (s : outcome (sizeChecks (d .n) (d .left) (d .right)) ≡ Taken) where
+    -- the checks on the sizes are passed: the gates decide
+    sized : outcome (circuitChecks d ws) ≡ outcome (check (not (accepted (inputWires d) ws)) Gates ∷ [])
+    sized = outcome-taken (sizeChecks (d .n) (d .left) (d .right)) (check (not (accepted (inputWires d) ws)) Gates ∷ []) s
+
+    pub refuse-gates : not (accepted (inputWires d) ws) ≡ true → Refused Gates ≡ outcome (circuitChecks d ws)
+    refuse-gates e = sym (sized ∙ ap (λ (b : Bool). outcome (check b Gates ∷ [])) e)
+
+    pub take-circuit : not (accepted (inputWires d) ws) ≡ false → Taken ≡ outcome (circuitChecks d ws)
+    take-circuit e = sym (sized ∙ ap (λ (b : Bool). outcome (check b Gates ∷ [])) e)
+
+  -- a circuit that is taken has accepted gates
+  pub taken-accepted : outcome (circuitChecks d ws) ≡ Taken → accepted (inputWires d) ws ≡ true
+  taken-accepted e =
+      let gates = unless (not (accepted (inputWires d) ws)) (Refused Gates) Taken in
+      let rows = unless (outside 128 (d .left) || outside 128 (d .right)) (Refused RowCount) gates in
+      not-false _ (unless-passed (not (accepted (inputWires d) ws)) Gates Taken (unless-taken (outside 128 (d .left) || outside 128 (d .right)) RowCount gates (unless-taken (outside 32 (d .n)) Variables rows e)))
+
+  module _ (i : ℕ) (lent : List ℕ) where
+    -- what an outcome of the checks leads to
+    leads : (o : Outcome) → outcome (checks d ws i lent) ≡ o
+        → (written d ws i lent ≡ given o (cond (ltb i (length (linesOf d (gatesOf ws)))) (W.Line (length (lineAt d ws i))) W.Past) W.Refused)
+        × (filled d ws i lent ≡ given o (over (lineAt d ws i) lent) (λ r. lent))
+    leads o e = (
+      ap (λ (x : Outcome). given x (cond (ltb i (length (linesOf d (gatesOf ws)))) (W.Line (length (lineAt d ws i))) W.Past) W.Refused) e,
+      ap (λ (x : Outcome). given x (over (lineAt d ws i) lent) (λ r. lent)) e,
+    )
+
+    pub refuse-circuit : (q : Refusal) → outcome (circuitChecks d ws) ≡ Refused q → (W.Refused q ≡ written d ws i lent) × (lent ≡ filled d ws i lent)
+    refuse-circuit q e =
+        let p = leads (Refused q) (outcome-refused (circuitChecks d ws) (check (ltb (length lent) (length (lineAt d ws i))) LineBuffer ∷ []) q e) in
+        (sym (p .0), sym (p .1))
+
+    module _ (e : outcome (circuitChecks d ws) ≡ Taken) where
+      -- the room decides
+      roomy : (b : Bool) → ltb (length lent) (length (lineAt d ws i)) ≡ b → outcome (checks d ws i lent) ≡ outcome (check b LineBuffer ∷ [])
+      roomy b h =
+          outcome-taken (circuitChecks d ws) (check (ltb (length lent) (length (lineAt d ws i))) LineBuffer ∷ []) e
+          ∙ ap (λ (x : Bool). outcome (check x LineBuffer ∷ [])) h
+
+      pub past-last : length (linesOf d (gatesOf ws)) ≤ i → (W.Past ≡ written d ws i lent) × (lent ≡ filled d ws i lent)
+      past-last h =
+          let none : lineAt d ws i ≡ [] = List·getD-eq-default (linesOf d (gatesOf ws)) [] h in
+          let p = leads Taken (roomy false (ap (λ (l : List ℕ). ltb (length lent) (length l)) none ∙ le-ltb (length lent) 0 (omega arith))) in
+          let past : ltb i (length (linesOf d (gatesOf ws))) ≡ false = le-ltb _ _ h in
+          (sym (p .0 ∙ ap (λ (b : Bool). cond b (W.Line (length (lineAt d ws i))) W.Past) past), sym (p .1 ∙ ap (λ (l : List ℕ). over l lent) none))
+
+      -- a line that there is, put if it fits
+      pub line-put : i < length (linesOf d (gatesOf ws))
+          → (cond (ltb (length lent) (length (lineAt d ws i))) (W.Refused LineBuffer) (W.Line (length (lineAt d ws i))) ≡ written d ws i lent)
+          × (cond (ltb (length lent) (length (lineAt d ws i))) lent (over (lineAt d ws i) lent) ≡ filled d ws i lent)
+      line-put h = go (ltb (length lent) (length (lineAt d ws i))) refl
+        where
+          there : ltb i (length (linesOf d (gatesOf ws))) ≡ true
+          there = lt-ltb _ _ h
+
+          go : (b : Bool) → ltb (length lent) (length (lineAt d ws i)) ≡ b
+              → (cond b (W.Refused LineBuffer) (W.Line (length (lineAt d ws i))) ≡ written d ws i lent)
+              × (cond b lent (over (lineAt d ws i) lent) ≡ filled d ws i lent)
+          go true q = let p = leads (Refused LineBuffer) (roomy true q) in (sym (p .0), sym (p .1))
+          go false q =
+              let p = leads Taken (roomy false q) in
+              (sym (p .0 ∙ ap (λ (b : Bool). cond b (W.Line (length (lineAt d ws i))) W.Past) there), sym (p .1))
+
+-- a text by value put: its bytes are those of the line
+pub text-put : (l lent : List ℕ) (t : Text) (r : Written) (out : List ℕ) → t ≡ textOf l
+    → r ≡ cond (ltb (length lent) (t .length)) (W.Refused LineBuffer) (W.Line (t .length))
+    → out ≡ cond (ltb (length lent) (t .length)) lent (over (take (t .length) (t .bytes)) lent)
+    → (r ≡ cond (ltb (length lent) (length l)) (W.Refused LineBuffer) (W.Line (length l))) × (out ≡ cond (ltb (length lent) (length l)) lent (over l lent))
+text-put l lent t r out e hr ho = (
+  hr ∙ ap (λ (x : Text). cond (ltb (length lent) (x .length)) (W.Refused LineBuffer) (W.Line (x .length))) e,
+  ho ∙ ap (λ (x : Text). cond (ltb (length lent) (x .length)) lent (over (take (x .length) (x .bytes)) lent)) e
+      ∙ ap (λ (x : List ℕ). cond (ltb (length lent) (length l)) lent (over x lent)) (take-append-seam l (replicate (256 - length l) 0)),
+)

@@ -1,0 +1,53 @@
+-- The circuit text, Bristol Fashion, by its lines: document 01, "Circuit".
+use Prim.Native.Nat.{ℕ, suc, _+_, _*_}
+use mathlib.Core.List.{List, [], _∷_, _++_, flatten}
+use lib.ListN.{length}
+use Rattle.lexer.specs.Spelling.{bytes}
+use Rattle.text.specs.Decimal.{decimal}
+use Rattle.tables.specs.declared.Dimensions.{Dimensions}
+use Rattle.tables.specs.Sizes.{stateWires, inputWires}
+use Rattle.gates.specs.Gates.{Gate}
+use Rattle.gates.specs.Gates.Gate.{XOR, AND, INV}
+
+-- fields with single spaces between them, then LF; with no field, the blank line
+abbrev pub line : List (List ℕ) → List ℕ
+line [] = 10 ∷ []
+line (f ∷ []) = f ++ (10 ∷ [])
+line (f ∷ g ∷ fs) = f ++ (32 ∷ line (g ∷ fs))
+
+-- the first header line: the number of gates and of wires
+abbrev pub sizeLine : ℕ → ℕ → List ℕ
+sizeLine inputs gates = line (decimal gates ∷ decimal (inputs + gates) ∷ [])
+
+-- the second: the number of input values, and the widths of left rows, right rows and state
+abbrev pub inputLine : Dimensions → List ℕ
+inputLine d = line (bytes "3" ∷ decimal (2 * d .n * d .left) ∷ decimal (2 * d .n * d .right) ∷ decimal (stateWires (d .n)) ∷ [])
+
+-- the third: the number of output values, and the widths of the next state and of the closing wire
+abbrev pub outputLine : Dimensions → List ℕ
+outputLine d = line (bytes "2" ∷ decimal (stateWires (d .n)) ∷ bytes "1" ∷ [])
+
+-- a gate that drives a wire: how many wires go in and come out, which, and the kind
+abbrev pub gateFields : ℕ → Gate → List (List ℕ)
+gateFields wire (XOR a b) = bytes "2" ∷ bytes "1" ∷ decimal a ∷ decimal b ∷ decimal wire ∷ bytes "XOR" ∷ []
+gateFields wire (AND a b) = bytes "2" ∷ bytes "1" ∷ decimal a ∷ decimal b ∷ decimal wire ∷ bytes "AND" ∷ []
+gateFields wire (INV a) = bytes "1" ∷ bytes "1" ∷ decimal a ∷ decimal wire ∷ bytes "INV" ∷ []
+
+abbrev pub gateLine : ℕ → Gate → List ℕ
+gateLine wire gate = line (gateFields wire gate)
+
+-- a line a gate, the first of which drives a wire and each later one the next
+unfoldable pub gateLines : ℕ → List Gate → List (List ℕ)
+gateLines wire [] = []
+gateLines wire (g ∷ gs) = gateLine wire g ∷ gateLines (suc wire) gs
+
+-- three header lines, the blank line, a line a gate
+unfoldable pub linesOf : Dimensions → List Gate → List (List ℕ)
+unfolding gateLines
+linesOf d gates =
+    sizeLine (inputWires d) (length gates) ∷ inputLine d ∷ outputLine d ∷ line [] ∷ gateLines (inputWires d) gates
+
+-- the text is its lines, joined
+unfoldable pub circuitText : Dimensions → List Gate → List ℕ
+unfolding linesOf flatten
+circuitText d gates = flatten (linesOf d gates)

@@ -1,0 +1,37 @@
+-- What the writer gives when a line is asked for, and what it leaves in the lent bytes: document 01, "Circuit", refusals 1, 2, 9 and 11.
+use Prim.Native.Nat.{ℕ}
+use mathlib.Core.Bool.{not, cond}
+use mathlib.Core.List.{List, [], _∷_, _++_}
+use lib.ListN.{length, getD}
+use lib.Dec.{ltb}
+use Rattle.refusals.specs.declared.Refusal.the-variants.{Gates, LineBuffer}
+use Rattle.refusals.specs.Checks.{Check, check, outcome, given}
+use Rattle.tables.specs.declared.Dimensions.{Dimensions}
+use Rattle.tables.specs.Sizes.{sizeChecks, inputWires}
+use Rattle.gates.specs.Memory.{gatesOf, accepted}
+use Rattle.gates.specs.Evaluation.{over}
+use Rattle.bristol.specs.declared.Written.{Written}
+use Rattle.bristol.specs.declared.Written.the-variants.{Line, Past, Refused}
+use Rattle.bristol.specs.Lines.{linesOf}
+
+-- 1, 2, 9: words that are no gates behind the inputs
+abbrev pub circuitChecks : Dimensions → List ℕ → List Check
+circuitChecks d words = sizeChecks (d .n) (d .left) (d .right) ++ (check (not (accepted (inputWires d) words)) Gates ∷ [])
+
+-- the line of a number, from 0, with its LF; past the last line no byte
+abbrev pub lineAt : Dimensions → List ℕ → ℕ → List ℕ
+lineAt d words number = getD (linesOf d (gatesOf words)) number []
+
+-- 1, 2, 9, then 11: the line is longer than the lent bytes
+abbrev pub checks : Dimensions → List ℕ → ℕ → List ℕ → List Check
+checks d words number lent = circuitChecks d words ++ (check (ltb (length lent) (length (lineAt d words number))) LineBuffer ∷ [])
+
+-- the line's length, or that the number is past the last line, or the refusal
+abbrev pub written : Dimensions → List ℕ → ℕ → List ℕ → Written
+written d words number lent =
+    given (outcome (checks d words number lent))
+    (cond (ltb number (length (linesOf d (gatesOf words)))) (Line (length (lineAt d words number))) Past) Refused
+
+-- the lent bytes afterwards: the line, then the bytes that stood there; refused, as they were
+abbrev pub filled : Dimensions → List ℕ → ℕ → List ℕ → List ℕ
+filled d words number lent = given (outcome (checks d words number lent)) (over (lineAt d words number) lent) (λ r. lent)
