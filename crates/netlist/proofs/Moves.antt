@@ -1,0 +1,160 @@
+-- What the signals of a rule make of a state's bits: `moved` writes out the sections from depth select to output, and each rule's signals make the bits of the next state.
+-- The depth is one-hot, so the XOR over the levels is what stands at the last one.
+-- Assumes nothing.
+use mathlib.Core.Path.{_≡_, refl, sym, ap, ap₂, _∙_}
+use mathlib.Core.Bool.{Bool, true, false, _&&_}
+use mathlib.Core.List.{List, _∷_}
+use Prim.Native.Nat.{ℕ, suc, _<_}
+use lib.Dec.{eqb, eqb·suc-suc}
+use lib.ListN.{length}
+use borrow.Author.Tests.{eqb-true}
+use Rattle.words.specs.Booleans.{_⊕_}
+use Rattle.words.specs.Sets.{bit, put}
+use Rattle.words.proofs.Truth.{on, or-false, taut2, same, same-eq}
+use Rattle.words.proofs.Bits.{bit-put}
+use Rattle.solver.specs.declared.Level.{Level}
+use Rattle.solver.specs.declared.Standing.{Standing}
+use Rattle.solver.specs.declared.Standing.the-variants.{Open}
+use Rattle.solver.specs.State.{State}
+use Rattle.wires.specs.Layout.{Bits, onLevel, isSatisfied, isRefuted, bitsIn}
+use Rattle.netlist.proofs.Interface.{Signals, Same}
+use Rattle.netlist.proofs.Chains.{xor-false, parity, parity-none, parity-at}
+use Rattle.netlist.proofs.Levels.{level-last, level-added, level-removed}
+
+module _ (n : ℕ) (g : Signals) (var : ℕ → Bool) (s : State) where
+  abbrev now : Bits
+  now = bitsIn s
+
+  -- the wires pd and ps of number k
+  abbrev pub popAt : ℕ → Bool
+  popAt k = g .pop && now .D k
+
+  abbrev pub pushAt : ℕ → Bool
+  pushAt k = g .push && eqb k (suc (length (s .levels)))
+
+  abbrev pub moved : Bits
+  moved = record {
+    T = λ i. now .T i ⊕ (((g .pop && now .T i) ⊕ parity (λ l. popAt (suc l) && now .LT l i) n) ⊕ (g .pos && var i));
+    F = λ i. now .F i ⊕ (((g .pop && now .F i) ⊕ parity (λ l. popAt (suc l) && (now .LF l i ⊕ now .LV l i)) n) ⊕ (g .neg && var i));
+    D = λ k. now .D k ⊕ (((popAt k ⊕ pushAt k) ⊕ popAt (suc k)) ⊕ pushAt (suc k));
+    LT = λ l i. now .LT l i ⊕ ((popAt (suc l) && now .LT l i) ⊕ (pushAt (suc l) && now .T i));
+    LF = λ l i. now .LF l i ⊕ ((popAt (suc l) && now .LF l i) ⊕ (pushAt (suc l) && now .F i));
+    LV = λ l i. now .LV l i ⊕ ((popAt (suc l) && now .LV l i) ⊕ (pushAt (suc l) && var i));
+    SAT = now .SAT ⊕ g .done;
+    REF = now .REF ⊕ g .refute;
+  }
+
+-- a wire that no level changes
+kept : (a c : Bool) (n : ℕ) → a ⊕ (parity (λ l. false) n ⊕ c) ≡ a ⊕ c
+kept a c n = ap (λ (x : Bool). a ⊕ (x ⊕ c)) (parity-none (λ l. false) n (λ l b. refl))
+
+kept-all : (a : Bool) (n : ℕ) → a ⊕ (parity (λ l. false) n ⊕ false) ≡ a
+kept-all a n = kept a false n ∙ xor-false a
+
+-- a variable that a word has not is put in by XOR
+put-xor : (w v i : ℕ) → bit w v ≡ false → bit w i ⊕ eqb i v ≡ bit (put w v) i
+put-xor w v i h =
+    on (eqb i v)
+    (λ e. rw (bit-put, e, eqb-true i v e, h))
+    (λ e. rw (bit-put, e) (xor-false (bit w i) ∙ sym (or-false (bit w i))))
+
+-- ---- no level added or removed
+
+module _ (n t f : ℕ) (ls : List Level) (var : ℕ → Bool) where
+  -- nothing changes but the closing bits
+  pub moved-closing : (from to : Standing) (d r : Bool) → isSatisfied from ⊕ d ≡ isSatisfied to → isRefuted from ⊕ r ≡ isRefuted to
+      → Same n (moved n (record { done = d; refute = r; pop = false; push = false; neg = false; pos = false }) var (record { standing = from; t = t; f = f; levels = ls }))
+      (bitsIn (record { standing = to; t = t; f = f; levels = ls }))
+  moved-closing from to d r hs hr = record {
+    same-T = λ i b. kept-all (bit t i) n;
+    same-F = λ i b. kept-all (bit f i) n;
+    same-D = λ k b. xor-false _;
+    same-LT = λ l i b c. xor-false _;
+    same-LF = λ l i b c. xor-false _;
+    same-LV = λ l i b c. xor-false _;
+    same-SAT = hs;
+    same-REF = hr;
+  }
+
+  module _ (v : ℕ) (picks : (i : ℕ) → i < n → var i ≡ eqb i v) where
+    put-in : (x i : ℕ) → i < n → bit x v ≡ false → bit x i ⊕ (parity (λ l. false) n ⊕ var i) ≡ bit (put x v) i
+    put-in x i b h = kept (bit x i) (var i) n ∙ ap (λ (y : Bool). bit x i ⊕ y) (picks i b) ∙ put-xor x v i h
+
+    pub moved-true : bit t v ≡ false
+        → Same n (moved n (record { done = false; refute = false; pop = false; push = false; neg = false; pos = true }) var (record { standing = Open; t = t; f = f; levels = ls }))
+        (bitsIn (record { standing = Open; t = put t v; f = f; levels = ls }))
+    moved-true h = record {
+      same-T = λ i b. put-in t i b h;
+      same-F = λ i b. kept-all (bit f i) n;
+      same-D = λ k b. xor-false _;
+      same-LT = λ l i b c. xor-false _;
+      same-LF = λ l i b c. xor-false _;
+      same-LV = λ l i b c. xor-false _;
+      same-SAT = refl;
+      same-REF = refl;
+    }
+
+    pub moved-false : bit f v ≡ false
+        → Same n (moved n (record { done = false; refute = false; pop = false; push = false; neg = true; pos = false }) var (record { standing = Open; t = t; f = f; levels = ls }))
+        (bitsIn (record { standing = Open; t = t; f = put f v; levels = ls }))
+    moved-false h = record {
+      same-T = λ i b. kept-all (bit t i) n;
+      same-F = λ i b. put-in f i b h;
+      same-D = λ k b. xor-false _;
+      same-LT = λ l i b c. xor-false _;
+      same-LF = λ l i b c. xor-false _;
+      same-LV = λ l i b c. xor-false _;
+      same-SAT = refl;
+      same-REF = refl;
+    }
+
+    -- ---- a level added
+
+    pub moved-choice : bit t v ≡ false
+        → Same n (moved n (record { done = false; refute = false; pop = false; push = true; neg = false; pos = true }) var (record { standing = Open; t = t; f = f; levels = ls }))
+        (bitsIn (record { standing = Open; t = put t v; f = f; levels = record { t = t; f = f; chosen = v } ∷ ls }))
+    moved-choice h = record {
+      same-T = λ i b. put-in t i b h;
+      same-F = λ i b. kept-all (bit f i) n;
+      same-D = λ k b. simp eqb·suc-suc (same-eq (taut2 (λ a b. same (a ⊕ ((b ⊕ false) ⊕ a)) b) refl (eqb k (length ls)) (eqb k (suc (length ls)))));
+      same-LT = λ l i b c. simp eqb·suc-suc (level-added (λ x. bit (x .t) i) (record { t = t; f = f; chosen = v }) ls l);
+      same-LF = λ l i b c. simp eqb·suc-suc (level-added (λ x. bit (x .f) i) (record { t = t; f = f; chosen = v }) ls l);
+      same-LV = λ l i b c. simp eqb·suc-suc (ap (λ (y : Bool). onLevel (λ x. eqb i (x .chosen)) ls l ⊕ (eqb l (length ls) && y)) (picks i c)
+          ∙ level-added (λ x. eqb i (x .chosen)) (record { t = t; f = f; chosen = v }) ls l);
+      same-SAT = refl;
+      same-REF = refl;
+    }
+
+-- ---- the last level removed
+
+module _ (n t f : ℕ) (l : Level) (ls : List Level) (var : ℕ → Bool) (few : length ls < n) where
+  abbrev d : ℕ
+  d = length ls
+
+  -- what the last level has
+  restored : (g : Level → Bool) → parity (λ k. eqb k d && onLevel g (l ∷ ls) k) n ≡ g l
+  restored g = parity-at (λ k. onLevel g (l ∷ ls) k) n d few ∙ level-last g l ls
+
+  restored-two : (g h : Level → Bool) → parity (λ k. eqb k d && (onLevel g (l ∷ ls) k ⊕ onLevel h (l ∷ ls) k)) n ≡ g l ⊕ h l
+  restored-two g h = parity-at (λ k. onLevel g (l ∷ ls) k ⊕ onLevel h (l ∷ ls) k) n d few ∙ ap₂ _⊕_ (level-last g l ls) (level-last h l ls)
+
+  taken : (a x : Bool) → a ⊕ ((a ⊕ x) ⊕ false) ≡ x
+  taken a x = same-eq (taut2 (λ a x. same (a ⊕ ((a ⊕ x) ⊕ false)) x) refl a x)
+
+  removed : (g : Level → Bool) (k : ℕ) → onLevel g (l ∷ ls) k ⊕ ((eqb k d && onLevel g (l ∷ ls) k) ⊕ false) ≡ onLevel g ls k
+  removed g k = ap (λ (x : Bool). onLevel g (l ∷ ls) k ⊕ x) (xor-false (eqb k d && onLevel g (l ∷ ls) k)) ∙ level-removed g l ls k
+
+  pub moved-back : bit (l .f) (l .chosen) ≡ false
+      → Same n (moved n (record { done = false; refute = false; pop = true; push = false; neg = false; pos = false }) var (record { standing = Open; t = t; f = f; levels = l ∷ ls }))
+      (bitsIn (record { standing = Open; t = l .t; f = put (l .f) (l .chosen); levels = ls }))
+  moved-back h = record {
+    same-T = λ i b. simp eqb·suc-suc (ap (λ (x : Bool). bit t i ⊕ ((bit t i ⊕ x) ⊕ false)) (restored (λ x. bit (x .t) i)) ∙ taken (bit t i) (bit (l .t) i));
+    same-F = λ i b. simp eqb·suc-suc (ap (λ (x : Bool). bit f i ⊕ ((bit f i ⊕ x) ⊕ false)) (restored-two (λ x. bit (x .f) i) (λ x. eqb i (x .chosen)))
+        ∙ taken (bit f i) (bit (l .f) i ⊕ eqb i (l .chosen)) ∙ put-xor (l .f) (l .chosen) i h);
+    same-D = λ k b. simp eqb·suc-suc (same-eq (taut2 (λ a b. same (a ⊕ (((a ⊕ false) ⊕ b) ⊕ false)) b) refl (eqb k (suc d)) (eqb k d)));
+    same-LT = λ k i b c. simp eqb·suc-suc (removed (λ x. bit (x .t) i) k);
+    same-LF = λ k i b c. simp eqb·suc-suc (removed (λ x. bit (x .f) i) k);
+    same-LV = λ k i b c. simp eqb·suc-suc (removed (λ x. eqb i (x .chosen)) k);
+    same-SAT = refl;
+    same-REF = refl;
+  }

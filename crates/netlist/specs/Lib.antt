@@ -1,0 +1,5 @@
+pub mod Templates
+pub mod Arrays
+pub mod Netlist
+pub mod Outputs
+pub mod Generation
