@@ -1,0 +1,180 @@
+-- Demand 3: the repeats are a number of giant steps with their marks, which `Histories` gives as one equation; each part is read off it.
+-- Assumes nothing.
+use mathlib.Core.Path.{_≡_, refl, sym, ap, ap₂, _∙_}
+use mathlib.Core.Bool.{Bool, true, false, cond, true≢false}
+use mathlib.Core.List.{List}
+use Prim.Native.Nat.{ℕ, zero, suc, min, _≤_, _<_}
+use native.Mathlib.Omega.{arith}
+use lib.Dec.{ltb}
+use lib.ListN.{length, getD}
+use borrow.Author.Tests.{eq-eqb, ne-eqb, ltb-true, ltb-false}
+use Rattle.words.proofs.Truth.{on, or-true}
+use Rattle.tables.specs.declared.Dimensions.{Dimensions}
+use Rattle.tables.specs.declared.Row.{Row}
+use Rattle.tables.specs.Rows.{rowsOf}
+use Rattle.solver.specs.declared.Answer.{Answer}
+use Rattle.solver.specs.declared.Run.{Run}
+use Rattle.solver.specs.declared.Standing.{Standing}
+use Rattle.solver.specs.declared.Standing.the-variants.{Open, Satisfied, Refuted}
+use Rattle.solver.specs.declared.Verdict.{Verdict}
+use Rattle.solver.specs.declared.Verdict.the-variants.{Satisfiable, Unsatisfiable, Unknown}
+use Rattle.solver.specs.State.{State, fresh, runOf}
+use Rattle.solver.specs.Step.{ifOpen, after}
+use Rattle.solver.specs.Answers.{Ran, runFrom, verdictOf, answerOf}
+use Rattle.solver.proofs.StepLaws.{fresh-well-formed}
+use Rattle.solver.proofs.RunLaws.{RunOf, run-of}
+use Rattle.gates.specs.Memory.{gatesOf}
+use Rattle.wires.specs.Layout.{upto}
+use Rattle.wires.proofs.Series.{length-upto, upto-at, upto-cong}
+use Rattle.netlist.specs.Outputs.{closed}
+use Rattle.bristol.specs.Lines.{circuitText}
+use Rattle.lines.specs.Answers.{answerText}
+use Rattle.repeats.specs.Repeats.{Attempt, History, circuitWords, anyMark, ended, longOnes}
+use Rattle.repeats.specs.Demand3.{Accepts, historyOf, Follows, answerFor, Ends, seen, Demand3}
+use Rattle.repeats.proofs.Applying.{every}
+use Rattle.repeats.proofs.Histories.{closed-open, open-closed, repeated, number, repeats-are}
+
+-- ---- marks
+
+no-mark : (f : ℕ → Bool) (k : ℕ) → ((i : ℕ) → i < k → f i ≡ false) → anyMark (upto f k) ≡ false
+unfolding upto
+no-mark f zero h = refl
+no-mark f (suc k) h = rw (h 0 (omega arith)) (no-mark (λ i. f (suc i)) k (λ i b. h (suc i) (omega arith)))
+
+some-mark : (f : ℕ → Bool) (k i : ℕ) → i < k → f i ≡ true → anyMark (upto f k) ≡ true
+unfolding upto
+some-mark f zero i b e = absurd (omega arith)
+some-mark f (suc k) zero b e = rw e
+some-mark f (suc k) (suc i) b e = rw (some-mark (λ j. f (suc j)) k i (omega arith) e) (or-true (f 0))
+
+-- the marks that an answer has: the last one says whether it is known
+abbrev known : Verdict → Bool
+known (Satisfiable model) = true
+known Unsatisfiable = true
+known Unknown = false
+
+known-closed : (st : Standing) (t : ℕ) → ifOpen st false true ≡ known (verdictOf st t)
+known-closed Open t = refl
+known-closed Satisfied t = refl
+known-closed Refuted t = refl
+
+abbrev markBy : Answer → ℕ → Bool
+markBy a i = cond (ltb (suc i) (a .count)) false (known (a .verdict))
+
+module _ (d : Dimensions) (left right : List ℕ) (acc : Accepts d left right) (budget : ℕ) where
+  abbrev rows : List Row
+  rows = rowsOf d left right
+
+  abbrev final : Ran
+  final = runFrom (d .n) rows budget fresh
+
+  law : RunOf (d .n) rows budget fresh final
+  law = run-of (d .n) rows budget fresh
+
+  abbrev mark : ℕ → Bool
+  mark i = closed (after (d .n) rows (suc i) fresh)
+
+  early : (i : ℕ) → suc i < final .steps → mark i ≡ false
+  early i h = open-closed (law .open-before (suc i) h)
+
+  -- a run that ends before the budget is closed
+  closes : final .steps < budget → closed (final .final) ≡ true
+  closes h = on (closed (final .final)) (λ e. e) (λ e. absurd (omega (arith, law .open-whole (closed-open (final .final .standing) e))))
+
+  -- the last step's mark
+  last-mark : (i : ℕ) → suc i ≡ final .steps → mark i ≡ closed (final .final)
+  last-mark i e = ap (λ (k : ℕ). closed (after (d .n) rows k fresh)) e ∙ ap closed (sym (law .final-after))
+
+  -- no step leaves the fresh state
+  start : final .steps ≡ 0 → after (d .n) rows (final .steps) fresh .standing ≡ Open
+  unfolding after
+  start e = ap (λ (k : ℕ). after (d .n) rows k fresh .standing) e
+
+  module _ (attempts : List Attempt) where
+    abbrev whole : History
+    whole = historyOf d left right budget attempts
+
+    abbrev k : ℕ
+    k = number d left right acc attempts budget fresh
+
+    is : whole ≡ repeated d left right acc fresh k
+    is = repeats-are d left right acc attempts budget fresh (fresh-well-formed (d .n)) refl
+
+    marks-are : whole .marks ≡ upto mark k
+    marks-are = ap (λ (h : History). h .marks) is
+
+    size : length (whole .marks) ≡ k
+    size = ap length marks-are ∙ length-upto mark k
+
+    pub follows : Follows d left right budget whole
+    follows = record {
+      run-is = ap (λ (h : History). h .run) is ∙ ap (λ (j : ℕ). runOf (d .n) (after (d .n) rows j fresh)) (sym size);
+      mark-is = λ i b. ap (λ (l : List Bool). getD l i false) marks-are ∙ upto-at mark k i (omega (arith, size));
+      most = omega (arith, size, law .most);
+    }
+
+    -- repeats that are fewer than the steps have not ended
+    unended : k < final .steps → ended budget (whole .marks) ≡ false
+    unended h =
+        let e : anyMark (whole .marks) ≡ false = ap anyMark marks-are ∙ no-mark mark k (λ i b. early i (omega arith)) in
+        rw e (ne-eqb (length (whole .marks)) budget (λ q. omega (arith, size, law .most)))
+
+    all-steps : ended budget (whole .marks) ≡ true → k ≡ final .steps
+    all-steps e =
+        on (ltb k (final .steps))
+        (λ q. absurd (true≢false (sym e ∙ unended (ltb-true k (final .steps) q))))
+        (λ q. omega (arith, ltb-false k (final .steps) q))
+
+    pub ends : ended budget (whole .marks) ≡ true → Ends d left right budget whole
+    unfolding answerOf runOf
+    ends e = record {
+      count-is = size ∙ all-steps e;
+      verdict-is =
+          ap (λ (x : Run). verdictOf (x .standing) (x .t))
+          (ap (λ (h : History). h .run) is ∙ ap (λ (j : ℕ). runOf (d .n) (after (d .n) rows j fresh)) (all-steps e) ∙ ap (runOf (d .n)) (sym (law .final-after)));
+    }
+
+    reaches : final .steps ≤ longOnes d attempts → ended budget (whole .marks) ≡ true
+    reaches h =
+        let e : k ≡ final .steps = omega arith in
+        on (ltb (final .steps) budget)
+        (λ q. go (final .steps) refl (closes (ltb-true _ _ q)) e)
+        (λ q. rw (eq-eqb (length (whole .marks)) budget (omega (arith, size, law .most, ltb-false (final .steps) budget q))) (or-true (anyMark (whole .marks))))
+      where
+        go : (j : ℕ) → final .steps ≡ j → closed (final .final) ≡ true → k ≡ final .steps → ended budget (whole .marks) ≡ true
+        go zero q c e = absurd (true≢false (sym c ∙ open-closed (ap (λ (s : State). s .standing) (law .final-after) ∙ start q)))
+        go (suc i) q c e = rw (ap anyMark marks-are ∙ some-mark mark k i (omega arith) (last-mark i (sym q) ∙ c))
+
+    pub reached : answerFor d left right budget .count ≤ longOnes d attempts → ended budget (whole .marks) ≡ true
+    unfolding answerOf
+    reached h = reaches h
+
+    marks-by : ended budget (whole .marks) ≡ true → whole .marks ≡ upto (markBy (answerFor d left right budget)) (answerFor d left right budget .count)
+    unfolding answerOf
+    marks-by e =
+        marks-are ∙ ap (upto mark) (all-steps e)
+        ∙ upto-cong mark (markBy (answerFor d left right budget)) (final .steps)
+        (λ i b.
+        on (ltb (suc i) (final .steps))
+        (λ q. early i (ltb-true _ _ q) ∙ rw q)
+        (λ q. last-mark i (omega (arith, ltb-false (suc i) (final .steps) q)) ∙ known-closed (final .final .standing) (final .final .t) ∙ rw q))
+
+-- what is seen goes by the answer alone
+same-seen : (d : Dimensions) (left right left′ right′ : List ℕ) → Accepts d left right → Accepts d left′ right′
+    → (budget : ℕ) (attempts attempts′ : List Attempt)
+    → answerFor d left right budget ≡ answerFor d left′ right′ budget
+    → ended budget (historyOf d left right budget attempts .marks) ≡ true → ended budget (historyOf d left′ right′ budget attempts′ .marks) ≡ true
+    → seen d left right budget attempts ≡ seen d left′ right′ budget attempts′
+same-seen d left right left′ right′ acc acc′ budget attempts attempts′ q e e′ =
+    ap₂ (λ (m : List Bool) (a : Answer). record { text = circuitText d (gatesOf (circuitWords d)); number = length m; marks = m; printed = answerText (min (d .n) 32) a })
+    (marks-by d left right acc budget attempts e ∙ ap (λ (a : Answer). upto (markBy a) (a .count)) q
+    ∙ sym (marks-by d left′ right′ acc′ budget attempts′ e′))
+    q
+
+pub demand3 : (d : Dimensions) → Demand3 d
+demand3 d = record {
+  every-state = λ left right acc. every d left right acc;
+  history = λ left right acc budget attempts. follows d left right acc budget attempts;
+  end = λ left right acc budget attempts. (ends d left right acc budget attempts, reached d left right acc budget attempts);
+  secrecy = λ left right left′ right′ acc acc′ budget attempts attempts′. same-seen d left right left′ right′ acc acc′ budget attempts attempts′;
+}

@@ -1,0 +1,4 @@
+pub mod Judging
+pub mod Applying
+pub mod Histories
+pub mod Demand3

@@ -1,0 +1,54 @@
+-- One application of a circuit to a run: document 01, "Circuit". Turned back by packing, 1, 2, 4, 3, 10, 12, 13, by evaluation, 9, 10, or by reading back, 12.
+use Prim.Native.Nat.{ℕ, _+_, _-_, _/_}
+use mathlib.Core.Bool.{false}
+use mathlib.Core.List.{List, _++_}
+use lib.Dec.{eqb}
+use lib.ListN.{length, getD, take, drop}
+use Rattle.refusals.specs.Checks.{outcome, given}
+use Rattle.refusals.specs.declared.Outcome.{Outcome}
+use Rattle.refusals.specs.declared.Outcome.the-variants.{Taken, Refused}
+use Rattle.refusals.specs.declared.Refusal.{Refusal}
+use Rattle.tables.specs.declared.Dimensions.{Dimensions}
+use Rattle.tables.specs.Sizes.{stateWires, inputWires}
+use Rattle.solver.specs.declared.Run.{Run}
+use Rattle.gates.specs.Evaluation.{checks, filled}
+use Rattle.wires.specs.Packing.{packChecks, packed}
+use Rattle.wires.specs.Reading.{readBack}
+use Rattle.repeats.specs.declared.Applied.{Applied}
+
+-- a refusal leaves the run as it was and has no mark
+abbrev pub turnedBack : Run → Refusal → Applied
+turnedBack run r = record { outcome = Refused r; run = run; mark = false }
+
+-- the next run from a circuit's output wires, and its mark, the closing wire behind the state's
+unfoldable pub nextRun : ℕ → Run → List ℕ → Applied
+nextRun n run outputs =
+    let read = readBack n outputs in
+    given (read .outcome) (record { outcome = Taken; run = read .run; mark = eqb (getD outputs (stateWires n) 0) 1 }) (turnedBack run)
+
+-- the last 3n² + 3n + 4 wires that the evaluator fills
+abbrev pub outputsIn : Dimensions → List ℕ → List ℕ → List ℕ
+outputsIn d gates wires = take (stateWires (d .n) + 1) (drop (inputWires d + length gates / 3 - (stateWires (d .n) + 1)) wires)
+
+-- the packed bytes, the evaluator's inputs
+abbrev pub inputs : Dimensions → List ℕ → List ℕ → Run → List ℕ → List ℕ
+inputs d left right run bytes = take (inputWires d) (packed d left right run bytes)
+
+module _ (d : Dimensions) (left right gates : List ℕ) (run : Run) (bytes wires : List ℕ) where
+  -- what packing and evaluation say, before a byte is written
+  unfoldable pub judged : Outcome
+  judged = outcome (packChecks d left right run (length bytes) ++ checks gates (inputs d left right run bytes) wires)
+
+  -- the lent buffers afterwards: as they were, if packing or evaluation refuses; what reading back refuses leaves the packed bytes and the wires' values
+  unfoldable pub bytesAfter : List ℕ
+  unfolding judged
+  bytesAfter = given judged (packed d left right run bytes) (λ r. bytes)
+
+  unfoldable pub wiresAfter : List ℕ
+  unfolding judged
+  wiresAfter = given judged (filled gates (inputs d left right run bytes) wires) (λ r. wires)
+
+  -- the next run and its mark; refused, the run as it was
+  unfoldable pub applied : Applied
+  unfolding judged wiresAfter nextRun
+  applied = given judged (nextRun (d .n) run (outputsIn d gates wiresAfter)) (turnedBack run)

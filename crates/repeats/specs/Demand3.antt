@@ -1,0 +1,92 @@
+-- Demand 3, as one statement about the generated circuit of some dimensions: every state, history, end and secrecy.
+use Prim.Native.Nat.{ℕ, suc, _≤_, _<_, min}
+use mathlib.Core.Path.{_≡_}
+use mathlib.Core.Bool.{Bool, true, false}
+use mathlib.Core.List.{List}
+use lib.ListN.{length, getD}
+use Rattle.refusals.specs.Checks.{outcome}
+use Rattle.refusals.specs.declared.Outcome.the-variants.{Taken}
+use Rattle.tables.specs.declared.Dimensions.{Dimensions}
+use Rattle.tables.specs.Rows.{rowsOf}
+use Rattle.tables.specs.Acceptance.{tableChecks}
+use Rattle.solver.specs.declared.Answer.{Answer}
+use Rattle.solver.specs.declared.Run.{Run}
+use Rattle.solver.specs.State.{fresh, stateOf, runOf}
+use Rattle.solver.specs.Step.{after}
+use Rattle.solver.specs.WellFormed.{stateChecks}
+use Rattle.solver.specs.Answers.{verdictOf, answerOf}
+use Rattle.gates.specs.Memory.{gatesOf, bytesOf}
+use Rattle.netlist.specs.Outputs.{closed, outputBits}
+use Rattle.bristol.specs.Lines.{circuitText}
+use Rattle.lines.specs.Answers.{answerText}
+use Rattle.repeats.specs.Application.{judged, wiresAfter, outputsIn}
+use Rattle.repeats.specs.Repeats.{Attempt, History, circuitWords, repeats, ended, longEnough, longOnes}
+
+-- ---- every state
+
+-- any run that is a well-formed state of n, any lent buffers that are long enough: the last wires that are filled are the packed bytes
+-- of the state after one giant step, then 1 if that state is closed and else 0
+abbrev pub EveryState : Dimensions → List ℕ → List ℕ → Type 0
+EveryState d left right =
+    (run : Run) → outcome (stateChecks d run) ≡ Taken → (a : Attempt) → longEnough d a ≡ true
+    → (judged d left right (circuitWords d) run (a .bytes) (a .wires) ≡ Taken)
+    × (outputsIn d (circuitWords d) (wiresAfter d left right (circuitWords d) run (a .bytes) (a .wires)) ≡ bytesOf (outputBits (d .n) (rowsOf d left right) (stateOf run)))
+
+-- ---- history
+
+-- the attempts from the fresh run on
+abbrev pub historyOf : Dimensions → List ℕ → List ℕ → ℕ → List Attempt → History
+historyOf d left right budget attempts = repeats d left right budget (runOf (d .n) fresh) attempts
+
+-- any lent buffers: the run is the giant step's after as many steps as there are marks, and mark i says whether the state after i + 1 steps is closed
+pub record Follows (d : Dimensions) (left right : List ℕ) (budget : ℕ) (h : History) : Type 0 where
+  pub run-is : h .run ≡ runOf (d .n) (after (d .n) (rowsOf d left right) (length (h .marks)) fresh)
+  pub mark-is : (i : ℕ) → i < length (h .marks) → getD (h .marks) i false ≡ closed (after (d .n) (rowsOf d left right) (suc i) fresh)
+  pub most : length (h .marks) ≤ budget
+
+-- ---- end
+
+abbrev pub answerFor : Dimensions → List ℕ → List ℕ → ℕ → Answer
+answerFor d left right budget = answerOf (d .n) (rowsOf d left right) budget
+
+-- repeats that have ended are as many as the answer counts, and verdict and model are the answer's
+pub record Ends (d : Dimensions) (left right : List ℕ) (budget : ℕ) (h : History) : Type 0 where
+  pub count-is : length (h .marks) ≡ answerFor d left right budget .count
+  pub verdict-is : verdictOf (h .run .standing) (h .run .t) ≡ answerFor d left right budget .verdict
+
+-- ---- secrecy
+
+-- what is seen of the repeats over two tables: circuit text, number of repeats, marks and printed answer
+pub record Seen : Type 0 where
+  pub text : List ℕ
+  pub number : ℕ
+  pub marks : List Bool
+  pub printed : List ℕ
+
+abbrev pub seen : Dimensions → List ℕ → List ℕ → ℕ → List Attempt → Seen
+seen d left right budget attempts = record {
+  text = circuitText d (gatesOf (circuitWords d));
+  number = length (historyOf d left right budget attempts .marks);
+  marks = historyOf d left right budget attempts .marks;
+  printed = answerText (min (d .n) 32) (answerFor d left right budget);
+}
+
+-- ---- the demand
+
+abbrev pub Accepts : Dimensions → List ℕ → List ℕ → Type 0
+Accepts d left right = outcome (tableChecks d left right) ≡ Taken
+
+pub record Demand3 (d : Dimensions) : Type 0 where
+  pub every-state : (left right : List ℕ) → Accepts d left right → EveryState d left right
+  -- every list of attempts, so every prefix of one
+  pub history : (left right : List ℕ) → Accepts d left right → (budget : ℕ) (attempts : List Attempt)
+      → Follows d left right budget (historyOf d left right budget attempts)
+  -- and the end is reached where as many attempts as the answer counts have long enough buffers
+  pub end : (left right : List ℕ) → Accepts d left right → (budget : ℕ) (attempts : List Attempt)
+      → (ended budget (historyOf d left right budget attempts .marks) ≡ true → Ends d left right budget (historyOf d left right budget attempts))
+      × (answerFor d left right budget .count ≤ longOnes d attempts → ended budget (historyOf d left right budget attempts .marks) ≡ true)
+  -- two pairs of tables under one budget that agree in verdict, model and count, each with attempts of its own
+  pub secrecy : (left right left′ right′ : List ℕ) → Accepts d left right → Accepts d left′ right′ → (budget : ℕ) (attempts attempts′ : List Attempt)
+      → answerFor d left right budget ≡ answerFor d left′ right′ budget
+      → ended budget (historyOf d left right budget attempts .marks) ≡ true → ended budget (historyOf d left′ right′ budget attempts′ .marks) ≡ true
+      → seen d left right budget attempts ≡ seen d left′ right′ budget attempts′

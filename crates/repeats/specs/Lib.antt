@@ -1,0 +1,3 @@
+pub mod Application
+pub mod Repeats
+pub mod Demand3

@@ -1,0 +1,70 @@
+-- The repeats of a circuit over two tables: document 01, "Circuit", second paragraph.
+use Prim.Native.Nat.{ℕ, zero, suc, _+_}
+use mathlib.Core.Bool.{Bool, false, _||_, _&&_, cond}
+use mathlib.Core.List.{List, [], _∷_}
+use lib.Dec.{eqb, leb}
+use lib.ListN.{length}
+use Rattle.refusals.specs.Checks.{given}
+use Rattle.tables.specs.declared.Dimensions.{Dimensions}
+use Rattle.tables.specs.Sizes.{inputWires}
+use Rattle.solver.specs.declared.Run.{Run}
+use Rattle.gates.specs.Memory.{wordsOf}
+use Rattle.netlist.specs.Generation.{gatesOn}
+use Rattle.repeats.specs.declared.Applied.{Applied}
+use Rattle.repeats.specs.Application.{applied}
+
+-- the generated circuit in memory: it is made from n and the row counts alone
+unfoldable pub circuitWords : Dimensions → List ℕ
+circuitWords d = wordsOf (gatesOn d)
+
+-- an attempt to apply the circuit, with the buffers that the host lends
+pub record Attempt : Type 0 where
+  pub bytes : List ℕ
+  pub wires : List ℕ
+
+-- what the repeats leave: the run, and the marks in order
+pub record History : Type 0 where
+  pub run : Run
+  pub marks : List Bool
+
+-- a mark, and then those of the later repeats
+abbrev pub marked : Bool → History → History
+marked mark h = record { run = h .run; marks = mark ∷ h .marks }
+
+abbrev pub noRepeat : Run → History
+noRepeat run = record { run = run; marks = [] }
+
+-- what comes of an application, where later attempts go on from a run with so many repeats left: turned back, it is no repeat and has no mark;
+-- the first mark that is 1 is the last
+abbrev pub comesOf : Applied → ℕ → (ℕ → Run → History) → History
+comesOf r rest later =
+    given (r .outcome)
+    (marked (r .mark) (cond (r .mark) (noRepeat (r .run)) (later rest (r .run))))
+    (λ refusal. later (suc rest) (r .run))
+
+-- the attempts, from a run on, with so many repeats left
+unfoldable pub repeats : Dimensions → List ℕ → List ℕ → ℕ → Run → List Attempt → History
+unfolding applied circuitWords
+repeats d left right budget run [] = noRepeat run
+repeats d left right budget run (a ∷ later) =
+    elim budget [
+      | zero ↦ noRepeat run
+      | suc rest ↦ comesOf (applied d left right (circuitWords d) run (a .bytes) (a .wires)) rest (λ k next. repeats d left right k next later)
+    ]
+
+-- repeats end with a mark that is 1, or when they are as many as the budget
+abbrev pub anyMark : List Bool → Bool
+anyMark [] = false
+anyMark (mark ∷ marks) = mark || anyMark marks
+
+abbrev pub ended : ℕ → List Bool → Bool
+ended budget marks = anyMark marks || eqb (length marks) budget
+
+-- buffers with room for the inputs and for all wires
+abbrev pub longEnough : Dimensions → Attempt → Bool
+longEnough d a = leb (inputWires d) (length (a .bytes)) && leb (inputWires d + length (gatesOn d)) (length (a .wires))
+
+-- how many attempts have such buffers
+unfoldable pub longOnes : Dimensions → List Attempt → ℕ
+longOnes d [] = 0
+longOnes d (a ∷ later) = cond (longEnough d a) (suc (longOnes d later)) (longOnes d later)
