@@ -1,0 +1,77 @@
+-- What the program slices is there: a refusal's line within its text, a generated circuit within the words, a line within the bytes. By cases on the
+-- checks.
+-- Assumes nothing.
+use mathlib.Core.Path.{_≡_, refl, ap, sym}
+use mathlib.Core.Bool.{Bool, true, false, _||_, cond}
+use mathlib.Core.List.{List}
+use Prim.Native.Nat.{ℕ, _*_, _≤_, zero-le}
+use native.Mathlib.Omega.{arith}
+use borrow.Author.Tests.{ltb-false}
+use lib.Dec.{ltb}
+use lib.ListN.{length, drop, length-append}
+use Rattle.refusals.specs.declared.Refusal.{Refusal}
+use Rattle.refusals.specs.declared.Refusal.the-variants.{Variables, RowCount, GateBuffer}
+use Rattle.refusals.specs.declared.Outcome.{Outcome}
+use Rattle.refusals.specs.declared.Outcome.the-variants.{Taken, Refused as Not}
+use Rattle.refusals.specs.Checks.{outcome, given}
+use Rattle.refusals.proofs.Outcomes.{unless-passed, unless-taken}
+use Rattle.tables.specs.declared.Dimensions.{Dimensions}
+use Rattle.tables.specs.Sizes.{outside, ceiling}
+use Rattle.text.specs.declared.Text.{Text}
+use Rattle.text.specs.Texts.{textOf}
+use Rattle.text.proofs.Appending.{text-within}
+use Rattle.lines.specs.Answers.{refusedLine}
+use Rattle.gates.specs.Memory.{gatesOf, wordsOf}
+use Rattle.gates.specs.Evaluation.{over}
+use Rattle.gates.proofs.InMemory.{words-length}
+use Rattle.netlist.specs.declared.Generated.{Generated}
+use Rattle.netlist.specs.declared.Generated.the-variants as generated′
+use Rattle.netlist.specs.Generation as Generation
+use Rattle.netlist.specs.Generation.{gatesOn, generatorChecks, generated}
+use Rattle.netlist.proofs.Counts.{gates-length}
+use Rattle.bristol.specs.declared.Written.{Written}
+use Rattle.bristol.specs.declared.Written.the-variants as written′
+use Rattle.bristol.specs.Lines.{linesOf}
+use Rattle.bristol.specs.Writing.{checks, lineAt, written}
+use Rattle.bristol.proofs.Numbering.{lines-length}
+
+pub refused-within : (r : Refusal) (t : Text) → t ≡ textOf (refusedLine r) → t .length ≤ length (t .bytes)
+refused-within r t e = text-within t (refusedLine r) e
+
+countOf : Generated → ℕ
+countOf (generated′.Of k) = k
+countOf (generated′.Refused r) = 0
+
+pub generated-within : (d : Dimensions) (words : List ℕ) (k : ℕ) → generated d words ≡ generated′.Of k → 3 * k ≤ length words
+unfolding countOf
+generated-within d words k e = omega (arith, ap countOf e, go (outcome (generatorChecks d words)) refl)
+  where
+    go : (o : Outcome) → outcome (generatorChecks d words) ≡ o → 3 * countOf (given o (generated′.Of (length (gatesOn d))) generated′.Refused) ≤ length words
+    go Taken h =
+        let rows = unless-taken (outside 32 (d .n)) Variables _ h in
+        let room = unless-taken (outside 128 (d .left) || outside 128 (d .right)) RowCount _ rows in
+        omega (arith, gates-length (d .n) (d .left) (d .right), ltb-false (length words) (3 * ceiling d) (unless-passed (ltb (length words) (3 * ceiling d)) GateBuffer Taken room))
+    go (Not r) h = zero-le
+
+-- and the words that it leaves are no fewer
+pub generated-words : (d : Dimensions) (words left : List ℕ) (k : ℕ) → generated d words ≡ generated′.Of k → left ≡ Generation.written d words → 3 * k ≤ length left
+unfolding countOf
+generated-words d words left k e w = omega (arith, ap countOf e, ap length w, go (outcome (generatorChecks d words)))
+  where
+    go : (o : Outcome) → 3 * countOf (given o (generated′.Of (length (gatesOn d))) generated′.Refused) ≤ length (given o (over (wordsOf (gatesOn d)) words) (λ r. words))
+    go Taken = omega (arith, words-length (gatesOn d), length-append (wordsOf (gatesOn d)) (drop (length (wordsOf (gatesOn d))) words))
+    go (Not r) = zero-le
+
+lengthOf : Written → ℕ
+lengthOf (written′.Line k) = k
+lengthOf written′.Past = 0
+lengthOf (written′.Refused r) = 0
+
+pub line-short : (d : Dimensions) (words : List ℕ) (i : ℕ) (lent : List ℕ) (k : ℕ) → written d words i lent ≡ written′.Line k → k ≤ 127
+unfolding lengthOf
+line-short d words i lent k e = omega (arith, ap lengthOf e, go (outcome (checks d words i lent)) (ltb i (length (linesOf d (gatesOf words)))))
+  where
+    go : (o : Outcome) (b : Bool) → lengthOf (given o (cond b (written′.Line (length (lineAt d words i))) written′.Past) written′.Refused) ≤ 127
+    go Taken true = lines-length d (gatesOf words) i
+    go Taken false = zero-le
+    go (Not r) b = zero-le
