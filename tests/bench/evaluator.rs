@@ -1,0 +1,135 @@
+//! Times the proved evaluator beside the same passes in Rust without index checks, and beside the gate loop alone, on circuits of
+//! 200,000 gates.
+//! Linked with the library that `rt staticlib interface` writes; see the Makefile.
+
+use std::time::{Duration, Instant};
+
+const INPUTS: usize = 2_000;
+const GATES: usize = 200_000;
+const RUNS: usize = 200;
+
+extern "C" {
+    fn forkhemit_evaluate(
+        gates: *const u32,
+        gate_words: usize,
+        inputs: *const u8,
+        input_bytes: usize,
+        wires: *mut u8,
+        wire_bytes: usize,
+    ) -> u8;
+}
+
+fn proved(gates: &[u32], inputs: &[u8], wires: &mut [u8]) -> u8 {
+    // Each slice passes as its pointer and its length; the function reads and writes nothing else.
+    unsafe {
+        forkhemit_evaluate(gates.as_ptr(), gates.len(), inputs.as_ptr(), inputs.len(), wires.as_mut_ptr(), wires.len())
+    }
+}
+
+/// The values of a kind on two wires, as the proved evaluator has them: bit 4 × kind + 2a + b.
+const VALUES: u32 = 0b0011_1000_0110;
+
+/// The same passes in Rust, which judges words and bytes too but does not check an index.
+fn same_passes(gates: &[u32], inputs: &[u8], wires: &mut [u8]) -> bool {
+    let n = inputs.len();
+    let judged = gates.chunks_exact(3).enumerate().all(|(g, gate)| {
+        let bound = if gate[2] == 0 && gate[0] == 2 { 1 } else { n + g };
+        gate[0] <= 2 && (gate[1] as usize) < n + g && (gate[2] as usize) < bound
+    });
+    if !judged || inputs.iter().any(|&byte| byte > 1) {
+        return false;
+    }
+    wires[..n].copy_from_slice(inputs);
+    for (g, gate) in gates.chunks_exact(3).enumerate() {
+        // The words were judged: each names an earlier wire, and the buffer has a byte for each.
+        unsafe {
+            let a = u32::from(*wires.get_unchecked(gate[1] as usize));
+            let b = u32::from(*wires.get_unchecked(gate[2] as usize));
+            *wires.get_unchecked_mut(n + g) = (VALUES >> (4 * gate[0] + 2 * a + b) & 1) as u8;
+        }
+    }
+    true
+}
+
+/// The gates alone, by a match on the kind, with nothing judged and no index checked.
+fn gates_alone(gates: &[u32], inputs: &[u8], wires: &mut [u8]) {
+    wires[..inputs.len()].copy_from_slice(inputs);
+    for (g, gate) in gates.chunks_exact(3).enumerate() {
+        // The gates of `circuit` name earlier wires alone, and the buffer has a byte for each.
+        unsafe {
+            let a = *wires.get_unchecked(gate[1] as usize);
+            let b = *wires.get_unchecked(gate[2] as usize);
+            *wires.get_unchecked_mut(inputs.len() + g) = match gate[0] {
+                0 => a ^ b,
+                1 => a & b,
+                _ => a ^ 1,
+            };
+        }
+    }
+}
+
+/// A fixed sequence of numbers (splitmix64).
+struct Numbers(u64);
+
+impl Numbers {
+    fn below(&mut self, limit: u64) -> u64 {
+        self.0 = self.0.wrapping_add(0x9e37_79b9_7f4a_7c15);
+        let mut z = self.0;
+        z = (z ^ (z >> 30)).wrapping_mul(0xbf58_476d_1ce4_e5b9);
+        z = (z ^ (z >> 27)).wrapping_mul(0x94d0_49bb_1331_11eb);
+        (z ^ (z >> 31)) % limit
+    }
+}
+
+/// Gates of these kinds, over and over or at random, that read any of the `near` wires before them.
+fn circuit(kinds: &[u32], at_random: bool, near: u64, numbers: &mut Numbers) -> Vec<u32> {
+    let mut words = vec![];
+    for g in 0..GATES {
+        let wire = (INPUTS + g) as u64;
+        let kind = if at_random { numbers.below(3) as u32 } else { kinds[g % kinds.len()] };
+        let a = wire - 1 - numbers.below(near.min(wire));
+        let b = if kind == 2 { 0 } else { wire - 1 - numbers.below(near.min(wire)) };
+        words.extend([kind, a as u32, b as u32]);
+    }
+    words
+}
+
+fn timed(mut run: impl FnMut()) -> Duration {
+    let start = Instant::now();
+    run();
+    start.elapsed()
+}
+
+fn median(mut times: Vec<Duration>) -> f64 {
+    times.sort();
+    times[times.len() / 2].as_secs_f64() * 1e6
+}
+
+fn main() {
+    // The literal cell of the giant step's circuit, as a sequence of kinds.
+    let cell = [0, 1, 1, 1, 0, 0, 0, 1, 1, 0, 1, 0, 0, 0, 0];
+    let mut numbers = Numbers(2026);
+    println!(
+        "{:<32}{:>8}{:>13}{:>7}{:>13}{:>7}",
+        "evaluator, 200,000 gates", "proved", "same passes", "speed", "gates alone", "speed"
+    );
+    for (label, at_random, near) in [
+        ("kinds at random, any wire", true, u64::MAX),
+        ("kinds at random, near wires", true, 200),
+        ("a cell's kinds, near wires", false, 200),
+    ] {
+        let gates = circuit(&cell, at_random, near, &mut numbers);
+        let inputs: Vec<u8> = (0..INPUTS).map(|_| numbers.below(2) as u8).collect();
+        let mut wires = vec![vec![7; INPUTS + GATES]; 3];
+        let mut times = vec![vec![]; 3];
+        for _ in 0..RUNS {
+            times[0].push(timed(|| assert_eq!(proved(&gates, &inputs, &mut wires[0]), 0)));
+            times[1].push(timed(|| assert!(same_passes(&gates, &inputs, &mut wires[1]))));
+            times[2].push(timed(|| gates_alone(&gates, &inputs, &mut wires[2])));
+        }
+        assert!(wires[0] == wires[1] && wires[0] == wires[2], "all fill the same wires");
+        let [p, s, g] = [0, 1, 2].map(|k| median(times[k].clone()));
+        println!("{label:<32}{p:>8.0}{s:>13.0}{:>7.2}{g:>13.0}{:>7.2}", s / p, g / p);
+    }
+    println!("microseconds, median of {RUNS} runs side by side; speed: the proved evaluator's, the other's being 1");
+}

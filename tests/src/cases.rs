@@ -1,0 +1,75 @@
+//! Cases with the whole output written by hand from document 01, and the ways in which a file or standard input can
+//! reach the program.
+
+use crate::process::Source;
+use crate::report::{Group, Test};
+use std::fs;
+use std::path::Path;
+
+/// A station's file as a case's folder has it: a text, a folder, or nothing.
+fn source(path: &Path) -> std::io::Result<Source> {
+    if path.is_dir() {
+        return Ok(Source::Directory);
+    }
+    if !path.exists() {
+        return Ok(Source::Missing);
+    }
+    fs::read(path).map(Source::Text)
+}
+
+/// The test that a folder holds: left.cnf, right.cnf, and files of these names with standard input and the whole output.
+fn written(case: &Path, input: &str, output: &str) -> std::io::Result<Test> {
+    Ok(Test {
+        name: format!("case {}", case.file_name().unwrap_or_default().to_string_lossy()),
+        left: source(&case.join("left.cnf"))?,
+        right: source(&case.join("right.cnf"))?,
+        input: fs::read(case.join(input))?,
+        expected: Some(fs::read_to_string(case.join(output))?),
+        made: None,
+        held: false,
+    })
+}
+
+/// The example of document 01, its files and line brought in other ways, or not to be had.
+fn brought() -> Vec<Test> {
+    let left = || b"p cnf 2 1\n1 2 0\n".to_vec();
+    let right = || b"p cnf 2 1\n-1 0\n".to_vec();
+    let answer = "c steps 3\ns SATISFIABLE\nv -1 2 0\n";
+    let refusal = "c refused 5\ns UNKNOWN\n";
+    let test = |name: &str, left, right, expected: &str| Test {
+        left,
+        right,
+        expected: Some(expected.into()),
+        ..Test::new(name.into(), vec![], vec![], b"9\n".to_vec())
+    };
+    let text = (Source::Text(left()), Source::Text(right()));
+    let mut held = test("standard input that stays open", text.0.clone(), text.1.clone(), answer);
+    held.held = true;
+    let mut late = held.clone();
+    late.name = "a budget line in two parts".into();
+    late.input = b"00000000000000000009\nand more\n".to_vec();
+    vec![
+        held,
+        late,
+        test("texts and answer a byte at a time", Source::Slow(left()), Source::Slow(right()), answer),
+        test("left file that breaks off", Source::Breaking(left()), text.1.clone(), refusal),
+        test("right file that breaks off", text.0.clone(), Source::Breaking(right()), refusal),
+        test("left file locked", Source::Locked, text.1.clone(), refusal),
+        test("right file locked", text.0.clone(), Source::Locked, refusal),
+        test("left file that cannot be read", Source::Failing, text.1, refusal),
+        test("right file that cannot be read", text.0, Source::Failing, refusal),
+    ]
+}
+
+/// The cases of folder cases, the examples of the repository, and the example of document 01 brought in other ways.
+pub fn group(own: &Path) -> std::io::Result<Group<'static>> {
+    let mut tests = brought();
+    for (folder, input, output) in [("cases", "stdin", "expected"), ("../examples", "budget", "answer")] {
+        for case in fs::read_dir(own.join(folder))? {
+            tests.push(written(&case?.path(), input, output)?);
+        }
+    }
+    tests.sort_by(|a, b| a.name.cmp(&b.name));
+    let title = format!("{} cases with written answers", tests.len());
+    Ok(Group { title, count: tests.len(), make: Box::new(move |number| vec![tests[number].clone()]) })
+}

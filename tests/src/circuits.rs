@@ -1,0 +1,381 @@
+//! The circuit program. For every size that it serves its text is read, its gates are counted, and its circuit is held
+//! to the model on states of every kind and on whole runs; for the smallest sizes on every state and every table.
+
+use crate::bristol::{self, Circuit};
+use crate::model::{self, Answer, Row, Run, Standing};
+use crate::process::{Room, Source};
+use crate::random::Random;
+use crate::report::{self, Ledger, Tally};
+use crate::{damage, states, tables, wires};
+use std::collections::BTreeMap;
+use std::fs;
+use std::path::Path;
+
+const STATES: usize = 512;
+const RUNS: usize = 64;
+const SEED: u64 = 30_511;
+const DAMAGES: usize = 2_000;
+const DAMAGE_SEED: u64 = 8_127;
+/// Sizes small enough for every well-formed state and every pair of tables.
+const SMALLEST: [(usize, usize, usize); 8] =
+    [(1, 1, 1), (1, 1, 2), (1, 2, 1), (1, 2, 2), (2, 1, 1), (2, 1, 2), (2, 2, 1), (3, 1, 1)];
+
+/// n and the two row counts.
+type Size = (usize, usize, usize);
+
+fn line((n, left, right): Size) -> Vec<u8> {
+    format!("{n} {left} {right}\n").into_bytes()
+}
+
+/// Every size whose ceiling the program serves.
+fn sizes() -> Vec<Size> {
+    let all = (1..=32).flat_map(|n| (1..=128).flat_map(move |left| (1..=128).map(move |right| (n, left, right))));
+    all.filter(|&(n, left, right)| model::ceiling(n, left + right) <= model::SERVED).collect()
+}
+
+/// What the program prints for this standard input, of which it reads the first line and no more.
+fn printed(room: &Room, input: &[u8], brought: &Source) -> Result<Vec<u8>, String> {
+    let ran = room.run(brought, &Source::Missing, input).map_err(|error| format!("it could not be run: {error}"))?;
+    let line = input.iter().position(|&b| b == b'\n').map_or(input.len(), |at| at + 1) as u64;
+    match (ran.fault, ran.taken) {
+        (Some(fault), _) => Err(fault),
+        (_, Some(taken)) if taken > line => Err(format!("it took {taken} bytes of standard input, not {line}")),
+        _ => Ok(ran.output),
+    }
+}
+
+/// The circuit that the program prints for a size, its values being as wide as document 01 says.
+fn circuit(room: &Room, size: Size) -> Result<Circuit, String> {
+    let text = printed(room, &line(size), &Source::Missing)?;
+    let circuit = bristol::read(&text).map_err(|fault| format!("{fault}; the text is {}", report::quoted(&text)))?;
+    let (n, left, right) = size;
+    let state = wires::state_width(n);
+    if circuit.inputs != [2 * n * left, 2 * n * right, state] || circuit.outputs != [state, 1] {
+        return Err(format!("values as wide as {:?} give {:?}", circuit.inputs, circuit.outputs));
+    }
+    Ok(circuit)
+}
+
+// ---- One giant step
+
+/// The wires of a state and its closing wire.
+fn closing(run: &Run) -> Vec<bool> {
+    let mut wires = wires::state(run);
+    wires.push(run.standing != Standing::Open);
+    wires
+}
+
+/// What a giant step did.
+fn rule(before: &Run, after: &Run) -> &'static str {
+    match (before.standing, after.standing) {
+        (Standing::Open, Standing::Satisfied) => "satisfied",
+        (Standing::Open, Standing::Refuted) => "refuted",
+        (Standing::Open, Standing::Open) if after.levels.len() < before.levels.len() => "popped",
+        (Standing::Open, Standing::Open) if after.levels.len() > before.levels.len() => "chosen",
+        (Standing::Open, Standing::Open) => "forced",
+        _ => "closed before",
+    }
+}
+
+/// Where a circuit's outputs are not the model's giant step of this state.
+fn unlike_step(rows: &[Row], before: &Run, after: &Run, outputs: &[bool]) -> Option<String> {
+    if outputs == closing(after) {
+        return None;
+    }
+    let (n, bits) = (before.values.len(), |wires: &[bool]| wires.iter().map(|&w| if w { '1' } else { '0' }).collect());
+    let (state, expected): (String, String) = (bits(outputs), bits(&closing(after)));
+    let read = wires::read_back(n, &outputs[..outputs.len() - 1]);
+    Some(format!(
+        "rows {rows:?}, state {before:?}\n  the model gives {after:?}, wires {expected}\n  the circuit gives {}, wires {state}",
+        read.map_or("no well-formed state".into(), |read| format!("{read:?}")),
+    ))
+}
+
+/// Holds the circuit to the model on each of these tables with a state; counts the rules that applied.
+fn steps(circuit: &Circuit, cases: &[(Vec<Row>, Run)], ledger: &Ledger) -> Option<String> {
+    let input = |(rows, run): &(Vec<Row>, Run)| [wires::rows(run.values.len(), rows), wires::state(run)].concat();
+    let inputs: Vec<Vec<bool>> = cases.iter().map(input).collect();
+    let mut rules = BTreeMap::<&str, usize>::new();
+    for ((rows, before), outputs) in cases.iter().zip(circuit.evaluate(&inputs)) {
+        let mut after = before.clone();
+        after.step(rows);
+        *rules.entry(rule(before, &after)).or_default() += 1;
+        if let Some(failure) = unlike_step(rows, before, &after, &outputs) {
+            return Some(failure);
+        }
+    }
+    rules.iter().for_each(|(rule, count)| ledger.kind(rule, *count));
+    None
+}
+
+// ---- Whole runs
+
+/// Repeats the circuit from the fresh state, each time on the wires that the last repeat gave, until the closing wire is
+/// set or the budget is reached; each repeat is held to the model. The answers that the last wires give.
+fn repeats(circuit: &Circuit, n: usize, cases: &[(Vec<Row>, u64)]) -> Result<Vec<Answer>, String> {
+    let mut runs = vec![Run::fresh(n); cases.len()];
+    let mut given: Vec<Vec<bool>> = runs.iter().map(closing).collect();
+    let mut counts = vec![0; cases.len()];
+    let width = wires::state_width(n);
+    loop {
+        let goes = |k: &usize| counts[*k] < cases[*k].1 && !given[*k][width];
+        let going: Vec<usize> = (0..cases.len()).filter(goes).collect();
+        if going.is_empty() {
+            break;
+        }
+        let input = |&k: &usize| [&wires::rows(n, &cases[k].0)[..], &given[k][..width]].concat();
+        let inputs: Vec<Vec<bool>> = going.iter().map(input).collect();
+        for (k, outputs) in going.into_iter().zip(circuit.evaluate(&inputs)) {
+            let before = runs[k].clone();
+            runs[k].step(&cases[k].0);
+            counts[k] += 1;
+            if let Some(failure) = unlike_step(&cases[k].0, &before, &runs[k], &outputs) {
+                return Err(format!("repeat {}: {failure}", counts[k]));
+            }
+            given[k] = outputs;
+        }
+    }
+    let answer = |(wires, count): (&Vec<bool>, u64)| wires::read_back(n, &wires[..width]).map(|run| run.answer(count));
+    given.iter().zip(counts).map(answer).collect::<Option<_>>().ok_or_else(|| "no well-formed state".into())
+}
+
+/// Holds whole runs to the model's.
+fn runs(circuit: &Circuit, n: usize, cases: &[(Vec<Row>, u64)], ledger: &Ledger) -> Option<String> {
+    let answers = match repeats(circuit, n, cases) {
+        Ok(answers) => answers,
+        Err(failure) => return Some(failure),
+    };
+    for ((rows, budget), answer) in cases.iter().zip(answers) {
+        let expected = model::run(n, rows, *budget);
+        if answer != expected {
+            return Some(format!(
+                "rows {rows:?}, budget {budget}: the repeats give {answer:?}, the model {expected:?}"
+            ));
+        }
+        ledger.kind(&format!("runs {:?}", answer.standing).to_lowercase(), 1);
+    }
+    None
+}
+
+/// A table for a whole run, and a budget that is enough or one too few.
+fn table((n, left, right): Size, random: &mut Random) -> (Vec<Row>, u64) {
+    let shortest = *random.pick(&[0, 1, 2, 2, 3]);
+    let row = |_| {
+        let width = random.between(shortest, n.max(shortest));
+        match random.below(6) {
+            0 => tables::strict(n, width, random).into_iter().flat_map(|l| [l, -l]).collect(),
+            _ => tables::strict(n, width, random),
+        }
+    };
+    let rows: Vec<Row> = (0..left + right).map(row).collect();
+    let steps = model::run(n, &rows, u64::MAX).steps;
+    (rows, *random.pick(&[steps, steps, u64::MAX, steps - 1]))
+}
+
+// ---- Groups
+
+/// Text, ceiling, AND gates, states and runs of one size, a test each.
+fn size_tests(size: Size, room: &Room, ledger: &Ledger) {
+    let (n, left, right) = size;
+    let (m, seed) = (left + right, SEED + (n << 16 | left << 8 | right) as u64);
+    let told = |failure: String| format!("circuit \"{n} {left} {right}\", seed {seed}: {failure}");
+    let circuit = match circuit(room, size) {
+        Ok(circuit) => circuit,
+        Err(failure) => return (0..5).for_each(|_| ledger.test(Some(told(failure.clone())))),
+    };
+    ledger.test(None);
+    let most = |count: usize, most: usize, what: &str| (count > most).then(|| format!("{count} {what}, not {most}"));
+    ledger.test(most(circuit.gates.len(), model::ceiling(n, m), "gates").map(told));
+    ledger.test(most(circuit.ands(), 8 * m * n + 6 * n * n + 7 * m + 7 * n + 5, "AND gates").map(told));
+    let random = &mut Random::new(seed);
+    let state = |_| {
+        let run = states::random(n, random);
+        (states::table(m, &run.values, random), run)
+    };
+    let cases: Vec<(Vec<Row>, Run)> = (0..STATES).map(state).collect();
+    ledger.test(steps(&circuit, &cases, ledger).map(told));
+    let cases: Vec<(Vec<Row>, u64)> = (0..RUNS).map(|_| table(size, random)).collect();
+    ledger.test(runs(&circuit, n, &cases, ledger).map(told));
+    ledger.kind("gates", circuit.gates.len());
+    ledger.kind("AND gates", circuit.ands());
+}
+
+/// Every state with every pair of tables, a test for each left table's first row.
+fn exhaustive(size: Size, room: &Room, ledger: &Ledger) {
+    let (n, left, right) = size;
+    let told = |failure: String| format!("circuit \"{n} {left} {right}\", every state: {failure}");
+    let circuit = match circuit(room, size) {
+        Ok(circuit) => circuit,
+        Err(failure) => return ledger.test(Some(told(failure))),
+    };
+    let states = states::all(n);
+    let rows = states::rows(n);
+    let odd = states.iter().find(|state| wires::read_back(n, &wires::state(state)).as_ref() != Some(*state));
+    ledger.test(odd.map(|state| told(format!("{state:?} is not read back"))));
+    for first in &rows {
+        let mut failure = None;
+        for rest in states::ways(rows.len(), left + right - 1) {
+            let table: Vec<Row> = [first].into_iter().chain(rest.iter().map(|&k| &rows[k])).cloned().collect();
+            let cases: Vec<(Vec<Row>, Run)> = states.iter().map(|run| (table.clone(), run.clone())).collect();
+            failure = failure.or_else(|| steps(&circuit, &cases, ledger));
+        }
+        ledger.test(failure.map(told));
+    }
+}
+
+/// A case of folder cases whose answer the repeats of a circuit can give: its name, tables, budget and whole output.
+struct Written {
+    name: String,
+    size: Size,
+    rows: Vec<Row>,
+    budget: u64,
+    expected: String,
+}
+
+fn written(case: &Path) -> Option<Written> {
+    let text = |name: &str| fs::read(case.join(name)).ok();
+    let (left, right) = (text("left.cnf")?, text("right.cnf")?);
+    let (table, budget) = model::pair(Some(&left), Some(&right), &text("stdin")?).ok()?;
+    let left = model::read(&left).ok()?.rows.len();
+    (model::ceiling(table.n, table.rows.len()) <= model::SERVED).then_some(Written {
+        name: case.display().to_string(),
+        size: (table.n, left, table.rows.len() - left),
+        rows: table.rows,
+        budget,
+        expected: String::from_utf8(text("expected")?).ok()?,
+    })
+}
+
+/// The repeats of a circuit give the answer that was written by hand.
+fn written_test(case: &Written, room: &Room) -> Option<String> {
+    let repeated = circuit(room, case.size)
+        .and_then(|circuit| repeats(&circuit, case.size.0, &[(case.rows.clone(), case.budget)]))
+        .map(|answers| answers.iter().map(model::printed).collect::<String>());
+    match repeated {
+        Ok(printed) if printed == case.expected => None,
+        Ok(printed) => Some(format!("{}: the repeats give {printed:?}, not {:?}", case.name, case.expected)),
+        Err(failure) => Some(format!("{}: {failure}", case.name)),
+    }
+}
+
+// ---- Lines
+
+/// What stands on standard input.
+#[rustfmt::skip]
+const LINES: &[&[u8]] = &[
+    b"", b"\n", b" \n", b"1\n", b"1 1\n", b"1 1 1", b"1 1 1\n", b"1 1 1 \n", b" 1 1 1\n", b"1  1 1\n", b"1 1  1\n", b"1\t1\t1\n", b"1 1\t1\n", b"1\t1 1\n",
+    b"1 1 1\r\n", b"1 1 1\t\n", b"1 1 1 1\n", b"1 1 1 0\n", b"1 1 1\0\n", b"\x001 1 1\n", b"1 1 1\n\n", b"1 1 1\n2 2 2\n", b"1 1 1\nx\0\xff", b"\n1 1 1\n",
+    b"01 1 1\n", b"1 001 1\n", b"1 1 0000000001\n", b"002 001 003\n", b"+1 1 1\n", b"1 +1 1\n", b"1 1 +1\n", b"-1 1 1\n", b"1 -1 1\n", b"1 1 -1\n", b"-0 1 1\n",
+    b"1,1,1\n", b"1 1,1\n", b"1.0 1 1\n", b"0x1 1 1\n", b"1e0 1 1\n", b"a 1 1\n", b"1 a 1\n", b"1 1 a\n", b"/ 1 1\n", b": 1 1\n", b"1 1 :\n", b"1 1 1a\n", b"p cnf 1 1\n",
+    b"\xd9\xa1 1 1\n", b"1\xc2\xa01 1\n", b"1\x0b1 1\n", b"1 1\n1\n", b"1\n1 1\n", b"1 1 \n1\n", b"1 \n", b"1 1 \n", b"  \n", b"1   1\n", b"  1\n",
+    b"18446744073709551615 1 1\n", b"18446744073709551616 1 1\n", b"18446744073709551617 1 1\n", b"1 18446744073709551617 1\n", b"1 1 18446744073709551617\n",
+    b"1 18446744073709551615 1\n", b"1 1 18446744073709551615\n", b"1 18446744073709551616 1\n", b"1 1 18446744073709551616\n", b"33 18446744073709551616 1\n",
+    b"0 0 18446744073709551616\n", b"018446744073709551615 1 1\n", b"18446744073709551615 18446744073709551615 18446744073709551615\n",
+    b"99999999999999999999 1 1\n", b"340282366920938463463374607431768211457 1 1\n", b"0 0 0 \n", b"33 129 129 1\n", b"33 129\n", b"33 x 129\n",
+];
+
+/// The lines of the list, lines around 100 bytes, and sizes at every limit and around it.
+fn lines() -> Vec<Vec<u8>> {
+    let mut lines: Vec<Vec<u8>> = LINES.iter().map(|line| line.to_vec()).collect();
+    for length in [99, 100, 101, 102, 103, 255, 256, 257, 65_536] {
+        for end in [&b"1 1 1\n"[..], b"1 1 1\nmore\n", b"1 1 1", b"33 1 1\n", b"1 129 1\n", b"8 1 1\n"] {
+            let line = end.iter().position(|&b| b == b'\n').map_or(end.len(), |at| at + 1);
+            lines.push([&vec![b'0'; length - line][..], end].concat());
+            let (front, back) = end.split_at(line - 2);
+            lines.push([front, &vec![b'0'; length - line], back].concat());
+            lines.push([front, &vec![b' '; length - line], back].concat());
+        }
+    }
+    let wide = [0, 1, 2, 32, 33, 128, 129, 255, 256, 257, 258, 65_537, (1 << 32) + 1, u64::MAX];
+    for n in wide {
+        for left in wide {
+            lines.extend(wide.map(|right| format!("{n} {left} {right}\n").into_bytes()));
+        }
+    }
+    for n in 1..=32 {
+        for left in 1..=128 {
+            // the first right table that is too long
+            let right = (1..=128).find(|right| model::ceiling(n, left + right) > model::SERVED).unwrap_or(128);
+            if left < 5 || right > 1 {
+                lines.push(line((n, left, right)));
+            }
+        }
+    }
+    lines
+}
+
+/// A size that is served, with one to three strokes of damage.
+fn damaged(number: usize) -> Vec<u8> {
+    let random = &mut Random::new(DAMAGE_SEED + number as u64);
+    let mut line = line((random.between(1, 3), random.between(1, 6), random.between(1, 6)));
+    for _ in 0..*random.pick(&[1, 1, 2, 3]) {
+        damage::strike(&mut line, random);
+    }
+    line
+}
+
+/// A line gives the text of its size, or the refusal alone.
+fn line_test(input: &[u8], brought: &Source, room: &Room, ledger: &Ledger) {
+    let expected = match model::dimensions(input) {
+        Ok(size) => {
+            ledger.kind("served", 1);
+            printed(room, &line(size), &Source::Missing)
+        }
+        Err(number) => {
+            ledger.kind(&format!("refused {number}"), 1);
+            Ok(model::refused_alone(number).into_bytes())
+        }
+    };
+    let failure = match (printed(room, input, brought), expected) {
+        (Ok(output), Ok(expected)) if output == expected && !output.is_empty() => None,
+        (Ok(output), Ok(expected)) => {
+            Some(format!("{} and not {}", report::quoted(&output), report::quoted(&expected)))
+        }
+        (Err(failure), _) | (_, Err(failure)) => Some(failure),
+    };
+    ledger.test(failure.map(|failure| format!("line {}: {failure}", report::quoted(input))));
+}
+
+/// Standard input that stays open, and brings the line in two parts.
+fn held_test(room: &Room) -> Option<String> {
+    let held = room.run_held(&Source::Missing, &Source::Missing, b"2 1 00000000003\nmore\n");
+    match (held, printed(room, b"2 1 3\n", &Source::Missing)) {
+        (Ok(ran), Ok(expected)) if ran.fault.is_none() && ran.output == expected => None,
+        (Ok(ran), _) => Some(format!("held input gives {} {:?}", report::quoted(&ran.output), ran.fault)),
+        (Err(error), _) => Some(format!("held input: {error}")),
+    }
+}
+
+/// All tests of the program; `own` is the folder of the tests.
+pub fn run(program: &Path, own: &Path) -> std::io::Result<Tally> {
+    let mut total = bristol::run();
+
+    let (ledger, sizes) = (Ledger::default(), sizes());
+    report::spread(program, sizes.len(), |number, room| size_tests(sizes[sizes.len() - 1 - number], room, &ledger))?;
+    total.add(ledger.close(&format!(
+        "{} circuits, each on {STATES} random states and {RUNS} whole runs, seeds from {SEED}",
+        sizes.len()
+    )));
+
+    let ledger = Ledger::default();
+    report::spread(program, SMALLEST.len(), |number, room| exhaustive(SMALLEST[number], room, &ledger))?;
+    total.add(ledger.close(&format!("every state and every table of {} sizes", SMALLEST.len())));
+
+    let cases =
+        fs::read_dir(own.join("cases"))?.map(|case| Ok(written(&case?.path()))).collect::<std::io::Result<Vec<_>>>()?;
+    let cases: Vec<Written> = cases.into_iter().flatten().collect();
+    let ledger = Ledger::default();
+    report::spread(program, cases.len(), |number, room| ledger.test(written_test(&cases[number], room)))?;
+    total.add(ledger.close(&format!("circuits repeated on {} cases with written answers", cases.len())));
+
+    let (ledger, lines) = (Ledger::default(), lines());
+    report::spread(program, lines.len(), |number, room| line_test(&lines[number], &Source::Missing, room, &ledger))?;
+    report::spread(program, 1, |_, room| line_test(b"2 1 3\n", &Source::Slow(vec![]), room, &ledger))?;
+    report::spread(program, 1, |_, room| ledger.test(held_test(room)))?;
+    total.add(ledger.close(&format!("{} listed dimension lines", lines.len() + 2)));
+
+    let ledger = Ledger::default();
+    report::spread(program, DAMAGES, |number, room| line_test(&damaged(number), &Source::Missing, room, &ledger))?;
+    total.add(ledger.close(&format!("{DAMAGES} damaged dimension lines, seeds from {DAMAGE_SEED}")));
+    Ok(total)
+}

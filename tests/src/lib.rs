@@ -1,0 +1,17 @@
+//! The project's own tests of its programs: each is run whole, as a host would run it, and what it prints is held to
+//! files written by hand, to a model of document 01 and to another solver.
+
+pub mod bristol;
+pub mod cases;
+pub mod circuits;
+pub mod contracts;
+pub mod damage;
+pub mod layout;
+pub mod model;
+pub mod process;
+pub mod public;
+pub mod random;
+pub mod report;
+pub mod states;
+pub mod tables;
+pub mod wires;

@@ -1,0 +1,63 @@
+//! The project's own tests. Use: check CRATES [PROGRAM..]
+//! CRATES is the folder of crates, whose contracts are looked at; each PROGRAM is a compiled program, known by its name,
+//! `pair` or `circuit`. The last line is `N passed, M failed`, and the status 0 where M is 0.
+
+use forkhemit_tests::report::{self, Tally};
+use forkhemit_tests::{cases, circuits, contracts, damage, public, tables};
+use std::path::Path;
+use std::process::{Command, ExitCode, Stdio};
+
+/// Solvers of Debian's packages whose verdicts are asked for: the first that is there.
+const SOLVERS: [&str; 2] = ["cadical", "picosat"];
+
+fn present(solver: &str) -> bool {
+    Command::new(solver).arg("--version").stdout(Stdio::null()).stderr(Stdio::null()).status().is_ok()
+}
+
+fn pair_tests(program: &Path, own: &Path) -> std::io::Result<Tally> {
+    let missing = || std::io::Error::new(std::io::ErrorKind::NotFound, format!("none of {SOLVERS:?} is installed"));
+    let solver = SOLVERS.into_iter().find(|solver| present(solver)).ok_or_else(missing)?;
+    println!("verdicts are compared with {solver}");
+    let files = public::files(&own.join("dimacs"))?;
+    let [listed, damaged] = damage::groups();
+    let mut total = Tally::default();
+    for group in [cases::group(own)?, public::group(&files), tables::group(), listed, damaged] {
+        total.add(report::run(&group, program, solver)?);
+    }
+    Ok(total)
+}
+
+fn program_tests(program: &Path) -> std::io::Result<Tally> {
+    let fault = |kind, fault: &str| std::io::Error::new(kind, format!("{}: {fault}", program.display()));
+    let whole = program.canonicalize().map_err(|error| fault(error.kind(), &error.to_string()))?;
+    let own = Path::new(env!("CARGO_MANIFEST_DIR"));
+    match program.file_name().and_then(|name| name.to_str()) {
+        Some("pair") => pair_tests(&whole, own),
+        Some("circuit") => circuits::run(&whole, own),
+        _ => Err(fault(std::io::ErrorKind::InvalidInput, "neither pair nor circuit")),
+    }
+}
+
+fn all(arguments: &[String]) -> std::io::Result<Tally> {
+    let usage = || std::io::Error::new(std::io::ErrorKind::InvalidInput, "use: check CRATES [PROGRAM..]");
+    let (crates, programs) = arguments.split_first().ok_or_else(usage)?;
+    let mut total = contracts::run(Path::new(crates))?;
+    for program in programs {
+        total.add(program_tests(Path::new(program))?);
+    }
+    Ok(total)
+}
+
+fn main() -> ExitCode {
+    let arguments: Vec<String> = std::env::args().skip(1).collect();
+    let total = all(&arguments).unwrap_or_else(|error| {
+        println!("FAILED: {error}");
+        Tally { passed: 0, failed: 1 }
+    });
+    println!("{} passed, {} failed", total.passed, total.failed);
+    if total.failed == 0 {
+        ExitCode::SUCCESS
+    } else {
+        ExitCode::FAILURE
+    }
+}

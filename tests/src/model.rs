@@ -1,0 +1,320 @@
+//! Both programs as document 01 describes them, in plain Rust and for the tests only. Literals stay numbers and a
+//! state is a list of truth values: nothing of the product's own words, states or readers stands in here.
+
+pub const TEXT_LIMIT: usize = 65_536;
+pub const LINE_LIMIT: usize = 100;
+/// The greatest ceiling that the circuit program serves.
+pub const SERVED: usize = 5_461;
+
+/// A row: its literals in the order of the text, each once.
+pub type Row = Vec<i64>;
+
+/// What one station's text holds.
+#[derive(Clone, Debug, PartialEq)]
+pub struct Table {
+    pub n: usize,
+    pub rows: Vec<Row>,
+}
+
+#[derive(Clone, Copy, Debug, PartialEq)]
+pub enum Standing {
+    Open,
+    Satisfied,
+    Refuted,
+}
+
+/// The answer of a budgeted run. The model stands there with satisfiable only.
+#[derive(Clone, Debug, PartialEq)]
+pub struct Answer {
+    pub steps: u64,
+    pub standing: Standing,
+    pub model: Vec<bool>,
+}
+
+// ---- Texts
+
+fn blank(byte: u8) -> bool {
+    byte == b' ' || byte == b'\t'
+}
+
+fn separator(byte: u8) -> bool {
+    blank(byte) || byte == b'\r' || byte == b'\n'
+}
+
+/// The first line without its LF, and what follows it.
+fn line(text: &[u8]) -> (&[u8], &[u8]) {
+    match text.iter().position(|&b| b == b'\n') {
+        Some(at) => (&text[..at], &text[at + 1..]),
+        None => (text, &[]),
+    }
+}
+
+/// A number: an optional minus, digits without leading zeros, not −0. One of more than nine digits is as good as any
+/// other beyond every limit.
+fn number(word: &[u8]) -> Option<i64> {
+    let (sign, digits) = match word.strip_prefix(b"-") {
+        Some(digits) => (-1, digits),
+        None => (1, word),
+    };
+    let zero = digits == b"0";
+    if digits.is_empty() || !digits.iter().all(u8::is_ascii_digit) || (digits[0] == b'0' && !zero) || (zero && sign < 0)
+    {
+        return None;
+    }
+    if digits.len() > 9 {
+        return Some(sign * 1_000_000_000);
+    }
+    Some(sign * digits.iter().fold(0, |value, digit| 10 * value + i64::from(digit - b'0')))
+}
+
+/// The two numbers of the header line `p cnf n m`.
+fn header(line: &[u8]) -> Option<(i64, i64)> {
+    let mut end = line.len();
+    while end > 0 && (blank(line[end - 1]) || line[end - 1] == b'\r') {
+        end -= 1;
+    }
+    if line.first() != Some(&b'p') {
+        return None;
+    }
+    let parts: Vec<&[u8]> = line[..end].split(|&b| blank(b)).filter(|part| !part.is_empty()).collect();
+    match parts[..] {
+        [b"p", b"cnf", n, m] => Some((number(n)?, number(m)?)),
+        _ => None,
+    }
+}
+
+/// The rows of the text after the header, or None where it is malformed.
+fn rows(body: &[u8], n: i64, m: i64) -> Option<Vec<Row>> {
+    let mut rows = vec![];
+    let mut row = vec![];
+    let mut unclosed = false;
+    for word in body.split(|&b| separator(b)).filter(|word| !word.is_empty()) {
+        let literal = number(word)?;
+        unclosed = literal != 0;
+        if literal == 0 {
+            rows.push(std::mem::take(&mut row));
+        } else if literal.abs() > n {
+            return None;
+        } else if !row.contains(&literal) {
+            row.push(literal);
+        }
+    }
+    (!unclosed && rows.len() as i64 == m).then_some(rows)
+}
+
+/// One station's text: its table, or the number of the refusal.
+pub fn read(text: &[u8]) -> Result<Table, u8> {
+    if text.len() > TEXT_LIMIT {
+        return Err(5);
+    }
+    let mut rest = text;
+    while rest.first() == Some(&b'c') {
+        rest = line(rest).1;
+    }
+    let (first, body) = line(rest);
+    let (n, m) = header(first).ok_or(5)?;
+    if !(1..=32).contains(&n) {
+        return Err(1);
+    }
+    if !(1..=128).contains(&m) {
+        return Err(2);
+    }
+    let rows = rows(body, n, m).ok_or(5)?;
+    Ok(Table { n: n as usize, rows })
+}
+
+/// One or more digits, at most 2^64 − 1.
+fn unsigned(digits: &[u8]) -> Result<u64, u8> {
+    if digits.is_empty() || !digits.iter().all(u8::is_ascii_digit) {
+        return Err(8);
+    }
+    let mut value: u64 = 0;
+    for digit in digits {
+        value = value.checked_mul(10).and_then(|v| v.checked_add(u64::from(digit - b'0'))).ok_or(8)?;
+    }
+    Ok(value)
+}
+
+/// The first line of standard input without its LF: at most 100 bytes with it.
+fn short_line(input: &[u8]) -> Result<&[u8], u8> {
+    match input.iter().position(|&b| b == b'\n') {
+        Some(end) if end < LINE_LIMIT => Ok(&input[..end]),
+        _ => Err(8),
+    }
+}
+
+/// The budget: the first line of standard input.
+pub fn budget(input: &[u8]) -> Result<u64, u8> {
+    unsigned(short_line(input)?)
+}
+
+// ---- The giant step
+
+/// A variable's value, None where it is free.
+pub type Value = Option<bool>;
+
+/// A run: each variable true, false or free, and the levels with what stood before their choice.
+#[derive(Clone, Debug, PartialEq)]
+pub struct Run {
+    pub standing: Standing,
+    pub values: Vec<Value>,
+    pub levels: Vec<(Vec<Value>, usize)>,
+}
+
+fn variable(literal: i64) -> usize {
+    literal.unsigned_abs() as usize - 1
+}
+
+impl Run {
+    pub fn fresh(n: usize) -> Run {
+        Run { standing: Standing::Open, values: vec![None; n], levels: vec![] }
+    }
+
+    fn free(&self, literal: i64) -> bool {
+        self.values[variable(literal)].is_none()
+    }
+
+    fn satisfied(&self, row: &[i64]) -> bool {
+        row.iter().any(|&l| row.contains(&-l) || self.values[variable(l)] == Some(l > 0))
+    }
+
+    /// Whether each level's values lie within the next ones, the variable chosen there being free and then true.
+    pub fn well_formed(&self) -> bool {
+        let n = self.values.len();
+        let nexts = self.levels.iter().skip(1).map(|(before, _)| before).chain([&self.values]);
+        (1..=32).contains(&n)
+            && self.levels.iter().zip(nexts).all(|((before, chosen), next)| {
+                let within = |(v, value): (usize, &Value)| value.is_none() || next[v] == *value;
+                before.iter().enumerate().all(within) && before[*chosen].is_none() && next[*chosen] == Some(true)
+            })
+    }
+
+    /// One giant step: the first of the four rules that applies.
+    pub fn step(&mut self, rows: &[Row]) {
+        if self.standing != Standing::Open {
+            return;
+        }
+        let mut unsatisfied = false;
+        let mut conflict = false;
+        let mut unit = None;
+        let mut lowest: Option<usize> = None;
+        for row in rows.iter().filter(|row| !self.satisfied(row)) {
+            unsatisfied = true;
+            let mut free = row.iter().copied().filter(|&l| self.free(l));
+            match (free.next(), free.next()) {
+                (None, _) => conflict = true,
+                (Some(only), None) => unit = unit.or(Some(only)),
+                _ => (),
+            }
+            for &literal in row.iter().filter(|&&l| self.free(l)) {
+                lowest = Some(lowest.map_or(variable(literal), |v| v.min(variable(literal))));
+            }
+        }
+        if !unsatisfied {
+            self.standing = Standing::Satisfied;
+        } else if conflict {
+            match self.levels.pop() {
+                None => self.standing = Standing::Refuted,
+                Some((before, chosen)) => {
+                    self.values = before;
+                    self.values[chosen] = Some(false);
+                }
+            }
+        } else if let Some(literal) = unit {
+            self.values[variable(literal)] = Some(literal > 0);
+        } else if let Some(chosen) = lowest {
+            self.levels.push((self.values.clone(), chosen));
+            self.values[chosen] = Some(true);
+        }
+    }
+
+    /// What is answered where the run stops after so many steps.
+    pub fn answer(&self, steps: u64) -> Answer {
+        let model = match self.standing {
+            Standing::Satisfied => self.values.iter().map(|&value| value == Some(true)).collect(),
+            _ => vec![],
+        };
+        Answer { steps, standing: self.standing, model }
+    }
+}
+
+/// The budgeted run from fresh, over rows that have each literal once.
+pub fn run(n: usize, rows: &[Row], budget: u64) -> Answer {
+    let mut run = Run::fresh(n);
+    let mut steps = 0;
+    while steps < budget && run.standing == Standing::Open {
+        run.step(rows);
+        steps += 1;
+    }
+    run.answer(steps)
+}
+
+// ---- The pair program
+
+/// What the program reads of a pair: both tables' rows, left first, and the budget; or the number of the refusal. A
+/// file that cannot be read is None.
+pub fn pair(left: Option<&[u8]>, right: Option<&[u8]>, input: &[u8]) -> Result<(Table, u64), u8> {
+    let mut joined = read(left.ok_or(5)?)?;
+    let right = read(right.ok_or(5)?)?;
+    if joined.n != right.n {
+        return Err(6);
+    }
+    joined.rows.extend(right.rows);
+    Ok((joined, budget(input)?))
+}
+
+/// The printed answer, whole.
+pub fn printed(answer: &Answer) -> String {
+    let verdict = match answer.standing {
+        Standing::Satisfied => "SATISFIABLE",
+        Standing::Refuted => "UNSATISFIABLE",
+        Standing::Open => "UNKNOWN",
+    };
+    let mut text = format!("c steps {}\ns {verdict}\n", answer.steps);
+    if answer.standing == Standing::Satisfied {
+        text.push('v');
+        for (i, &value) in answer.model.iter().enumerate() {
+            text.push_str(if value { " " } else { " -" });
+            text.push_str(&(i + 1).to_string());
+        }
+        text.push_str(" 0\n");
+    }
+    text
+}
+
+/// What a refusal prints.
+pub fn refused(number: u8) -> String {
+    format!("c refused {number}\ns UNKNOWN\n")
+}
+
+/// What the pair program prints for these files and this standard input.
+pub fn output(left: Option<&[u8]>, right: Option<&[u8]>, input: &[u8]) -> String {
+    match pair(left, right, input) {
+        Ok((table, budget)) => printed(&run(table.n, &table.rows, budget)),
+        Err(number) => refused(number),
+    }
+}
+
+// ---- The circuit program
+
+/// The most gates that a circuit may have.
+pub fn ceiling(n: usize, m: usize) -> usize {
+    64 * (m + n + 1) * (n + 1)
+}
+
+/// The dimensions of the line on standard input, or the number of the refusal.
+pub fn dimensions(input: &[u8]) -> Result<(usize, usize, usize), u8> {
+    let parts = short_line(input)?.split(|&b| b == b' ').map(unsigned).collect::<Result<Vec<u64>, u8>>()?;
+    match parts[..] {
+        [n, _, _] if !(1..=32).contains(&n) => Err(1),
+        [_, left, right] if !(1..=128).contains(&left) || !(1..=128).contains(&right) => Err(2),
+        [n, left, right] if ceiling(n as usize, (left + right) as usize) > SERVED => Err(7),
+        [n, left, right] => Ok((n as usize, left as usize, right as usize)),
+        _ => Err(8),
+    }
+}
+
+/// What the circuit program prints in the place of a text.
+pub fn refused_alone(number: u8) -> String {
+    format!("c refused {number}\n")
+}

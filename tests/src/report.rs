@@ -1,0 +1,211 @@
+//! The counting of tests and their running on two threads; a test of the pair program.
+
+use crate::layout;
+use crate::model::{self, Row, Standing};
+use crate::process::{Ran, Room, Source};
+use std::collections::BTreeMap;
+use std::path::Path;
+use std::sync::atomic::{AtomicUsize, Ordering};
+use std::sync::Mutex;
+
+const THREADS: usize = 2;
+const SHOWN_FAILURES: usize = 10;
+const SHOWN_BYTES: usize = 3_000;
+
+/// Files and standard input for the pair program, and what else is known of the answer.
+#[derive(Clone)]
+pub struct Test {
+    pub name: String,
+    pub left: Source,
+    pub right: Source,
+    pub input: Vec<u8>,
+    /// The whole output, where it was written by hand.
+    pub expected: Option<String>,
+    /// Both tables as they were made, where the answer is held to them and to another solver.
+    pub made: Option<(usize, Vec<Row>)>,
+    /// Whether standard input is a pipe that stays open.
+    pub held: bool,
+}
+
+impl Test {
+    pub fn new(name: String, left: Vec<u8>, right: Vec<u8>, input: Vec<u8>) -> Test {
+        Test {
+            name,
+            left: Source::Text(left),
+            right: Source::Text(right),
+            input,
+            expected: None,
+            made: None,
+            held: false,
+        }
+    }
+}
+
+/// Tests that are made as they are run: `make(i)` gives those of number i.
+pub struct Group<'a> {
+    pub title: String,
+    pub count: usize,
+    pub make: Box<dyn Fn(usize) -> Vec<Test> + Sync + 'a>,
+}
+
+#[derive(Clone, Copy, Default)]
+pub struct Tally {
+    pub passed: usize,
+    pub failed: usize,
+}
+
+impl Tally {
+    pub fn add(&mut self, other: Tally) {
+        self.passed += other.passed;
+        self.failed += other.failed;
+    }
+
+    pub fn count(&mut self, passed: bool) {
+        if passed {
+            self.passed += 1;
+        } else {
+            self.failed += 1;
+        }
+    }
+}
+
+/// What tests came to, from any thread: how many passed, how often each kind of thing occurred, and the failures.
+#[derive(Default)]
+pub struct Ledger(Mutex<(Tally, BTreeMap<String, usize>)>);
+
+impl Ledger {
+    /// Counts a test, and prints what is wrong with it.
+    pub fn test(&self, failure: Option<String>) {
+        let mut state = self.0.lock().expect("no thread panics while it holds this");
+        state.0.count(failure.is_none());
+        if let Some(failure) = failure.filter(|_| state.0.failed <= SHOWN_FAILURES) {
+            println!("FAILED {failure}");
+        }
+    }
+
+    /// Counts things of a kind.
+    pub fn kind(&self, kind: &str, count: usize) {
+        let mut state = self.0.lock().expect("no thread panics while it holds this");
+        *state.1.entry(kind.into()).or_default() += count;
+    }
+
+    /// Prints what it came to.
+    pub fn close(self, title: &str) -> Tally {
+        let (tally, kinds) = self.0.into_inner().expect("every thread has ended");
+        let kinds: Vec<String> = kinds.iter().map(|(kind, count)| format!("{kind} {count}")).collect();
+        let kinds = if kinds.is_empty() { String::new() } else { format!(" ({})", kinds.join(", ")) };
+        println!("{title}: {} passed, {} failed{kinds}", tally.passed, tally.failed);
+        tally
+    }
+}
+
+/// Does the work of every number below `count`, each thread in a room of its own.
+pub fn spread(program: &Path, count: usize, work: impl Fn(usize, &Room) + Sync) -> std::io::Result<()> {
+    let next = AtomicUsize::new(0);
+    let rooms = (0..THREADS).map(|id| Room::new(program, id)).collect::<Result<Vec<_>, _>>()?;
+    std::thread::scope(|scope| {
+        for room in &rooms {
+            scope.spawn(|| loop {
+                let number = next.fetch_add(1, Ordering::Relaxed);
+                if number >= count {
+                    break;
+                }
+                work(number, room);
+            });
+        }
+    });
+    Ok(())
+}
+
+/// Runs a group's tests and prints what it came to.
+pub fn run(group: &Group, program: &Path, solver: &str) -> std::io::Result<Tally> {
+    let ledger = Ledger::default();
+    spread(program, group.count, |number, room| {
+        for test in (group.make)(number) {
+            let (kind, failure) = judge(&test, room, solver);
+            ledger.kind(&kind, 1);
+            ledger.test(failure.map(|failure| format!("{}: {failure}\n{}", test.name, shown(&test))));
+        }
+    })?;
+    Ok(ledger.close(&group.title))
+}
+
+/// The kind of answer that the model gives, and what is wrong with the program's.
+fn judge(test: &Test, room: &Room, solver: &str) -> (String, Option<String>) {
+    let answer = model::pair(test.left.text(), test.right.text(), &test.input)
+        .map(|(table, budget)| model::run(table.n, &table.rows, budget));
+    let (kind, output) = match &answer {
+        Ok(answer) => (format!("{:?}", answer.standing).to_lowercase(), model::printed(answer)),
+        Err(number) => (format!("refused {number}"), model::refused(*number)),
+    };
+    let run = if test.held { Room::run_held } else { Room::run };
+    let failure = match run(room, &test.left, &test.right, &test.input) {
+        Err(error) => Some(format!("it could not be run: {error}")),
+        Ok(ran) => wrong(test, &ran, &output).or_else(|| match (&test.made, &answer) {
+            (Some(_), Err(number)) => Some(format!("an accepted pair is refused with {number}")),
+            (Some(made), Ok(answer)) if answer.standing != Standing::Open => {
+                unlike_others(made, &ran.output, room, solver)
+            }
+            _ => None,
+        }),
+    };
+    (kind, failure)
+}
+
+/// What is wrong with a run, `output` being the model's.
+fn wrong(test: &Test, ran: &Ran, output: &str) -> Option<String> {
+    if let Some(fault) = &ran.fault {
+        return Some(fault.clone());
+    }
+    if let Some(expected) = test.expected.as_ref().filter(|expected| *expected != output) {
+        return Some(format!("expected {expected:?}, the model gives {output:?}"));
+    }
+    if ran.output != output.as_bytes() {
+        return Some(format!("the program gives \"{}\", the model {output:?}", ran.output.escape_ascii()));
+    }
+    let line = test.input.iter().position(|&b| b == b'\n').map_or(test.input.len(), |at| at + 1) as u64;
+    match ran.taken {
+        Some(taken) if taken > line => {
+            Some(format!("it took {taken} bytes of standard input, whose first line has {line}"))
+        }
+        _ => None,
+    }
+}
+
+/// Where the printed answer of a closed run is not the other solver's, or its model leaves a row false.
+fn unlike_others(made: &(usize, Vec<Row>), output: &[u8], room: &Room, solver: &str) -> Option<String> {
+    let (n, rows) = made;
+    let output = String::from_utf8_lossy(output);
+    let satisfiable = output.lines().any(|line| line == "s SATISFIABLE");
+    match room.ask(solver, &layout::plain(*n, rows)) {
+        Err(error) => return Some(error),
+        Ok(other) if other != satisfiable => return Some(format!("{solver} says that satisfiable is {other}")),
+        Ok(_) => (),
+    }
+    if !satisfiable {
+        return None;
+    }
+    let values = output.lines().find_map(|line| line.strip_prefix("v ")).unwrap_or("");
+    let model: Vec<i64> = values.split(' ').filter_map(|value| value.parse().ok()).collect();
+    let open =
+        rows.iter().position(|row| !row.iter().any(|literal| model.contains(literal) || row.contains(&-literal)));
+    open.map(|at| format!("its model leaves row {} false", at + 1))
+}
+
+fn shown(test: &Test) -> String {
+    let text = |source: &Source| match source {
+        Source::Text(bytes) | Source::Slow(bytes) | Source::Breaking(bytes) => quoted(bytes),
+        other => format!("{other:?}"),
+    };
+    format!("  left.cnf  {}\n  right.cnf {}\n  stdin     {}", text(&test.left), text(&test.right), quoted(&test.input))
+}
+
+/// Bytes as a string of Rust; what is too long for a page is cut.
+pub fn quoted(bytes: &[u8]) -> String {
+    match bytes.get(..SHOWN_BYTES) {
+        Some(start) if bytes.len() > SHOWN_BYTES => {
+            format!("b\"{}\" and {} bytes more", start.escape_ascii(), bytes.len() - SHOWN_BYTES)
+        }
+        _ => format!("b\"{}\"", bytes.escape_ascii()),
+    }
+}
