@@ -1,0 +1,23 @@
+# make test: proves and tests everything. make run: solves the example. make bench: compares with other solvers and with plain Rust.
+.PHONY: test run bench fmt
+
+test:
+	.ci/run
+
+target/bin/pair: crates.txt $(shell find crates -name '*.rt' -o -name '*.antt')
+	rt check pair
+	touch $@
+
+run: target/bin/pair
+	cd examples/harbour && ../../target/bin/pair <budget
+
+bench: target/bin/pair
+	cargo build --quiet --release --bins --examples --offline --locked --manifest-path tests/Cargo.toml
+	tests/target/release/bench target/bin/pair
+	rt staticlib interface
+	rustc -O --edition 2021 tests/bench/evaluator.rs -L native=target/staticlib -l static=interface -o target/bench-evaluator
+	target/bench-evaluator
+
+fmt:
+	rt fmt
+	cargo fmt --manifest-path tests/Cargo.toml
