@@ -43,6 +43,8 @@ fn brought() -> Vec<Test> {
         ..Test::new(name.into(), vec![], vec![], b"9\n".to_vec())
     };
     let text = (Source::Text(left()), Source::Text(right()));
+    // longer than the program's small buffers, by a remark
+    let long = |text: Vec<u8>| [b"c ", &b"x".repeat(5_000)[..], b"\n", &text].concat();
     let mut held = test("standard input that stays open", text.0.clone(), text.1.clone(), answer);
     held.held = true;
     let mut late = held.clone();
@@ -54,6 +56,13 @@ fn brought() -> Vec<Test> {
         test("texts and answer a byte at a time", Source::Slow(left()), Source::Slow(right()), answer),
         test("left file that breaks off", Source::Breaking(left()), text.1.clone(), refusal),
         test("right file that breaks off", text.0.clone(), Source::Breaking(right()), refusal),
+        test("long texts a byte at a time", Source::Slow(long(left())), Source::Slow(long(right())), answer),
+        test("long left file, short right", Source::Slow(long(left())), text.1.clone(), answer),
+        test("short left file, long right", text.0.clone(), Source::Slow(long(right())), answer),
+        test("long left file that breaks off", Source::Breaking(long(left())), text.1.clone(), refusal),
+        test("long right file that breaks off", text.0.clone(), Source::Breaking(long(right())), refusal),
+        test("left file with a hole in a remark", Source::Faltering(long(left())), text.1.clone(), refusal),
+        test("right file with a hole in a remark", text.0.clone(), Source::Faltering(long(right())), refusal),
         test("left file locked", Source::Locked, text.1.clone(), refusal),
         test("right file locked", text.0.clone(), Source::Locked, refusal),
         test("left file that cannot be read", Source::Failing, text.1, refusal),

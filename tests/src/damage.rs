@@ -99,7 +99,8 @@ fn lines() -> Vec<Vec<u8>> {
     lines
 }
 
-/// Texts around the limit of 65,536 bytes, filled up in each place where a text can grow.
+/// Texts around the limit of 65,536 bytes, and around the 4,096 up to which the program reads into small buffers, filled up in each
+/// place where a text can grow.
 fn sized() -> Vec<Vec<u8>> {
     let shapes: [(&[u8], u8, &[u8]); 14] = [
         (b"c ", b'x', b"\np cnf 1 1\n1 0\n"),
@@ -118,7 +119,7 @@ fn sized() -> Vec<Vec<u8>> {
         (b"", b'c', b""),
     ];
     let mut texts = vec![];
-    for length in [TEXT_LIMIT - 1, TEXT_LIMIT, TEXT_LIMIT + 1, 2 * TEXT_LIMIT] {
+    for length in [4_095, 4_096, 4_097, TEXT_LIMIT - 1, TEXT_LIMIT, TEXT_LIMIT + 1, 2 * TEXT_LIMIT] {
         for (start, filler, end) in shapes {
             let middle = vec![filler; length - start.len() - end.len()];
             texts.push([start, &middle, end].concat());

@@ -26,6 +26,8 @@ pub enum Source {
     Slow(Vec<u8>),
     /// The same, and the read after the last byte fails.
     Breaking(Vec<u8>),
+    /// The same, and the second read fails, that one alone.
+    Faltering(Vec<u8>),
 }
 
 impl Source {
@@ -80,6 +82,7 @@ impl Room {
                 Source::Locked if is_root()? => drop(command.uid(NOBODY).gid(NOBODY)),
                 Source::Slow(_) => drop(command.env("LD_PRELOAD", small_parts()?)),
                 Source::Breaking(_) => drop(command.env("LD_PRELOAD", small_parts()?).env("BREAKS", name)),
+                Source::Faltering(_) => drop(command.env("LD_PRELOAD", small_parts()?).env("FALTERS", name)),
                 _ => (),
             }
         }
@@ -143,7 +146,9 @@ fn place(path: &Path, source: &Source) -> std::io::Result<()> {
         Err(_) => (),
     }
     match source {
-        Source::Text(text) | Source::Slow(text) | Source::Breaking(text) => fs::write(path, text),
+        Source::Text(text) | Source::Slow(text) | Source::Breaking(text) | Source::Faltering(text) => {
+            fs::write(path, text)
+        }
         Source::Missing => Ok(()),
         Source::Directory => fs::create_dir(path),
         Source::Locked => {

@@ -194,7 +194,7 @@ fn unlike_others(made: &(usize, Vec<Row>), output: &[u8], room: &Room, solver: &
 
 fn shown(test: &Test) -> String {
     let text = |source: &Source| match source {
-        Source::Text(bytes) | Source::Slow(bytes) | Source::Breaking(bytes) => quoted(bytes),
+        Source::Text(bytes) | Source::Slow(bytes) | Source::Breaking(bytes) | Source::Faltering(bytes) => quoted(bytes),
         other => format!("{other:?}"),
     };
     format!("  left.cnf  {}\n  right.cnf {}\n  stdin     {}", text(&test.left), text(&test.right), quoted(&test.input))

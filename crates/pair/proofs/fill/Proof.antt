@@ -1,18 +1,24 @@
--- `pair::fill` meets its contract. The invariant: what was read is within the buffer, which keeps its length.
+-- `pair::fill` meets its contract. The invariant: what was read is within the buffer, which keeps its length and its bytes below `from`.
 -- Assumes nothing.
-use Prim.Native.Nat.{_≤_, _-_}
-use mathlib.Core.Path.{_≡_}
-use lib.ListN.{length, length-set, length-take}
+use Prim.Native.Nat.{ℕ, _≤_, _-_}
+use mathlib.Core.Path.{_≡_, _∙_}
+use mathlib.Core.List.{List, _++_}
+use lib.ListN.{length, take, length-take}
+use lib.Seq.{take-append-le, take-take}
 use borrow.Author.Needs.{needs}
 use native.Mathlib.Omega.{arith}
 use Rattle.pair.proofs.fill.Statement.{statement}
 use Rattle.pair.proofs.fill.Tie as tie
 
+-- bytes written from index d on leave those below a
+kept : (a d : ℕ) (xs ys zs : List ℕ) → (d ≤ length xs) × (length xs ≡ length ys) × (a ≤ d) × (take a xs ≡ take a ys) → take a (take d xs ++ zs) ≡ take a ys
+kept a d xs ys zs inv = take-append-le a (take d xs) zs (simp length-take (omega (arith, inv .0, inv .2))) ∙ take-take a d xs (inv .2) ∙ inv .3
+
 abbrev Inv-loop : tie.InvT-loop
-Inv-loop fd buf₀ done₀ buf done = (done ≤ length buf) × (length buf ≡ length buf₀)
+Inv-loop fd buf₀ from done₀ buf done = (done ≤ length buf) × (length buf ≡ length buf₀) × (from ≤ done) × (take from buf ≡ take from buf₀)
 
 abbrev μ-loop : tie.MeasureT-loop
-μ-loop fd buf₀ done₀ buf done = length buf - done
+μ-loop fd buf₀ from done₀ buf done = length buf - done
 
 loop-holds : tie.Need-loop-holds Inv-loop μ-loop
 loop-holds c = search needs
@@ -29,11 +35,14 @@ part-read-end c = search needs
 read-requires : tie.Need-read-requires Inv-loop μ-loop
 read-requires c κs = search needs
 
+close-requires : tie.Need-close-requires Inv-loop μ-loop
+close-requires c κs = search needs
+
 same-length : tie.Need-same-length Inv-loop μ-loop
 same-length c = search needs
 
 returns : tie.Need-returns Inv-loop μ-loop
-returns c = simp (length-take, length-set) (omega arith)
+returns c = (simp length-take (omega arith), kept _ _ _ _ _ (c .before .before .before .before .before .before .before .loop .inv))
 
 sub-count : tie.Need-sub-count Inv-loop μ-loop
 sub-count c = search needs
@@ -51,7 +60,7 @@ same-length-2 : tie.Need-same-length-2 Inv-loop μ-loop
 same-length-2 c = search needs
 
 returns-2 : tie.Need-returns-2 Inv-loop μ-loop
-returns-2 c = simp (length-take, length-set) (omega arith)
+returns-2 c = (simp length-take (omega arith), kept _ _ _ _ _ (c .before .before .before .before .before .before .before .before .before .before .loop .inv))
 
 add-done : tie.Need-add-done Inv-loop μ-loop
 add-done c = search needs
@@ -60,13 +69,13 @@ loop-less : tie.Need-loop-less Inv-loop μ-loop
 loop-less c = search needs
 
 loop-again : tie.Need-loop-again Inv-loop μ-loop
-loop-again c = search needs
+loop-again c = (search needs, search needs, search needs, kept _ _ _ _ _ (c .before .before .before .before .before .before .before .before .before .before .loop .inv))
 
 same-length-3 : tie.Need-same-length-3 Inv-loop μ-loop
 same-length-3 c = search needs
 
 returns-3 : tie.Need-returns-3 Inv-loop μ-loop
-returns-3 c = simp (length-take, length-set) (omega arith)
+returns-3 c = (simp length-take (omega arith), c .before .loop .inv .3)
 
 pub fill-spec : {M : Type 1} → statement M
 fill-spec =
@@ -79,6 +88,7 @@ fill-spec =
     part-read-start
     part-read-end
     read-requires
+    close-requires
     same-length
     returns
     sub-count

@@ -1,0 +1,33 @@
+-- `pair::answer` is safe and ends: a text's length is within its bytes.
+-- Assumes nothing.
+use native.Mathlib.Omega.{arith}
+use lib.ListN.{length-take}
+use Rattle.reply.proofs.Accepted.{reply-room}
+use borrow.Author.Needs.{needs}
+use Rattle.pair.proofs.answer.Statement.{statement}
+use Rattle.pair.proofs.answer.Tie as tie
+
+reply-requires : tie.Need-reply-requires
+reply-requires c κs = search needs
+
+array-share-prefix-bytes : tie.Need-array-share-prefix-bytes
+array-share-prefix-bytes c = reply-room _ _ _ _ (c .before .reply .ensures)
+
+slice-aggregate-write-all : tie.Need-slice-aggregate-write-all
+slice-aggregate-write-all c = simp length-take (omega (arith, reply-room _ _ _ _ (c .before .before .reply .ensures)))
+
+write-all-requires : tie.Need-write-all-requires
+write-all-requires c κs = search needs
+
+returns : tie.Need-returns
+returns c = search needs
+
+pub answer-spec : {M : Type 1} → statement M
+answer-spec =
+    tie.close
+    (tie.spec
+    reply-requires
+    array-share-prefix-bytes
+    slice-aggregate-write-all
+    write-all-requires
+    returns)
