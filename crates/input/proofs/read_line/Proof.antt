@@ -1,21 +1,23 @@
--- `input::read_line` meets its contract. The invariant: what was read is within the buffer, which keeps its length.
+-- `input::read_line` meets its contract. The invariant: what was read is within the buffer and has no LF, and the bytes behind are as they were.
 -- Assumes nothing.
 use Prim.Native.Nat.{_≤_, _-_}
-use mathlib.Core.Path.{_≡_}
-use lib.ListN.{length, length-set, length-take}
+use mathlib.Core.Path.{_≡_, refl}
+use lib.ListN.{length, take, drop, length-set, length-take}
 use borrow.Author.Needs.{needs}
+use borrow.Author.Tests.{ne-eqb}
 use native.Mathlib.Omega.{arith}
+use Rattle.input.proofs.Lines.{Unended, unended-none, line-so-far, goes-on, ends, rest-left}
 use Rattle.input.proofs.read_line.Statement.{statement}
 use Rattle.input.proofs.read_line.Tie as tie
 
 abbrev Inv-loop : tie.InvT-loop
-Inv-loop fd buf₀ done₀ buf done = (done ≤ length buf) × (length buf ≡ length buf₀)
+Inv-loop fd buf₀ done₀ buf done = (done ≤ length buf) × (length buf ≡ length buf₀) × Unended (take done buf) × (drop done buf ≡ drop done buf₀)
 
 abbrev μ-loop : tie.MeasureT-loop
 μ-loop fd buf₀ done₀ buf done = length buf - done
 
 loop-holds : tie.Need-loop-holds Inv-loop μ-loop
-loop-holds c = search needs
+loop-holds c = (omega arith, refl, unended-none, refl)
 
 slice-aggregate-read : tie.Need-slice-aggregate-read Inv-loop μ-loop
 slice-aggregate-read c = search needs
@@ -27,7 +29,7 @@ same-length : tie.Need-same-length Inv-loop μ-loop
 same-length c = search needs
 
 returns : tie.Need-returns Inv-loop μ-loop
-returns c = simp (length-take, length-set) (omega arith)
+returns c = let l = c .before .before .before .before .before .loop in (simp length-take (omega arith), (line-so-far _ (l .inv .2), l .inv .3))
 
 array-read-buf : tie.Need-array-read-buf Inv-loop μ-loop
 array-read-buf c = search needs
@@ -45,19 +47,23 @@ same-length-2 : tie.Need-same-length-2 Inv-loop μ-loop
 same-length-2 c = search needs
 
 returns-2 : tie.Need-returns-2 Inv-loop μ-loop
-returns-2 c = simp (length-take, length-set) (omega arith)
+returns-2 c =
+    let l = c .before .before .before .before .before .before .loop in
+    (simp (length-take, length-set) (omega arith), (ends (l .buf) (l .done) _ (omega arith) (l .inv .2), rest-left (l .buf) (c .before .before .before .before .before .before .before .before .args .buf .now) (l .done) _ (l .inv .3)))
 
 loop-less : tie.Need-loop-less Inv-loop μ-loop
 loop-less c = simp length-set (omega arith)
 
 loop-again : tie.Need-loop-again Inv-loop μ-loop
-loop-again c = simp length-set (omega arith)
+loop-again c =
+    let l = c .before .before .before .before .before .before .loop in
+    (simp length-set (omega arith), simp length-set (l .inv .1), goes-on (l .buf) (l .done) _ (omega arith) (ne-eqb _ _ (c .if2 .left)) (l .inv .2), rest-left (l .buf) (c .before .before .before .before .before .before .before .before .args .buf .now) (l .done) _ (l .inv .3))
 
 same-length-3 : tie.Need-same-length-3 Inv-loop μ-loop
 same-length-3 c = search needs
 
 returns-3 : tie.Need-returns-3 Inv-loop μ-loop
-returns-3 c = simp (length-take, length-set) (omega arith)
+returns-3 c = let l = c .before .loop in (simp length-take (omega arith), (line-so-far _ (l .inv .2), l .inv .3))
 
 pub read-line-spec : {M : Type 1} → statement M
 read-line-spec =
