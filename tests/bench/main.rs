@@ -3,52 +3,72 @@
 
 use forkhemit_tests::{layout, public};
 use std::fs;
+use std::os::raw::{c_int, c_long};
 use std::path::{Path, PathBuf};
-use std::process::{Command, Stdio};
-use std::time::{Duration, Instant};
+use std::process::{Child, Command, Stdio};
+use std::time::Instant;
 
 const RUNS: usize = 30;
 /// Solvers of Debian's packages of the same names, with what keeps them quiet.
 const SOLVERS: [(&str, &[&str]); 3] = [("cadical", &["-q"]), ("picosat", &[]), ("minisat", &["-verb=0"])];
 
-/// Something that is timed: a label, and how to run it once.
+/// Something that is timed: a label, and how to run it once, which gives the processor time in microseconds.
 struct Contender {
     label: String,
-    run: Box<dyn Fn() -> std::io::Result<()>>,
+    run: Box<dyn Fn() -> std::io::Result<f64>>,
 }
 
-/// The median time of each contender, their runs side by side: one of each, then again.
-fn medians(contenders: &[Contender]) -> std::io::Result<Vec<Duration>> {
-    let mut times = vec![vec![]; contenders.len()];
-    for _ in 0..RUNS {
-        for (contender, times) in contenders.iter().zip(&mut times) {
+extern "C" {
+    fn wait4(process: c_int, status: *mut c_int, options: c_int, usage: *mut [c_long; 18]) -> c_int;
+}
+
+/// Waits for the end of a process, and gives the processor time that it took, its own and the system's for it, in microseconds.
+fn processor_time(child: &Child) -> std::io::Result<f64> {
+    let mut usage = [0; 18];
+    // SAFETY: the C library's struct rusage has 18 longs on 64-bit Linux, and a null status is allowed
+    if unsafe { wait4(child.id() as c_int, std::ptr::null_mut(), 0, &mut usage) } < 0 {
+        return Err(std::io::Error::last_os_error());
+    }
+    let [seconds, micros, system_seconds, system_micros, ..] = usage;
+    Ok((seconds + system_seconds) as f64 * 1e6 + (micros + system_micros) as f64)
+}
+
+/// The times of each contender in microseconds, from start to end and of the processor, their runs side by side: one of each, then
+/// again. In four rounds each of the four follows each other one, since a process leaves the machine's caches to the next.
+fn timed(contenders: &[Contender]) -> std::io::Result<Vec<[Vec<f64>; 2]>> {
+    let mut times = vec![[vec![], vec![]]; contenders.len()];
+    for run in 0..RUNS {
+        for place in [0, 1, 3, 2] {
+            let turn = (run + place) % contenders.len();
             let start = Instant::now();
-            (contender.run)()?;
-            times.push(start.elapsed());
+            let processor = (contenders[turn].run)()?;
+            times[turn][0].push(start.elapsed().as_secs_f64() * 1e6);
+            times[turn][1].push(processor);
         }
     }
-    let median = |mut times: Vec<Duration>| {
-        times.sort();
-        (times[(RUNS - 1) / 2] + times[RUNS / 2]) / 2
-    };
-    Ok(times.into_iter().map(median).collect())
+    Ok(times)
 }
 
-/// One line of a table: the first contender's median, the others', and its ratio to the fastest of them.
-fn line(name: &str, contenders: &[Contender]) -> std::io::Result<f64> {
-    let medians = medians(contenders)?;
-    let micros = |time: &Duration| time.as_secs_f64() * 1e6;
-    let (fastest, other) =
-        medians[1..].iter().zip(&contenders[1..]).min_by_key(|(time, _)| **time).expect("two are compared");
-    let ratio = micros(&medians[0]) / micros(fastest);
-    let cells: String = medians.iter().map(|time| format!("{:>10.0}", micros(time))).collect();
-    println!("{name:<28}{cells}{ratio:>8.2}  {}", other.label);
-    Ok(ratio)
+fn median(mut values: Vec<f64>) -> f64 {
+    values.sort_by(f64::total_cmp);
+    (values[(RUNS - 1) / 2] + values[RUNS / 2]) / 2.0
+}
+
+/// One line of a table: the contenders' medians, the first one's ratio to the fastest of the others, and the same ratio of processor
+/// times, which tells more where other work goes on beside: a process that waits for its turn is not charged.
+fn line(name: &str, contenders: &[Contender]) -> std::io::Result<[f64; 2]> {
+    let medians: Vec<[f64; 2]> = timed(contenders)?.into_iter().map(|times| times.map(median)).collect();
+    let least = |kind: usize| (1..medians.len()).min_by(|&a, &b| medians[a][kind].total_cmp(&medians[b][kind]));
+    let fastest = [0, 1].map(|kind| least(kind).expect("two are compared"));
+    let ratios = [0, 1].map(|kind| medians[0][kind] / medians[fastest[kind]][kind]);
+    let cells: String = medians.iter().map(|median| format!("{:>10.0}", median[0])).collect();
+    println!("{name:<28}{cells}{:>8.2}{:>11.2}  {}", ratios[0], ratios[1], contenders[fastest[0]].label);
+    Ok(ratios)
 }
 
 fn heading(first: &str, contenders: &[Contender]) {
     let labels: String = contenders.iter().map(|contender| format!("{:>10}", contender.label)).collect();
-    println!("{first:<28}{labels}   ratio  to the fastest other (median of {RUNS} runs, microseconds)");
+    println!("{first:<28}{labels}   ratio  processor  to the fastest other (median of {RUNS} runs, microseconds)");
 }
 
 /// A program in a folder, its standard input a file of it, its output thrown away.
@@ -63,13 +83,13 @@ fn process(label: &str, folder: &Path, program: &Path, arguments: &[&str], input
             .stdin(fs::File::open(&input)?)
             .stdout(Stdio::null())
             .stderr(Stdio::null());
-        command.status().map(|_| ())
+        processor_time(&command.spawn()?)
     };
     Contender { label: label.into(), run: Box::new(run) }
 }
 
-/// The pair program beside the other solvers on every accepted public file.
-fn solvers(pair: &Path, room: &Path) -> std::io::Result<()> {
+/// The pair program beside the other solvers, each by its whole path, on every accepted public file.
+fn solvers(pair: &Path, others: &[PathBuf], room: &Path) -> std::io::Result<()> {
     let mut ratios = vec![];
     for file in public::files(&Path::new(env!("CARGO_MANIFEST_DIR")).join("dimacs"))? {
         if file.refused.is_some() {
@@ -83,38 +103,41 @@ fn solvers(pair: &Path, room: &Path) -> std::io::Result<()> {
         fs::write(folder.join("joined.cnf"), layout::plain(n, &[left, right].concat()))?;
         fs::write(folder.join("budget"), format!("{}\n", u64::MAX))?;
         let mut contenders = vec![process("pair", &folder, pair, &[], "budget")];
-        for (solver, quiet) in SOLVERS {
-            let arguments = [quiet, &["joined.cnf"]].concat();
-            contenders.push(process(solver, &folder, Path::new(solver), &arguments, "budget"));
+        for ((solver, quiet), path) in SOLVERS.iter().zip(others) {
+            let arguments = [quiet, &["joined.cnf"][..]].concat();
+            contenders.push(process(solver, &folder, path, &arguments, "budget"));
         }
         if ratios.is_empty() {
             heading("public file", &contenders);
         }
         ratios.push(line(&file.name, &contenders)?);
     }
-    let slower = ratios.iter().filter(|&&ratio| ratio > 1.0).count();
-    let greatest = ratios.iter().copied().fold(0.0, f64::max);
-    println!("slower than the fastest other on {slower} of {} files; greatest ratio {greatest:.2}", ratios.len());
+    for (place, kind) in ["time", "processor time"].iter().enumerate() {
+        let slower = ratios.iter().filter(|ratio| ratio[place] > 1.0).count();
+        let greatest = ratios.iter().map(|ratio| ratio[place]).fold(0.0, f64::max);
+        println!(
+            "{kind}: slower than the fastest other on {slower} of {} files; greatest ratio {greatest:.2}",
+            ratios.len()
+        );
+    }
     Ok(())
 }
 
-/// Says how to install the solvers that are missing.
-fn installed() -> bool {
-    let quiet = |solver: &str| Command::new(solver).arg("--help").stdout(Stdio::null()).stderr(Stdio::null()).status();
-    let missing: Vec<&str> = SOLVERS.iter().map(|solver| solver.0).filter(|solver| quiet(solver).is_err()).collect();
-    if !missing.is_empty() {
-        println!("apt-get install --no-install-recommends {}", missing.join(" "));
-    }
-    missing.is_empty()
+/// Where a solver stands. The search is done once and not timed, as the pair program is not searched for either.
+fn find(solver: &str) -> Option<PathBuf> {
+    std::env::split_paths(&std::env::var_os("PATH")?).map(|folder| folder.join(solver)).find(|path| path.is_file())
 }
 
 fn main() -> std::io::Result<()> {
     let pair = std::env::args().nth(1).map(PathBuf::from).expect("use: bench PAIR");
-    if !installed() {
+    let missing: Vec<&str> = SOLVERS.iter().map(|solver| solver.0).filter(|solver| find(solver).is_none()).collect();
+    if !missing.is_empty() {
+        println!("apt-get install --no-install-recommends {}", missing.join(" "));
         std::process::exit(1);
     }
+    let others: Vec<PathBuf> = SOLVERS.iter().filter_map(|solver| find(solver.0)).collect();
     let room = std::env::temp_dir().join(format!("forkhemit-bench-{}", std::process::id()));
-    let done = solvers(&pair.canonicalize()?, &room);
+    let done = solvers(&pair.canonicalize()?, &others, &room);
     fs::remove_dir_all(&room)?;
     done
 }
