@@ -19,15 +19,15 @@ use Rattle.lexer.specs.Spelling.{bytes}
 use Rattle.text.specs.Decimal.{decimal}
 use Rattle.text.proofs.Decimals.{isDigit, allDigits, decimal-digits, decimal-injective, decimal-some}
 use Rattle.tables.specs.declared.Row.{Row}
-use Rattle.solver.specs.State.{State, fresh}
+use Rattle.state.specs.State.{State, fresh}
 use Rattle.solver.specs.Answers.{Ran, runFrom, verdictOf, answerOf}
 use Rattle.solver.proofs.RunLaws.{RunOf, run-of}
 use Rattle.solver.proofs.StepLaws.{fresh-formed, after-formed}
 use Rattle.solver.specs.declared.Answer.{Answer}
 use Rattle.solver.specs.declared.Solved.{Solved}
 use Rattle.solver.specs.declared.Solved.the-variants as solved
-use Rattle.solver.specs.declared.Standing.{Standing}
-use Rattle.solver.specs.declared.Standing.the-variants.{Open, Satisfied, Refuted}
+use Rattle.state.specs.declared.Standing.{Standing}
+use Rattle.state.specs.declared.Standing.the-variants.{Open, Satisfied, Refuted}
 use Rattle.solver.specs.declared.Verdict.{Verdict}
 use Rattle.solver.specs.declared.Verdict.the-variants.{Satisfiable, Unsatisfiable, Unknown}
 use Rattle.lines.specs.Answers.{literal, literals, verdictText, answerText, refusalText, solvedText}

@@ -8,8 +8,8 @@ use Prim.Native.Nat.{ℕ, suc, _+_, _*_, _<_}
 use lib.ListN.{length, drop}
 use Rattle.tables.specs.declared.Row.{Row}
 use Rattle.tables.specs.Sizes.{stateWires}
-use Rattle.solver.specs.State.{State}
-use Rattle.solver.specs.WellFormed.{wellFormedState}
+use Rattle.state.specs.State.{State}
+use Rattle.state.specs.WellFormed.{wellFormedState}
 use Rattle.gates.specs.Gates.{Gate, wire, wiresOf}
 use Rattle.wires.specs.Layout.{upto, rowsBits, bitsIn, inOrder, stateBits}
 use Rattle.wires.specs.Reading.{stateAt}

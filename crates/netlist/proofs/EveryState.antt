@@ -12,8 +12,8 @@ use Rattle.refusals.specs.Checks.{outcome}
 use Rattle.tables.specs.declared.Dimensions.{Dimensions}
 use Rattle.tables.specs.Sizes.{rowCount, stateWires, inputWires}
 use Rattle.tables.specs.Rows.{rowsOf}
-use Rattle.solver.specs.State.{State}
-use Rattle.solver.specs.WellFormed.{wellFormedState}
+use Rattle.state.specs.State.{State}
+use Rattle.state.specs.WellFormed.{wellFormedState}
 use Rattle.gates.specs.Gates.{wiresOf}
 use Rattle.gates.specs.Memory.{wordsOf, accepted, bytesOf}
 use Rattle.gates.specs.Evaluation.{checks, filled, over}

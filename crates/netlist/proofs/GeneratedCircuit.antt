@@ -9,8 +9,8 @@ use native.Mathlib.Omega.{arith}
 use lib.ListN.{length, drop}
 use Rattle.tables.specs.declared.Row.{Row}
 use Rattle.tables.specs.Sizes.{stateWires}
-use Rattle.solver.specs.State.{State}
-use Rattle.solver.specs.WellFormed.{wellFormedState}
+use Rattle.state.specs.State.{State}
+use Rattle.state.specs.WellFormed.{wellFormedState}
 use Rattle.gates.specs.Gates.{wire, wiresOf}
 use Rattle.gates.proofs.Circuits.{ordered, wires-length}
 use Rattle.wires.specs.Layout.{rowsBits, stateBits}

@@ -14,17 +14,17 @@ use Rattle.words.specs.Sets.{bit}
 use Rattle.words.proofs.Truth.{and-l, and-r, not-f}
 use Rattle.tables.specs.declared.Row.{Row}
 use Rattle.tables.specs.Rows.{free}
-use Rattle.solver.specs.declared.Level.{Level}
+use Rattle.state.specs.declared.Level.{Level}
 use Rattle.solver.specs.declared.Rule.{Rule}
 use Rattle.solver.specs.declared.Rule.the-variants.{AllSatisfied, Conflict, Unit, Choice}
-use Rattle.solver.specs.declared.Standing.{Standing}
-use Rattle.solver.specs.declared.Standing.the-variants.{Open, Satisfied, Refuted}
-use Rattle.solver.specs.State.{State}
+use Rattle.state.specs.declared.Standing.{Standing}
+use Rattle.state.specs.declared.Standing.the-variants.{Open, Satisfied, Refuted}
+use Rattle.state.specs.State.{State}
 use Rattle.solver.specs.Rules.{rule}
 use Rattle.solver.specs.Step.{ifOpen, follow, step}
-use Rattle.solver.specs.WellFormed.{wellFormedState}
+use Rattle.state.specs.WellFormed.{wellFormedState}
 use Rattle.solver.proofs.RuleLaws.{Ruled, ruled, unit-settable, choice-settable}
-use Rattle.solver.proofs.WellFormedLaws.{formed-e, chain-head}
+use Rattle.state.proofs.WellFormedLaws.{formed-e, chain-head}
 use Rattle.solver.proofs.StepLaws.{settable-depth}
 use Rattle.wires.specs.Layout.{bitsIn, isSatisfied, isRefuted, inOrder, stateBits}
 use Rattle.netlist.specs.Outputs.{outputBits}

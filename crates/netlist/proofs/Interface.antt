@@ -9,8 +9,8 @@ use lib.ListN.{length, getD}
 use Rattle.words.specs.Booleans.{_⊕_}
 use Rattle.words.specs.Sets.{bit}
 use Rattle.tables.specs.declared.Row.{Row}
-use Rattle.solver.specs.State.{State}
-use Rattle.solver.proofs.WellFormedLaws.{Formed}
+use Rattle.state.specs.State.{State}
+use Rattle.state.proofs.WellFormedLaws.{Formed}
 use Rattle.wires.specs.Layout.{Bits, bitsIn}
 use Rattle.netlist.proofs.Equations.{or, freeOf, freeHere, positiveHere, satisfiedHere, unitOf, conflictOf, firstOf, countsOf, openOf, doneOf, refuteOf, popOf, pushOf, negOf, posOf}
 

@@ -10,7 +10,7 @@ use lib.ListN.{length}
 use borrow.Author.Tests.{eq-eqb, ne-eqb, eqb-true}
 use Rattle.words.specs.Booleans.{_⊕_}
 use Rattle.words.proofs.Truth.{on, taut1, same, same-eq}
-use Rattle.solver.specs.declared.Level.{Level}
+use Rattle.state.specs.declared.Level.{Level}
 use Rattle.wires.specs.Layout.{onLevel}
 use Rattle.netlist.proofs.Chains.{xor-false}
 

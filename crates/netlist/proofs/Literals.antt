@@ -15,7 +15,7 @@ use Rattle.words.proofs.Upto.{count-cong, lowest-cong}
 use Rattle.tables.specs.declared.Row.{Row}
 use Rattle.tables.specs.Rows.{satisfied, freeIn, freeLiterals}
 use Rattle.tables.proofs.Rows.{satisfies, satisfied-any, unsatisfied-none, unsatisfied-literals}
-use Rattle.solver.specs.State.{State}
+use Rattle.state.specs.State.{State}
 use Rattle.solver.specs.Rules.{left}
 use Rattle.solver.proofs.RuleLaws.{left-unsatisfied, left-count}
 use Rattle.netlist.proofs.Equations.{or, freeOf, freeHere, satisfiedHere, unitOf, conflictOf}

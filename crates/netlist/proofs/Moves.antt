@@ -12,10 +12,10 @@ use Rattle.words.specs.Booleans.{_⊕_}
 use Rattle.words.specs.Sets.{bit, put}
 use Rattle.words.proofs.Truth.{on, or-false, taut2, same, same-eq}
 use Rattle.words.proofs.Bits.{bit-put}
-use Rattle.solver.specs.declared.Level.{Level}
-use Rattle.solver.specs.declared.Standing.{Standing}
-use Rattle.solver.specs.declared.Standing.the-variants.{Open}
-use Rattle.solver.specs.State.{State}
+use Rattle.state.specs.declared.Level.{Level}
+use Rattle.state.specs.declared.Standing.{Standing}
+use Rattle.state.specs.declared.Standing.the-variants.{Open}
+use Rattle.state.specs.State.{State}
 use Rattle.wires.specs.Layout.{Bits, onLevel, isSatisfied, isRefuted, bitsIn}
 use Rattle.netlist.proofs.Interface.{Signals, Same}
 use Rattle.netlist.proofs.Chains.{xor-false, parity, parity-none, parity-at}

@@ -12,7 +12,7 @@ use borrow.Author.Tests.{ltb-true, ltb-false, ne-eqb}
 use Rattle.words.specs.Booleans.{_⊕_}
 use Rattle.words.proofs.Truth.{on, and-false, taut3, taut4, same, same-eq}
 use Rattle.tables.specs.declared.Row.{Row}
-use Rattle.solver.specs.State.{State}
+use Rattle.state.specs.State.{State}
 use Rattle.wires.specs.Layout.{Bits, bitsIn, isSatisfied, isRefuted}
 use Rattle.netlist.proofs.Equations.{openOf, doneOf, refuteOf, popOf, pushOf, negOf, posOf}
 use Rattle.netlist.proofs.Interface.{Signals, Wires, Same, OnState}

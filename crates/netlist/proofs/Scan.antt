@@ -18,7 +18,7 @@ use Rattle.tables.specs.declared.Row.{Row}
 use Rattle.tables.specs.Rows.{satisfied, freeIn}
 use Rattle.solver.specs.declared.Rule.{Rule}
 use Rattle.solver.specs.declared.Rule.the-variants.{AllSatisfied, Conflict, Unit, Choice}
-use Rattle.solver.specs.State.{State}
+use Rattle.state.specs.State.{State}
 use Rattle.solver.specs.Rules.{allRows, anyRow, left, choice, rule}
 use Rattle.solver.proofs.RuleLaws.{left-unsatisfied}
 use Rattle.netlist.proofs.Equations.{or, unitOf, firstOf, countsOf}

@@ -3,7 +3,7 @@ use Prim.Native.Nat.{ℕ}
 use mathlib.Core.Bool.{Bool, true, false}
 use mathlib.Core.List.{List, [], _∷_, _++_}
 use Rattle.tables.specs.declared.Row.{Row}
-use Rattle.solver.specs.State.{State}
+use Rattle.state.specs.State.{State}
 use Rattle.solver.specs.Step.{ifOpen, step}
 use Rattle.wires.specs.Layout.{stateBits}
 

@@ -20,11 +20,11 @@ use Rattle.tables.specs.declared.Dimensions.{Dimensions}
 use Rattle.tables.specs.Sizes.{stateWires, inputWires}
 use Rattle.tables.specs.Rows.{rowsOf}
 use Rattle.tables.proofs.Accepted.{accepted}
-use Rattle.solver.specs.declared.Run.{Run}
-use Rattle.solver.specs.State.{State, stateOf, runOf}
+use Rattle.state.specs.declared.Run.{Run}
+use Rattle.state.specs.State.{State, stateOf, runOf}
 use Rattle.solver.specs.Step.{step}
-use Rattle.solver.specs.WellFormed.{wellFormedState, stateChecks}
-use Rattle.solver.proofs.HeldRun.{formed-run-e, state-back, run-of-formed}
+use Rattle.state.specs.WellFormed.{wellFormedState, stateChecks}
+use Rattle.state.proofs.HeldRun.{formed-run-e, state-back, run-of-formed}
 use Rattle.solver.proofs.StepLaws.{step-well-formed}
 use Rattle.solver.proofs.Entries.{take-state}
 use Rattle.gates.specs.Gates.{Gate, wiresOf}

@@ -13,12 +13,12 @@ use Rattle.tables.specs.declared.Dimensions.{Dimensions}
 use Rattle.tables.specs.declared.Row.{Row}
 use Rattle.tables.specs.Rows.{rowsOf}
 use Rattle.solver.specs.declared.Answer.{Answer}
-use Rattle.solver.specs.declared.Run.{Run}
-use Rattle.solver.specs.declared.Standing.{Standing}
-use Rattle.solver.specs.declared.Standing.the-variants.{Open, Satisfied, Refuted}
+use Rattle.state.specs.declared.Run.{Run}
+use Rattle.state.specs.declared.Standing.{Standing}
+use Rattle.state.specs.declared.Standing.the-variants.{Open, Satisfied, Refuted}
 use Rattle.solver.specs.declared.Verdict.{Verdict}
 use Rattle.solver.specs.declared.Verdict.the-variants.{Satisfiable, Unsatisfiable, Unknown}
-use Rattle.solver.specs.State.{State, fresh, runOf}
+use Rattle.state.specs.State.{State, fresh, runOf}
 use Rattle.solver.specs.Step.{ifOpen, after}
 use Rattle.solver.specs.Answers.{Ran, runFrom, verdictOf, answerOf}
 use Rattle.solver.proofs.StepLaws.{fresh-well-formed}

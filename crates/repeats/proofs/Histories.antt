@@ -9,12 +9,12 @@ use native.Mathlib.Omega.{arith}
 use Rattle.tables.specs.declared.Dimensions.{Dimensions}
 use Rattle.tables.specs.declared.Row.{Row}
 use Rattle.tables.specs.Rows.{rowsOf}
-use Rattle.solver.specs.declared.Standing.{Standing}
-use Rattle.solver.specs.declared.Standing.the-variants.{Open, Satisfied, Refuted}
-use Rattle.solver.specs.State.{State, runOf}
+use Rattle.state.specs.declared.Standing.{Standing}
+use Rattle.state.specs.declared.Standing.the-variants.{Open, Satisfied, Refuted}
+use Rattle.state.specs.State.{State, runOf}
 use Rattle.solver.specs.Step.{ifOpen, step, after}
 use Rattle.solver.specs.Answers.{Ran, runFrom}
-use Rattle.solver.specs.WellFormed.{wellFormedState}
+use Rattle.state.specs.WellFormed.{wellFormedState}
 use Rattle.solver.proofs.StepLaws.{step-well-formed}
 use Rattle.wires.specs.Layout.{upto}
 use Rattle.netlist.specs.Outputs.{closed}

@@ -18,8 +18,8 @@ use Rattle.words.specs.Booleans.{digit}
 use Rattle.tables.specs.declared.Dimensions.{Dimensions}
 use Rattle.tables.specs.Sizes.{rowCount, stateWires, inputWires}
 use Rattle.tables.proofs.Accepted.{Accepted}
-use Rattle.solver.specs.declared.Run.{Run}
-use Rattle.solver.specs.State.{stateOf}
+use Rattle.state.specs.declared.Run.{Run}
+use Rattle.state.specs.State.{stateOf}
 use Rattle.gates.specs.Gates.{wiresOf}
 use Rattle.gates.specs.Memory as Memory
 use Rattle.gates.specs.Memory.{accepted, gatesOf, bitsOf, bytesOf}

@@ -10,10 +10,10 @@ use Rattle.tables.specs.declared.Dimensions.{Dimensions}
 use Rattle.tables.specs.Rows.{rowsOf}
 use Rattle.tables.specs.Acceptance.{tableChecks}
 use Rattle.solver.specs.declared.Answer.{Answer}
-use Rattle.solver.specs.declared.Run.{Run}
-use Rattle.solver.specs.State.{fresh, stateOf, runOf}
+use Rattle.state.specs.declared.Run.{Run}
+use Rattle.state.specs.State.{fresh, stateOf, runOf}
 use Rattle.solver.specs.Step.{after}
-use Rattle.solver.specs.WellFormed.{stateChecks}
+use Rattle.state.specs.WellFormed.{stateChecks}
 use Rattle.solver.specs.Answers.{verdictOf, answerOf}
 use Rattle.gates.specs.Memory.{gatesOf, bytesOf}
 use Rattle.netlist.specs.Outputs.{closed, outputBits}

@@ -7,7 +7,7 @@ use lib.ListN.{length}
 use Rattle.refusals.specs.Checks.{given}
 use Rattle.tables.specs.declared.Dimensions.{Dimensions}
 use Rattle.tables.specs.Sizes.{inputWires}
-use Rattle.solver.specs.declared.Run.{Run}
+use Rattle.state.specs.declared.Run.{Run}
 use Rattle.gates.specs.Memory.{wordsOf}
 use Rattle.netlist.specs.Generation.{gatesOn}
 use Rattle.repeats.specs.declared.Applied.{Applied}

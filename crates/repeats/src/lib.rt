@@ -2,7 +2,7 @@
 // Turned back: 1, 2, 4, 3, 10, 12 and 13 in packing, 9 and 10 in evaluation, 12 in reading back.
 use refusals::Outcome;
 use refusals::Refusal;
-use solver::Run;
+use state::Run;
 use tables::Dimensions;
 ghost use mathlib.Core.Path.{_≡_};
 ghost use Prim.Native.Nat.{_+_};

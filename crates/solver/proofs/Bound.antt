@@ -11,18 +11,18 @@ use lib.Pow.{pow-pos, pow-mono}
 use Rattle.words.proofs.Truth.{and-l, and-r, and-i}
 use Rattle.words.proofs.Upto.{count-le}
 use Rattle.tables.specs.declared.Row.{Row}
-use Rattle.solver.specs.declared.Level.{Level}
+use Rattle.state.specs.declared.Level.{Level}
 use Rattle.solver.specs.declared.Rule.{Rule}
 use Rattle.solver.specs.declared.Rule.the-variants.{AllSatisfied, Conflict, Unit, Choice}
-use Rattle.solver.specs.declared.Standing.{Standing}
-use Rattle.solver.specs.declared.Standing.the-variants.{Open, Satisfied, Refuted}
+use Rattle.state.specs.declared.Standing.{Standing}
+use Rattle.state.specs.declared.Standing.the-variants.{Open, Satisfied, Refuted}
 use Rattle.solver.specs.Rules.{rule}
-use Rattle.solver.specs.State.{State, fresh}
+use Rattle.state.specs.State.{State, fresh}
 use Rattle.solver.specs.Step.{back, assign, follow, ifOpen, step, after}
 use Rattle.solver.specs.Truth.{occurs, occurring}
-use Rattle.solver.specs.WellFormed.{chain}
+use Rattle.state.specs.WellFormed.{chain}
 use Rattle.solver.proofs.RuleLaws.{Ruled, ruled, Settable, unit-settable, choice-settable}
-use Rattle.solver.proofs.WellFormedLaws.{Formed, chain-head}
+use Rattle.state.proofs.WellFormedLaws.{Formed, chain-head}
 use Rattle.solver.proofs.SettingLaws.{freeAmong, free-le, free-less-t, free-less-f}
 use Rattle.solver.proofs.StepLaws.{step-formed, fresh-formed}
 

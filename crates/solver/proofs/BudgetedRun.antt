@@ -10,17 +10,17 @@ use borrow.Author.Tests.{lt-ltb, le-ltb, ltb-true, ltb-false}
 use Rattle.words.proofs.Truth.{on}
 use Rattle.tables.specs.declared.Row.{Row}
 use Rattle.solver.specs.declared.Answer.{Answer}
-use Rattle.solver.specs.declared.Level.{Level}
-use Rattle.solver.specs.declared.Run.{Run}
-use Rattle.solver.specs.declared.Standing.{Standing}
-use Rattle.solver.specs.declared.Standing.the-variants.{Open, Satisfied, Refuted}
+use Rattle.state.specs.declared.Level.{Level}
+use Rattle.state.specs.declared.Run.{Run}
+use Rattle.state.specs.declared.Standing.{Standing}
+use Rattle.state.specs.declared.Standing.the-variants.{Open, Satisfied, Refuted}
 use Rattle.solver.specs.declared.Verdict.{Verdict}
-use Rattle.solver.specs.State.{State, fresh, stateOf, runOf}
+use Rattle.state.specs.State.{State, fresh, stateOf, runOf}
 use Rattle.solver.specs.Step.{ifOpen, step}
-use Rattle.solver.specs.WellFormed.{wellFormed}
+use Rattle.state.specs.WellFormed.{wellFormed}
 use Rattle.solver.specs.Answers.{Ran, runFrom, verdictOf, answerOf}
 use Rattle.solver.proofs.StepLaws.{fresh-well-formed}
-use Rattle.solver.proofs.HeldRun.{state-back, run-of-formed}
+use Rattle.state.proofs.HeldRun.{state-back, run-of-formed}
 use Rattle.solver.proofs.HeldStep.{step-formed-run}
 
 -- steps before a run

@@ -13,11 +13,11 @@ use Rattle.tables.specs.declared.Row.{Row}
 use Rattle.tables.specs.Rows.{rowsOf}
 use Rattle.tables.specs.Acceptance.{tableChecks}
 use Rattle.tables.proofs.Accepted.{accepted}
-use Rattle.solver.specs.declared.Standing.{Standing}
-use Rattle.solver.specs.declared.Standing.the-variants.{Open, Satisfied, Refuted}
+use Rattle.state.specs.declared.Standing.{Standing}
+use Rattle.state.specs.declared.Standing.the-variants.{Open, Satisfied, Refuted}
 use Rattle.solver.specs.declared.Verdict.the-variants.{Satisfiable, Unsatisfiable, Unknown}
 use Rattle.solver.specs.Rules.{allRows}
-use Rattle.solver.specs.State.{State, fresh}
+use Rattle.state.specs.State.{State, fresh}
 use Rattle.solver.specs.Step.{after}
 use Rattle.solver.specs.Truth.{allTrue}
 use Rattle.solver.specs.Answers.{Ran, runFrom, verdictOf, answerOf}

@@ -5,7 +5,7 @@ use mathlib.Core.Bool.{Bool, true, false, not}
 use mathlib.Core.List.{List, [], _∷_, _++_}
 use Prim.Native.Nat.{ℕ}
 use lib.Dec.{eqb}
-use borrow.Author.Tests.{eq-eqb, ne-eqb, eqb-true, not-false}
+use borrow.Author.Tests.{eqb-true, not-false}
 use Rattle.refusals.specs.Checks.{check, outcome, given}
 use Rattle.refusals.specs.declared.Outcome.{Outcome}
 use Rattle.refusals.specs.declared.Outcome.the-variants.{Taken, Refused}
@@ -18,27 +18,15 @@ use Rattle.tables.specs.Rows.{rowsOf}
 use Rattle.tables.specs.declared.Dimensions.{Dimensions}
 use Rattle.solver.specs.declared.Answer.{Answer}
 use Rattle.solver.specs.declared.Modelled.the-variants as modelled
-use Rattle.solver.specs.declared.Run.{Run}
+use Rattle.state.specs.declared.Run.{Run}
 use Rattle.solver.specs.declared.Solved.the-variants as solved′
-use Rattle.solver.specs.declared.Standing.{Standing}
-use Rattle.solver.specs.declared.Standing.the-variants.{Open, Satisfied, Refuted}
+use Rattle.state.specs.declared.Standing.{Standing}
+use Rattle.state.specs.declared.Standing.the-variants.{Open, Satisfied, Refuted}
 use Rattle.solver.specs.declared.Stepped.{Stepped}
-use Rattle.solver.specs.State.{stateOf, runOf}
+use Rattle.state.specs.State.{stateOf, runOf}
 use Rattle.solver.specs.Step.{step}
 use Rattle.solver.specs.Answers.{answerOf, stepped, solved, isSatisfied, modelOf}
-use Rattle.solver.specs.WellFormed.{wellFormed, stateChecks}
-
--- ---- the checks of a run
-
-module _ (d : Dimensions) (run : Run) where
-  pub refuse-state : wellFormed run ≡ false → Refused refusal.State ≡ outcome (stateChecks d run)
-  refuse-state e = rw e
-
-  pub refuse-other : wellFormed run ≡ true → (run .n ≡ d .n → ⊥) → Refused OtherVariables ≡ outcome (stateChecks d run)
-  refuse-other e h = rw (e, ne-eqb (run .n) (d .n) h)
-
-  pub take-state : wellFormed run ≡ true → run .n ≡ d .n → Taken ≡ outcome (stateChecks d run)
-  take-state e h = rw (e, eq-eqb (run .n) (d .n) h)
+use Rattle.state.specs.WellFormed.{wellFormed, stateChecks}
 
 -- ---- the checks of tables and run
 

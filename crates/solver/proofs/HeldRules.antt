@@ -10,16 +10,16 @@ use lib.ListN.{getD, set, length, drop, replicate, length-set}
 use lib.Seq.{getD-set-same, getD-set-other, lt-length-set, drop-cons, drop-drop, drop-set-lt}
 use borrow.Author.Tests.{lt-ltb}
 use Rattle.words.specs.Sets.{put}
-use Rattle.solver.specs.declared.Level.{Level}
+use Rattle.state.specs.declared.Level.{Level}
 use Rattle.solver.specs.declared.Rule.the-variants.{AllSatisfied, Conflict, Unit, Choice}
-use Rattle.solver.specs.declared.Run.{Run}
-use Rattle.solver.specs.declared.Standing.{Standing}
-use Rattle.solver.specs.declared.Standing.the-variants.{Open, Satisfied, Refuted}
-use Rattle.solver.specs.State.{State, stateOf, levelsOf, none, runOf}
+use Rattle.state.specs.declared.Run.{Run}
+use Rattle.state.specs.declared.Standing.{Standing}
+use Rattle.state.specs.declared.Standing.the-variants.{Open, Satisfied, Refuted}
+use Rattle.state.specs.State.{State, stateOf, levelsOf, none, runOf}
 use Rattle.solver.specs.Step.{back, follow}
-use Rattle.solver.specs.WellFormed.{chain, wellFormed}
-use Rattle.solver.proofs.WellFormedLaws.{Formed, formed-e, chain-head}
-use Rattle.solver.proofs.HeldRun.{Tidy, formed-run-e, formed-tidy, returned}
+use Rattle.state.specs.WellFormed.{chain, wellFormed}
+use Rattle.state.proofs.WellFormedLaws.{Formed, formed-e, chain-head}
+use Rattle.state.proofs.HeldRun.{Tidy, formed-run-e, formed-tidy, returned}
 
 -- ---- stores
 

@@ -9,16 +9,16 @@ use lib.ListN.{length}
 use Rattle.tables.specs.declared.Row.{Row}
 use Rattle.solver.specs.declared.Rule.{Rule}
 use Rattle.solver.specs.declared.Rule.the-variants.{Unit, Choice}
-use Rattle.solver.specs.declared.Run.{Run}
-use Rattle.solver.specs.declared.Standing.{Standing}
-use Rattle.solver.specs.declared.Standing.the-variants.{Open, Satisfied, Refuted}
+use Rattle.state.specs.declared.Run.{Run}
+use Rattle.state.specs.declared.Standing.{Standing}
+use Rattle.state.specs.declared.Standing.the-variants.{Open, Satisfied, Refuted}
 use Rattle.solver.specs.Rules.{rule}
-use Rattle.solver.specs.State.{stateOf, runOf}
+use Rattle.state.specs.State.{stateOf, runOf}
 use Rattle.solver.specs.Step.{ifOpen, follow, step}
-use Rattle.solver.specs.WellFormed.{wellFormed, wellFormedState}
+use Rattle.state.specs.WellFormed.{wellFormed, wellFormedState}
 use Rattle.solver.proofs.RuleLaws.{rule-unit, rule-choice}
 use Rattle.solver.proofs.StepLaws.{step-well-formed, choice-depth}
-use Rattle.solver.proofs.HeldRun.{length-levels, run-back, formed-run-e, formed-tidy, run-of-formed}
+use Rattle.state.proofs.HeldRun.{length-levels, run-back, formed-run-e, formed-tidy, run-of-formed}
 
 module _ (n : ℕ) (rows : List Row) (run : Run) (same : run .n ≡ n) where
   stepped-as : (st : Standing) → run .standing ≡ st → step n rows (stateOf run) ≡ ifOpen st (follow (stateOf run) (rule n rows (run .t) (run .f))) (stateOf run)

@@ -2,7 +2,6 @@ pub mod RowLaws
 pub mod RuleLaws
 pub mod LowRows
 pub mod WidthLaws
-pub mod WellFormedLaws
 pub mod SettingLaws
 pub mod StepLaws
 pub mod RunLaws
@@ -14,8 +13,6 @@ pub mod Demand2
 pub mod Marked
 pub mod SurveyLaws
 pub mod RuleOfSurvey
-pub mod StateTests
-pub mod HeldRun
 pub mod HeldRules
 pub mod HeldStep
 pub mod BudgetedRun

@@ -6,9 +6,9 @@ use Prim.Native.Nat.{ℕ, zero, suc, _≤_, _<_, zero-le, suc-le-suc}
 use native.Mathlib.Nat.{not-suc-le-zero, le-of-suc-le-suc}
 use native.Mathlib.Omega.{arith}
 use Rattle.tables.specs.declared.Row.{Row}
-use Rattle.solver.specs.declared.Standing.{Standing}
-use Rattle.solver.specs.declared.Standing.the-variants.{Open, Satisfied, Refuted}
-use Rattle.solver.specs.State.{State}
+use Rattle.state.specs.declared.Standing.{Standing}
+use Rattle.state.specs.declared.Standing.the-variants.{Open, Satisfied, Refuted}
+use Rattle.state.specs.State.{State}
 use Rattle.solver.specs.Rules.{rule}
 use Rattle.solver.specs.Step.{follow, ifOpen, step, after}
 use Rattle.solver.specs.Answers.{Ran, runFrom}

@@ -14,9 +14,9 @@ use Rattle.words.proofs.Truth.{and-l, and-r, and-i, mp, imp-i, on, or-false, or
 use Rattle.words.proofs.Upto.{count-le, count-mono, count-lt}
 use Rattle.words.proofs.Bits.{bit-put, put-lt}
 use Rattle.tables.specs.Rows.{free}
-use Rattle.solver.specs.declared.Level.{Level}
-use Rattle.solver.specs.WellFormed.{chain}
-use Rattle.solver.proofs.WellFormedLaws.{Sets, Within, chain-head, chain-tail, chain-cons}
+use Rattle.state.specs.declared.Level.{Level}
+use Rattle.state.specs.WellFormed.{chain}
+use Rattle.state.proofs.WellFormedLaws.{Sets, Within, chain-head, chain-tail, chain-cons}
 
 -- ---- a word with one more variable
 

@@ -10,17 +10,17 @@ use lib.Pow.{pow-pos}
 use Rattle.words.specs.Sets.{put}
 use Rattle.words.proofs.Bits.{bit-zero}
 use Rattle.tables.specs.declared.Row.{Row}
-use Rattle.solver.specs.declared.Level.{Level}
+use Rattle.state.specs.declared.Level.{Level}
 use Rattle.solver.specs.declared.Rule.{Rule}
 use Rattle.solver.specs.declared.Rule.the-variants.{AllSatisfied, Conflict, Unit, Choice}
-use Rattle.solver.specs.declared.Standing.{Standing}
-use Rattle.solver.specs.declared.Standing.the-variants.{Open, Satisfied, Refuted}
+use Rattle.state.specs.declared.Standing.{Standing}
+use Rattle.state.specs.declared.Standing.the-variants.{Open, Satisfied, Refuted}
 use Rattle.solver.specs.Rules.{rule}
-use Rattle.solver.specs.State.{State, fresh}
+use Rattle.state.specs.State.{State, fresh}
 use Rattle.solver.specs.Step.{back, assign, follow, ifOpen, step, after}
-use Rattle.solver.specs.WellFormed.{chain, wellFormedState}
+use Rattle.state.specs.WellFormed.{chain, wellFormedState}
 use Rattle.solver.proofs.RuleLaws.{Ruled, ruled, Settable, unit-settable, choice-settable, rule-choice}
-use Rattle.solver.proofs.WellFormedLaws.{Sets, Formed, formed-e, formed-i, chain-head, chain-tail, chain-cons}
+use Rattle.state.proofs.WellFormedLaws.{Sets, Formed, formed-e, formed-i, chain-head, chain-tail, chain-cons}
 use Rattle.solver.proofs.SettingLaws.{put-keeps, put-has, sets-t, sets-f, free-less-t, chain-mono, depth-free}
 
 -- what each step keeps, any number of steps keeps

@@ -14,17 +14,17 @@ use Rattle.tables.specs.Acceptance.{tableChecks}
 use Rattle.solver.specs.declared.Answer.{Answer}
 use Rattle.solver.specs.declared.Modelled.{Modelled}
 use Rattle.solver.specs.declared.Modelled.the-variants as modelled
-use Rattle.solver.specs.declared.Run.{Run}
+use Rattle.state.specs.declared.Run.{Run}
 use Rattle.solver.specs.declared.Solved.{Solved}
 use Rattle.solver.specs.declared.Solved.the-variants as solved′
-use Rattle.solver.specs.declared.Standing.{Standing}
-use Rattle.solver.specs.declared.Standing.the-variants.{Open, Satisfied, Refuted}
+use Rattle.state.specs.declared.Standing.{Standing}
+use Rattle.state.specs.declared.Standing.the-variants.{Open, Satisfied, Refuted}
 use Rattle.solver.specs.declared.Stepped.{Stepped}
 use Rattle.solver.specs.declared.Verdict.{Verdict}
 use Rattle.solver.specs.declared.Verdict.the-variants.{Satisfiable, Unsatisfiable, Unknown}
-use Rattle.solver.specs.State.{State, fresh, stateOf, runOf}
+use Rattle.state.specs.State.{State, fresh, stateOf, runOf}
 use Rattle.solver.specs.Step.{step}
-use Rattle.solver.specs.WellFormed.{wellFormed, stateChecks}
+use Rattle.state.specs.WellFormed.{wellFormed, stateChecks}
 
 -- ---- the budgeted run
 

@@ -1,7 +1,5 @@
-pub mod State
 pub mod Rules
 pub mod Step
-pub mod WellFormed
 pub mod Answers
 pub mod Truth
 pub mod Demand2

@@ -1,10 +1,11 @@
 // The giant step and the budgeted run over two stations' tables: whether one assignment satisfies both.
 mod rules;
 mod scan;
-mod state;
 
 use refusals::Outcome;
 use refusals::Refusal;
+use state::Run;
+use state::Standing;
 use tables::Dimensions;
 ghost use mathlib.Core.Path.{_≡_};
 ghost use mathlib.Core.Bool.{true, false};
@@ -14,35 +15,9 @@ ghost use Rattle.refusals.specs.Checks.{outcome};
 ghost use Rattle.refusals.specs.declared.Outcome.the-variants.{Taken};
 ghost use Rattle.tables.specs.Acceptance.{tableChecks};
 ghost use Rattle.tables.specs.Rows.{rowsOf};
-ghost use Rattle.solver.specs.State as State;
-ghost use Rattle.solver.specs.State.{runOf};
+ghost use Rattle.state.specs.WellFormed.{stateChecks};
 ghost use Rattle.solver.specs.Step.{ifOpen};
-ghost use Rattle.solver.specs.WellFormed.{stateChecks};
 ghost use Rattle.solver.specs.Answers.{verdictOf, answerOf, stepped, solved, modelOf};
-
-// Where a run stands. Satisfied and refuted runs are closed.
-pub enum Standing {
-    Open,
-    Satisfied,
-    Refuted,
-}
-
-// T and F from before a choice, and the variable chosen, from 0.
-pub struct Level {
-    pub t: u32,
-    pub f: u32,
-    pub chosen: u32,
-}
-
-// A run over n variables: those set true, those set false, and the levels, of which the first `depth` are used.
-pub struct Run {
-    pub n: u8,
-    pub standing: Standing,
-    pub t: u32,
-    pub f: u32,
-    pub depth: usize,
-    pub levels: [Level; 32],
-}
 
 // The rule of the giant step that applies: a unit has its variable and whether it becomes true, a choice its variable.
 pub enum Rule {
@@ -83,39 +58,6 @@ pub enum Modelled {
     Refused(Refusal),
 }
 
-impl Run {
-    // The fresh run: open, with nothing set and no level.
-    pub fn fresh(n: u8) -> Self
-        ensures { λ r. ⌜ r ≡ runOf n State.fresh ⌝ }
-    {
-        Run {
-            n,
-            standing: Standing::Open,
-            t: 0,
-            f: 0,
-            depth: 0,
-            levels: [Level {
-                t: 0,
-                f: 0,
-                chosen: 0,
-            }; 32],
-        }
-    }
-}
-
-// Whether the run is a well-formed state of the tables' n: 12 or 13 if not.
-pub fn check_state(d: Dimensions, run: Run) -> Outcome
-    ensures { λ r. ⌜ r ≡ outcome (stateChecks d run) ⌝ }
-{
-    if !state::well_formed(run) {
-        return Outcome::Refused(Refusal::State);
-    }
-    if run.n != d.n {
-        return Outcome::Refused(Refusal::OtherVariables);
-    }
-    Outcome::Taken
-}
-
 // Whether the tables are accepted and the run is a well-formed state of their n: 1, 2, 4, 3, 12 or 13 if not.
 fn check_all(d: Dimensions, left: &[u32], right: &[u32], run: Run) -> Outcome
     ensures { λ r. ⌜ r ≡ outcome (tableChecks d (now (left .entry)) (now (right .entry)) ++ stateChecks d run) ⌝ }
@@ -123,7 +65,7 @@ fn check_all(d: Dimensions, left: &[u32], right: &[u32], run: Run) -> Outcome
     let checked = tables::accept(d, left, right);
     match checked {
         Outcome::Refused(refusal) => Outcome::Refused(refusal),
-        Outcome::Taken => check_state(d, run),
+        Outcome::Taken => state::check_state(d, run),
     }
 }
 

@@ -1,8 +1,8 @@
 // The giant step by value (document 01, "Giant step"): one function a rule, and the step that follows the rule.
-use crate::Level;
 use crate::Rule;
-use crate::Run;
-use crate::Standing;
+use state::Level;
+use state::Run;
+use state::Standing;
 use tables::Dimensions;
 ghost use mathlib.Core.Path.{_≡_};
 ghost use mathlib.Core.Bool.{true};
@@ -12,10 +12,10 @@ ghost use Rattle.refusals.specs.declared.Outcome.the-variants.{Taken};
 ghost use Rattle.tables.specs.Acceptance.{tableChecks};
 ghost use Rattle.tables.specs.Rows.{rowsOf};
 ghost use Rattle.solver.specs.declared.Rule.the-variants.{AllSatisfied, Conflict, Unit, Choice};
-ghost use Rattle.solver.specs.State.{stateOf, runOf};
+ghost use Rattle.state.specs.State.{stateOf, runOf};
 ghost use Rattle.solver.specs.Step as Step;
 ghost use Rattle.solver.specs.Step.{follow};
-ghost use Rattle.solver.specs.WellFormed.{wellFormed};
+ghost use Rattle.state.specs.WellFormed.{wellFormed};
 
 // Rule 1: nothing but the standing changes.
 fn satisfy(run: Run) -> Run

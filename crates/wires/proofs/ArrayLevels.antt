@@ -13,10 +13,10 @@ use borrow.Author.Tests.{lt-ltb, le-ltb, ltb-true, ltb-false, eqb-true, eqb-fals
 use Rattle.words.specs.Sets.{bit}
 use Rattle.words.proofs.Truth.{on}
 use Rattle.words.proofs.Bits.{bit-zero}
-use Rattle.solver.specs.declared.Level.{Level}
-use Rattle.solver.specs.declared.Run.{Run}
-use Rattle.solver.specs.State.{none, levelsOf, stateOf}
-use Rattle.solver.proofs.HeldRun.{length-levels}
+use Rattle.state.specs.declared.Level.{Level}
+use Rattle.state.specs.declared.Run.{Run}
+use Rattle.state.specs.State.{none, levelsOf, stateOf}
+use Rattle.state.proofs.HeldRun.{length-levels}
 use Rattle.wires.specs.Layout.{upto, onLevel, isSatisfied, isRefuted, inOrder, stateBits}
 use Rattle.wires.specs.Levels.{levelBits, levelIn, levelsBits}
 use Rattle.wires.specs.Reading.{lastFirst}

@@ -19,9 +19,9 @@ use Rattle.tables.specs.declared.Dimensions.{Dimensions}
 use Rattle.tables.specs.Sizes.{outside, stateWires, inputWires}
 use Rattle.tables.specs.Acceptance.{tableChecks}
 use Rattle.tables.proofs.Accepted.{Accepted, accepted}
-use Rattle.solver.specs.declared.Run.{Run}
-use Rattle.solver.specs.State.{fresh, stateOf, runOf}
-use Rattle.solver.specs.WellFormed.{wellFormed, stateChecks}
+use Rattle.state.specs.declared.Run.{Run}
+use Rattle.state.specs.State.{fresh, stateOf, runOf}
+use Rattle.state.specs.WellFormed.{wellFormed, stateChecks}
 use Rattle.gates.specs.Memory.{bytesOf}
 use Rattle.gates.specs.Evaluation.{over}
 use Rattle.wires.specs.declared.Read.{Read}

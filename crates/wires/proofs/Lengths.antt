@@ -10,8 +10,8 @@ use Rattle.tables.specs.declared.Dimensions.{Dimensions}
 use Rattle.tables.specs.declared.Row.{Row}
 use Rattle.tables.specs.Rows.{rowsFrom, rowsOf}
 use Rattle.tables.specs.Sizes.{rowCount, stateWires, inputWires}
-use Rattle.solver.specs.declared.Level.{Level}
-use Rattle.solver.specs.State.{State}
+use Rattle.state.specs.declared.Level.{Level}
+use Rattle.state.specs.State.{State}
 use Rattle.wires.specs.Layout.{Bits, upto, rowBits, rowsBits, bitsIn, inOrder, stateBits}
 use Rattle.wires.specs.Levels.{levelBits}
 use Rattle.wires.specs.Packing.{inputBits}

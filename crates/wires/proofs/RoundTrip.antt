@@ -21,10 +21,10 @@ use Rattle.words.proofs.Truth.{and-l, and-r, and-i}
 use Rattle.tables.specs.declared.Dimensions.{Dimensions}
 use Rattle.tables.specs.Rows.{rowsOf}
 use Rattle.tables.specs.Sizes.{outside, rowCount, stateWires, inputWires}
-use Rattle.solver.specs.declared.Run.{Run}
-use Rattle.solver.specs.State.{State, fresh, stateOf, runOf}
-use Rattle.solver.specs.WellFormed.{wellFormedState, wellFormed}
-use Rattle.solver.proofs.HeldRun.{state-back, run-back, run-of-formed, formed-run-e, formed-tidy}
+use Rattle.state.specs.declared.Run.{Run}
+use Rattle.state.specs.State.{State, fresh, stateOf, runOf}
+use Rattle.state.specs.WellFormed.{wellFormedState, wellFormed}
+use Rattle.state.proofs.HeldRun.{state-back, run-back, run-of-formed, formed-run-e, formed-tidy}
 use Rattle.gates.specs.Gates.{wire}
 use Rattle.gates.specs.Memory.{bytesOf, bitsOf}
 use Rattle.gates.specs.Evaluation.{over}

@@ -10,10 +10,10 @@ use Rattle.words.specs.Sets.{lowest, wordOf}
 use Rattle.words.proofs.Upto.{lowest-cong}
 use Rattle.words.proofs.WordOf.{wordOf-cong}
 use Rattle.tables.specs.Sizes.{stateWires}
-use Rattle.solver.specs.declared.Level.{Level}
-use Rattle.solver.specs.declared.Run.{Run}
-use Rattle.solver.specs.declared.Standing.{Standing}
-use Rattle.solver.specs.State.{none, runOf}
+use Rattle.state.specs.declared.Level.{Level}
+use Rattle.state.specs.declared.Run.{Run}
+use Rattle.state.specs.declared.Standing.{Standing}
+use Rattle.state.specs.State.{none, runOf}
 use Rattle.wires.specs.Levels.{levelFrom, levelsFrom}
 use Rattle.wires.specs.Reading.{wireIn, levelAt, stateAt, standingOf, levelOf, lastFirst, runIn}
 use Rattle.wires.proofs.Lengths.{width-is}

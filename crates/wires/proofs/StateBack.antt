@@ -12,12 +12,12 @@ use borrow.Author.Tests.{eq-eqb, ne-eqb}
 use Rattle.words.specs.Sets.{bit, lowest, wordOf}
 use Rattle.words.proofs.Upto.{lowest-cong}
 use Rattle.words.proofs.WordOf.{wordOf-cong, wordOf-bit}
-use Rattle.solver.specs.declared.Level.{Level}
-use Rattle.solver.specs.declared.Standing.{Standing}
-use Rattle.solver.specs.declared.Standing.the-variants.{Open, Satisfied, Refuted}
-use Rattle.solver.specs.State.{State}
-use Rattle.solver.specs.WellFormed.{chain, wellFormedState}
-use Rattle.solver.proofs.WellFormedLaws.{formed-e, chain-head, chain-tail}
+use Rattle.state.specs.declared.Level.{Level}
+use Rattle.state.specs.declared.Standing.{Standing}
+use Rattle.state.specs.declared.Standing.the-variants.{Open, Satisfied, Refuted}
+use Rattle.state.specs.State.{State}
+use Rattle.state.specs.WellFormed.{chain, wellFormedState}
+use Rattle.state.proofs.WellFormedLaws.{formed-e, chain-head, chain-tail}
 use Rattle.wires.specs.Layout.{Bits, onLevel, isSatisfied, isRefuted, bitsIn}
 use Rattle.wires.specs.Reading.{standingOf, levelOf, lastFirst, unpacked}
 use Rattle.wires.proofs.Addresses.{Same}

@@ -11,8 +11,8 @@ use Rattle.tables.specs.declared.Dimensions.{Dimensions}
 use Rattle.tables.specs.declared.Row.{Row}
 use Rattle.tables.specs.Rows.{rowAt, rowsFrom}
 use Rattle.tables.specs.Sizes.{inputWires}
-use Rattle.solver.specs.declared.Run.{Run}
-use Rattle.solver.specs.State.{stateOf}
+use Rattle.state.specs.declared.Run.{Run}
+use Rattle.state.specs.State.{stateOf}
 use Rattle.gates.specs.Memory.{bytesOf}
 use Rattle.gates.specs.Evaluation.{over}
 use Rattle.wires.specs.Layout.{joined, rowBits, rowsBits, stateBits}

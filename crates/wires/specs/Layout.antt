@@ -6,10 +6,10 @@ use lib.Dec.{eqb}
 use lib.ListN.{length}
 use Rattle.words.specs.Sets.{bit}
 use Rattle.tables.specs.declared.Row.{Row}
-use Rattle.solver.specs.declared.Level.{Level}
-use Rattle.solver.specs.declared.Standing.{Standing}
-use Rattle.solver.specs.declared.Standing.the-variants.{Open, Satisfied, Refuted}
-use Rattle.solver.specs.State.{State}
+use Rattle.state.specs.declared.Level.{Level}
+use Rattle.state.specs.declared.Standing.{Standing}
+use Rattle.state.specs.declared.Standing.the-variants.{Open, Satisfied, Refuted}
+use Rattle.state.specs.State.{State}
 
 -- f 0, .. , f (n - 1)
 unfoldable pub upto : (ℕ → Bool) → ℕ → List Bool

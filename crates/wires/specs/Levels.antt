@@ -5,8 +5,8 @@ use mathlib.Core.List.{List, _++_, reverse}
 use lib.Dec.{eqb, ltb}
 use lib.ListN.{getD, replicate}
 use Rattle.words.specs.Sets.{bit, lowest, wordOf}
-use Rattle.solver.specs.declared.Level.{Level}
-use Rattle.solver.specs.State.{none}
+use Rattle.state.specs.declared.Level.{Level}
+use Rattle.state.specs.State.{none}
 use Rattle.wires.specs.Layout.{upto, joined}
 use Rattle.wires.specs.Reading.{wireIn, levelAt, lastFirst}
 

@@ -10,9 +10,9 @@ use Rattle.tables.specs.declared.Dimensions.{Dimensions}
 use Rattle.tables.specs.Sizes.{inputWires}
 use Rattle.tables.specs.Rows.{rowsOf}
 use Rattle.tables.specs.Acceptance.{tableChecks}
-use Rattle.solver.specs.declared.Run.{Run}
-use Rattle.solver.specs.State.{State, stateOf}
-use Rattle.solver.specs.WellFormed.{stateChecks}
+use Rattle.state.specs.declared.Run.{Run}
+use Rattle.state.specs.State.{State, stateOf}
+use Rattle.state.specs.WellFormed.{stateChecks}
 use Rattle.gates.specs.Memory.{bytesOf}
 use Rattle.gates.specs.Evaluation.{over}
 use Rattle.wires.specs.Layout.{rowsBits, stateBits}

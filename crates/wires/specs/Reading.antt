@@ -10,12 +10,12 @@ use Rattle.refusals.specs.declared.Refusal.the-variants.{Variables, Wires}
 use Rattle.refusals.specs.declared.Refusal.the-variants as refusal
 use Rattle.words.specs.Sets.{lowest, wordOf}
 use Rattle.tables.specs.Sizes.{outside, stateWires}
-use Rattle.solver.specs.declared.Level.{Level}
-use Rattle.solver.specs.declared.Run.{Run}
-use Rattle.solver.specs.declared.Standing.{Standing}
-use Rattle.solver.specs.declared.Standing.the-variants as standing
-use Rattle.solver.specs.State.{State, fresh, stateOf, runOf}
-use Rattle.solver.specs.WellFormed.{wellFormed}
+use Rattle.state.specs.declared.Level.{Level}
+use Rattle.state.specs.declared.Run.{Run}
+use Rattle.state.specs.declared.Standing.{Standing}
+use Rattle.state.specs.declared.Standing.the-variants as standing
+use Rattle.state.specs.State.{State, fresh, stateOf, runOf}
+use Rattle.state.specs.WellFormed.{wellFormed}
 use Rattle.gates.specs.Memory.{bytesOf}
 use Rattle.wires.specs.declared.Read.{Read}
 use Rattle.wires.specs.Layout.{Bits, stateBits}

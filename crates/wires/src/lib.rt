@@ -5,7 +5,7 @@ mod unpacking;
 
 use refusals::Outcome;
 use refusals::Refusal;
-use solver::Run;
+use state::Run;
 use tables::Dimensions;
 ghost use mathlib.Core.Path.{_≡_};
 ghost use mathlib.Core.Bool.{_&&_};
@@ -14,8 +14,8 @@ ghost use lib.ListN.{length, take};
 ghost use Rattle.refusals.specs.Checks.{outcome};
 ghost use Rattle.refusals.specs.declared.Outcome.the-variants.{Refused};
 ghost use Rattle.tables.specs.Sizes.{stateWires};
-ghost use Rattle.solver.specs.State.{stateOf, runOf, fresh};
-ghost use Rattle.solver.specs.WellFormed.{wellFormed};
+ghost use Rattle.state.specs.State.{stateOf, runOf, fresh};
+ghost use Rattle.state.specs.WellFormed.{wellFormed};
 ghost use Rattle.gates.specs.Memory.{bytesOf};
 ghost use Rattle.wires.specs.Layout.{stateBits};
 ghost use Rattle.wires.specs.Packing.{packChecks, packed};
@@ -42,7 +42,7 @@ pub fn check(d: Dimensions, left: &[u32], right: &[u32], run: Run, room: usize) 
     if room < d.input_wires() {
         return Outcome::Refused(Refusal::Wires);
     }
-    solver::check_state(d, run)
+    state::check_state(d, run)
 }
 
 // Packs left rows, right rows and run into the front of the bytes; later bytes stay. Refused, it changes no byte.
@@ -84,7 +84,7 @@ fn gives(d: Dimensions, run: Run, bytes: &[u8]) -> bool
     requires { ⌜ stateWires (d .n) ≤ length (now bytes) ⌝ }
     ensures { λ r. ⌜ r ≡ wellFormed run && Reading.same (bytesOf (stateBits (d .n) (stateOf run))) (take (stateWires (d .n)) (now (bytes .entry))) ⌝ }
 {
-    match solver::check_state(d, run) {
+    match state::check_state(d, run) {
         Outcome::Taken => {}
         Outcome::Refused(_) => return false,
     }

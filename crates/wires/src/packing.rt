@@ -1,7 +1,7 @@
 // Wires written into bytes, a byte a wire. Each function gives the place behind what it wrote; the other bytes stay.
-use solver::Level;
-use solver::Run;
-use solver::Standing;
+use state::Level;
+use state::Run;
+use state::Standing;
 use tables::Row;
 ghost use mathlib.Core.Path.{_≡_};
 ghost use mathlib.Core.List.{[], _∷_};
@@ -13,7 +13,7 @@ ghost use Rattle.words.specs.Booleans.{digit};
 ghost use Rattle.words.specs.Sets.{bit};
 ghost use Rattle.tables.specs.Rows.{rowsFrom};
 ghost use Rattle.tables.specs.Sizes.{stateWires};
-ghost use Rattle.solver.specs.State.{stateOf};
+ghost use Rattle.state.specs.State.{stateOf};
 ghost use Rattle.gates.specs.Memory.{bytesOf};
 ghost use Rattle.wires.specs.Layout as Layout;
 ghost use Rattle.wires.specs.Layout.{upto, rowBits, rowsBits, stateBits};

@@ -1,7 +1,7 @@
 // Wires read from bytes, a byte a wire. A wire is set where its byte is 1.
-use solver::Level;
-use solver::Run;
-use solver::Standing;
+use state::Level;
+use state::Run;
+use state::Standing;
 ghost use mathlib.Core.Path.{_≡_};
 ghost use Prim.Native.Nat.{_+_, _*_, _≤_, _<_};
 ghost use lib.Dec.{eqb};

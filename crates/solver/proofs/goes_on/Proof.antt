@@ -3,7 +3,7 @@
 use mathlib.Core.Path.{sym, ap}
 use mathlib.Core.Bool.{false}
 use lib.Dec.{ltb}
-use Rattle.solver.specs.declared.Standing.{Standing}
+use Rattle.state.specs.declared.Standing.{Standing}
 use Rattle.solver.specs.Step.{ifOpen}
 use borrow.Author.Needs.{needs}
 use Rattle.solver.proofs.goes_on.Statement.{statement}

@@ -49,10 +49,10 @@ use Rattle.tables.specs.declared.Dimensions.{Dimensions}
 use Rattle.tables.proofs.Dimensions as D
 use Rattle.tables.proofs.Dimensions.Laws as D′
 use Rattle.solver.specs.Answers.{stepped}
-use Rattle.solver.specs.declared.Run.{Run}
+use Rattle.state.specs.declared.Run.{Run}
 use Rattle.solver.specs.declared.Stepped.{Stepped}
-use Rattle.solver.proofs.Run as R
-use Rattle.solver.proofs.Run.Laws as R′
+use Rattle.state.proofs.Run as R
+use Rattle.state.proofs.Run.Laws as R′
 use Rattle.solver.proofs.Stepped as S
 use Rattle.solver.proofs.Stepped.Laws as S′
 use Rattle.solver.proofs.step as by-value

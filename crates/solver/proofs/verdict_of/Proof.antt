@@ -1,7 +1,7 @@
 -- `solver::verdict_of` meets its contract: by the standing.
 -- Assumes nothing.
 use mathlib.Core.Path.{sym, ap}
-use Rattle.solver.specs.declared.Standing.{Standing}
+use Rattle.state.specs.declared.Standing.{Standing}
 use Rattle.solver.specs.Answers.{verdictOf}
 use borrow.Author.Needs.{needs}
 use Rattle.solver.proofs.verdict_of.Statement.{statement}

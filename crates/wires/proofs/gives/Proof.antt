@@ -4,7 +4,7 @@ use mathlib.Core.Path.{_≡_, sym, ap, ap₂, subst, _∙_}
 use native.Mathlib.Omega.{arith}
 use Prim.Native.Nat.{ℕ, _≤_}
 use lib.ListN.{length, take}
-use Rattle.solver.specs.State.{stateOf}
+use Rattle.state.specs.State.{stateOf}
 use Rattle.tables.specs.Sizes.{stateWires}
 use Rattle.wires.specs.Layout.{stateBits}
 use Rattle.wires.specs.Reading as Reading

@@ -9,7 +9,7 @@ use lib.ListN.{length}
 use borrow.Author.Tests.{lt-ltb, le-ltb, ltb-false, not-true, not-false}
 use Rattle.words.proofs.Truth.{or-true}
 use Rattle.refusals.specs.declared.Outcome.the-variants.{Taken}
-use Rattle.solver.specs.declared.Run.{Run}
+use Rattle.state.specs.declared.Run.{Run}
 use Rattle.tables.specs.Sizes.{outside}
 use Rattle.wires.proofs.Checks.{no-variables, no-room, no-state, read-taken, found, run-variables}
 use borrow.Author.Needs.{needs}

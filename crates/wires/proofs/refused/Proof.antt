@@ -2,7 +2,7 @@
 -- Assumes nothing.
 use mathlib.Core.Path.{ap}
 use Rattle.refusals.specs.declared.Outcome.the-variants.{Refused}
-use Rattle.solver.specs.declared.Run.{Run}
+use Rattle.state.specs.declared.Run.{Run}
 use borrow.Author.Needs.{needs}
 use Rattle.wires.proofs.refused.Statement.{statement}
 use Rattle.wires.proofs.refused.Tie as tie

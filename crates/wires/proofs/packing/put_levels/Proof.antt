@@ -3,7 +3,7 @@
 use mathlib.Core.Path.{_≡_, ap, _∙_}
 use native.Mathlib.Omega.{arith}
 use Prim.Native.Nat.{ℕ, _≤_, _+_, _*_, _-_}
-use Rattle.solver.specs.declared.Level.{Level}
+use Rattle.state.specs.declared.Level.{Level}
 use Rattle.wires.specs.Levels.{levelBits, levelIn, levelsBits}
 use Rattle.wires.proofs.Lengths.{level-length}
 use Rattle.wires.proofs.Stores.{Listed, stored, list-start, list-room, list-turn}

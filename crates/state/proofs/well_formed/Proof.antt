@@ -1,11 +1,11 @@
--- `solver::state::well_formed` meets its contract: each test that fails makes the definition false, and the unused levels decide where all hold.
+-- `state::well_formed` meets its contract: each test that fails makes the definition false, and the unused levels decide where all hold.
 -- Assumes nothing.
 use mathlib.Core.Path.{sym, _∙_}
 use borrow.Author.Needs.{needs}
 use borrow.Author.Tests.{not-true, not-false}
-use Rattle.solver.proofs.StateTests.{too-few, too-many, not-sets, too-deep, not-linked, rest-decides}
-use Rattle.solver.proofs.state.well_formed.Statement.{statement}
-use Rattle.solver.proofs.state.well_formed.Tie as tie
+use Rattle.state.proofs.StateTests.{too-few, too-many, not-sets, too-deep, not-linked, rest-decides}
+use Rattle.state.proofs.well_formed.Statement.{statement}
+use Rattle.state.proofs.well_formed.Tie as tie
 
 cast-n : tie.Need-cast-n
 cast-n c = search needs

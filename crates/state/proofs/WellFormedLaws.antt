@@ -12,9 +12,9 @@ use Rattle.words.specs.Sets.{bit}
 use Rattle.words.proofs.Truth.{and-l, and-r, and-i, mp, imp-i}
 use Rattle.words.proofs.Upto.{all-e, all-i}
 use Rattle.tables.specs.Rows.{free}
-use Rattle.solver.specs.declared.Level.{Level}
-use Rattle.solver.specs.State.{State}
-use Rattle.solver.specs.WellFormed.{within, sets, precedes, chain, wellFormedState}
+use Rattle.state.specs.declared.Level.{Level}
+use Rattle.state.specs.State.{State}
+use Rattle.state.specs.WellFormed.{within, sets, precedes, chain, wellFormedState}
 
 -- ---- T and F
 

@@ -11,11 +11,11 @@ use lib.Seq.{take-suc, getD-append-add, drop-at}
 use borrow.Author.Tests.{eqb-true, ltb-false, le-ltb, not-true}
 use Rattle.words.proofs.Truth.{and-l, and-r, or-l, or-r}
 use Rattle.tables.specs.Sizes.{outside}
-use Rattle.solver.specs.declared.Level.{Level}
-use Rattle.solver.specs.declared.Run.{Run}
-use Rattle.solver.specs.State.{State, stateOf, levelsOf, none, runOf}
-use Rattle.solver.specs.WellFormed.{unused, wellFormedState, wellFormed}
-use Rattle.solver.proofs.WellFormedLaws.{formed-e}
+use Rattle.state.specs.declared.Level.{Level}
+use Rattle.state.specs.declared.Run.{Run}
+use Rattle.state.specs.State.{State, stateOf, levelsOf, none, runOf}
+use Rattle.state.specs.WellFormed.{unused, wellFormedState, wellFormed}
+use Rattle.state.proofs.WellFormedLaws.{formed-e}
 
 pub length-levels : (d : ℕ) (levels : List Level) → length (levelsOf d levels) ≡ d
 length-levels zero levels = refl

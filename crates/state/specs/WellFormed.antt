@@ -12,9 +12,9 @@ use Rattle.words.specs.Sets.{bit, all}
 use Rattle.tables.specs.Sizes.{outside}
 use Rattle.tables.specs.Rows.{free}
 use Rattle.tables.specs.declared.Dimensions.{Dimensions}
-use Rattle.solver.specs.declared.Level.{Level}
-use Rattle.solver.specs.declared.Run.{Run}
-use Rattle.solver.specs.State.{State, stateOf}
+use Rattle.state.specs.declared.Level.{Level}
+use Rattle.state.specs.declared.Run.{Run}
+use Rattle.state.specs.State.{State, stateOf}
 
 unfoldable pub disjoint : ℕ → ℕ → ℕ → Bool
 disjoint n t f = all (λ i. not (bit t i && bit f i)) n

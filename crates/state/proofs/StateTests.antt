@@ -19,12 +19,12 @@ use Rattle.words.proofs.Upto.{all-e, all-i}
 use Rattle.words.proofs.Bits.{bit-zero, bit-or}
 use Rattle.words.proofs.Operations.{bit-and, bit-ext, bit-not, bit-high, and-lt-left}
 use Rattle.tables.specs.Rows.{free}
-use Rattle.solver.specs.declared.Level.{Level}
-use Rattle.solver.specs.declared.Run.{Run}
-use Rattle.solver.specs.State.{levelsOf, none}
-use Rattle.solver.specs.WellFormed.{disjoint, within, sets, precedes, chain, unused, wellFormedState, wellFormed}
-use Rattle.solver.proofs.WellFormedLaws.{sets-e}
-use Rattle.solver.proofs.HeldRun.{length-levels}
+use Rattle.state.specs.declared.Level.{Level}
+use Rattle.state.specs.declared.Run.{Run}
+use Rattle.state.specs.State.{levelsOf, none}
+use Rattle.state.specs.WellFormed.{disjoint, within, sets, precedes, chain, unused, wellFormedState, wellFormed}
+use Rattle.state.proofs.WellFormedLaws.{sets-e}
+use Rattle.state.proofs.HeldRun.{length-levels}
 
 -- ---- words
 

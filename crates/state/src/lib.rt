@@ -1,11 +1,59 @@
-// Whether a run is a well-formed state (document 01, "Giant step").
-use crate::Level;
-use crate::Run;
+// A run's state: its sets and levels, the fresh run, and when a state is well-formed (document 01, "Giant step").
+use refusals::Outcome;
+use refusals::Refusal;
+use tables::Dimensions;
 ghost use mathlib.Core.Path.{_≡_};
 ghost use Prim.Native.Nat.{_≤_};
 ghost use lib.ListN.{drop};
-ghost use Rattle.solver.specs.State.{levelsOf};
-ghost use Rattle.solver.specs.WellFormed as WellFormed;
+ghost use Rattle.refusals.specs.Checks.{outcome};
+ghost use Rattle.state.specs.State as State;
+ghost use Rattle.state.specs.State.{runOf, levelsOf};
+ghost use Rattle.state.specs.WellFormed as WellFormed;
+ghost use Rattle.state.specs.WellFormed.{stateChecks};
+
+// Where a run stands. Satisfied and refuted runs are closed.
+pub enum Standing {
+    Open,
+    Satisfied,
+    Refuted,
+}
+
+// T and F from before a choice, and the variable chosen, from 0.
+pub struct Level {
+    pub t: u32,
+    pub f: u32,
+    pub chosen: u32,
+}
+
+// A run over n variables: those set true, those set false, and the levels, of which the first `depth` are used.
+pub struct Run {
+    pub n: u8,
+    pub standing: Standing,
+    pub t: u32,
+    pub f: u32,
+    pub depth: usize,
+    pub levels: [Level; 32],
+}
+
+impl Run {
+    // The fresh run: open, with nothing set and no level.
+    pub fn fresh(n: u8) -> Self
+        ensures { λ r. ⌜ r ≡ runOf n State.fresh ⌝ }
+    {
+        Run {
+            n,
+            standing: Standing::Open,
+            t: 0,
+            f: 0,
+            depth: 0,
+            levels: [Level {
+                t: 0,
+                f: 0,
+                chosen: 0,
+            }; 32],
+        }
+    }
+}
 
 // Whether T and F are disjoint and below n.
 fn sets(n: u32, t: u32, f: u32) -> bool
@@ -76,7 +124,7 @@ fn unused(levels: [Level; 32], depth: usize) -> bool
 }
 
 // Whether the run is a well-formed state of its own n.
-pub(crate) fn well_formed(run: Run) -> bool
+pub fn well_formed(run: Run) -> bool
     ensures { λ r. ⌜ r ≡ WellFormed.wellFormed run ⌝ }
 {
     let n = run.n as u32;
@@ -98,4 +146,17 @@ pub(crate) fn well_formed(run: Run) -> bool
         return false;
     }
     unused(levels, depth)
+}
+
+// Whether the run is a well-formed state of the tables' n: 12 or 13 if not.
+pub fn check_state(d: Dimensions, run: Run) -> Outcome
+    ensures { λ r. ⌜ r ≡ outcome (stateChecks d run) ⌝ }
+{
+    if !well_formed(run) {
+        return Outcome::Refused(Refusal::State);
+    }
+    if run.n != d.n {
+        return Outcome::Refused(Refusal::OtherVariables);
+    }
+    Outcome::Taken
 }

@@ -1,14 +1,14 @@
--- `solver::state::unused` meets its contract. The loop's invariant: the levels from i on decide what the whole decides.
+-- `state::unused` meets its contract. The loop's invariant: the levels from i on decide what the whole decides.
 -- The measure is what is left of the 32 levels. Assumes nothing.
 use mathlib.Core.Path.{_≡_, _∙_}
 use Prim.Native.Nat.{_-_}
 use native.Mathlib.Omega.{arith}
 use borrow.Author.Needs.{needs}
 use lib.ListN.{drop}
-use Rattle.solver.specs.WellFormed.{unused}
-use Rattle.solver.proofs.StateTests.{unused-none, unused-stop, unused-on}
-use Rattle.solver.proofs.state.unused.Statement.{statement}
-use Rattle.solver.proofs.state.unused.Tie as tie
+use Rattle.state.specs.WellFormed.{unused}
+use Rattle.state.proofs.StateTests.{unused-none, unused-stop, unused-on}
+use Rattle.state.proofs.unused.Statement.{statement}
+use Rattle.state.proofs.unused.Tie as tie
 
 abbrev Inv-loop : tie.InvT-loop
 Inv-loop depth levels i₀ i = unused (drop i levels) ≡ unused (drop depth levels)

@@ -1,15 +1,15 @@
--- `solver::state::chain` meets its contract. The loop's invariant: the first i levels before the present T and F decide what the whole decides.
+-- `state::chain` meets its contract. The loop's invariant: the first i levels before the present T and F decide what the whole decides.
 -- The measure is i. Assumes nothing.
 use mathlib.Core.Path.{_≡_, sym, _∙_}
 use Prim.Native.Nat.{_≤_}
 use native.Mathlib.Omega.{arith}
 use borrow.Author.Needs.{needs}
 use borrow.Author.Tests.{not-true, not-false}
-use Rattle.solver.specs.State.{levelsOf}
-use Rattle.solver.specs.WellFormed.{chain}
-use Rattle.solver.proofs.StateTests.{chain-end, chain-stop, chain-on}
-use Rattle.solver.proofs.state.chain.Statement.{statement}
-use Rattle.solver.proofs.state.chain.Tie as tie
+use Rattle.state.specs.State.{levelsOf}
+use Rattle.state.specs.WellFormed.{chain}
+use Rattle.state.proofs.StateTests.{chain-end, chain-stop, chain-on}
+use Rattle.state.proofs.chain.Statement.{statement}
+use Rattle.state.proofs.chain.Tie as tie
 
 abbrev Inv-loop : tie.InvT-loop
 Inv-loop n depth t f levels t₀ f₀ i₀ t' f' i = (i ≤ depth) × (chain n t' f' (levelsOf i levels) ≡ chain n t f (levelsOf depth levels))

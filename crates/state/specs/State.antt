@@ -2,10 +2,10 @@
 use Prim.Native.Nat.{ℕ, zero, suc, _-_}
 use mathlib.Core.List.{List, [], _∷_, _++_, reverse}
 use lib.ListN.{length, getD, replicate}
-use Rattle.solver.specs.declared.Level.{Level}
-use Rattle.solver.specs.declared.Run.{Run}
-use Rattle.solver.specs.declared.Standing.{Standing}
-use Rattle.solver.specs.declared.Standing.the-variants.{Open}
+use Rattle.state.specs.declared.Level.{Level}
+use Rattle.state.specs.declared.Run.{Run}
+use Rattle.state.specs.declared.Standing.{Standing}
+use Rattle.state.specs.declared.Standing.the-variants.{Open}
 
 -- the used levels, the last one first
 pub record State : Type 0 where

@@ -1,11 +1,11 @@
--- `solver::check_state` meets its contract: a check that fails decides.
+-- `state::check_state` meets its contract: a check that fails decides.
 -- Assumes nothing.
 use mathlib.Core.Path.{sym, _∙_}
 use borrow.Author.Tests.{not-true, not-false}
-use Rattle.solver.proofs.Entries.{refuse-state, refuse-other, take-state}
+use Rattle.state.proofs.Checks.{refuse-state, refuse-other, take-state}
 use borrow.Author.Needs.{needs}
-use Rattle.solver.proofs.check_state.Statement.{statement}
-use Rattle.solver.proofs.check_state.Tie as tie
+use Rattle.state.proofs.check_state.Statement.{statement}
+use Rattle.state.proofs.check_state.Tie as tie
 
 well-formed-requires : tie.Need-well-formed-requires
 well-formed-requires c κs = search needs

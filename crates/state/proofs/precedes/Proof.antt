@@ -1,12 +1,12 @@
--- `solver::state::precedes` meets its contract: each test of words is the definition's test of variables.
+-- `state::precedes` meets its contract: each test of words is the definition's test of variables.
 -- Assumes nothing.
 use mathlib.Core.Path.{sym, _∙_}
 use native.Mathlib.Omega.{arith}
 use borrow.Author.Needs.{needs}
 use borrow.Author.Tests.{not-true, not-false}
-use Rattle.solver.proofs.StateTests.{no-sets, no-variable, not-free, not-within, now-true}
-use Rattle.solver.proofs.state.precedes.Statement.{statement}
-use Rattle.solver.proofs.state.precedes.Tie as tie
+use Rattle.state.proofs.StateTests.{no-sets, no-variable, not-free, not-within, now-true}
+use Rattle.state.proofs.precedes.Statement.{statement}
+use Rattle.state.proofs.precedes.Tie as tie
 
 sets-requires : tie.Need-sets-requires
 sets-requires c κs = search needs

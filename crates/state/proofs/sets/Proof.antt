@@ -1,11 +1,11 @@
--- `solver::state::sets` meets its contract: each test that fails makes the definition false, and no common digit is a test of every variable.
+-- `state::sets` meets its contract: each test that fails makes the definition false, and no common digit is a test of every variable.
 -- Assumes nothing.
 use mathlib.Core.Path.{sym, _∙_}
 use borrow.Author.Needs.{needs}
 use borrow.Author.Tests.{not-true, not-false}
-use Rattle.solver.proofs.StateTests.{high-t, high-f, sets-word}
-use Rattle.solver.proofs.state.sets.Statement.{statement}
-use Rattle.solver.proofs.state.sets.Tie as tie
+use Rattle.state.proofs.StateTests.{high-t, high-f, sets-word}
+use Rattle.state.proofs.sets.Statement.{statement}
+use Rattle.state.proofs.sets.Tie as tie
 
 below-requires : tie.Need-below-requires
 below-requires c κs = search needs

@@ -1,0 +1,22 @@
+-- What the checks of a run give: the first that fails decides.
+-- Assumes nothing.
+use mathlib.Core.Path.{_≡_}
+use mathlib.Core.Bool.{true, false}
+use borrow.Author.Tests.{eq-eqb, ne-eqb}
+use Rattle.refusals.specs.Checks.{outcome}
+use Rattle.refusals.specs.declared.Outcome.the-variants.{Taken, Refused}
+use Rattle.refusals.specs.declared.Refusal.the-variants.{OtherVariables}
+use Rattle.refusals.specs.declared.Refusal.the-variants as refusal
+use Rattle.tables.specs.declared.Dimensions.{Dimensions}
+use Rattle.state.specs.declared.Run.{Run}
+use Rattle.state.specs.WellFormed.{wellFormed, stateChecks}
+
+module _ (d : Dimensions) (run : Run) where
+  pub refuse-state : wellFormed run ≡ false → Refused refusal.State ≡ outcome (stateChecks d run)
+  refuse-state e = rw e
+
+  pub refuse-other : wellFormed run ≡ true → (run .n ≡ d .n → ⊥) → Refused OtherVariables ≡ outcome (stateChecks d run)
+  refuse-other e h = rw (e, ne-eqb (run .n) (d .n) h)
+
+  pub take-state : wellFormed run ≡ true → run .n ≡ d .n → Taken ≡ outcome (stateChecks d run)
+  take-state e h = rw (e, eq-eqb (run .n) (d .n) h)

@@ -1,0 +1,4 @@
+pub mod WellFormedLaws
+pub mod HeldRun
+pub mod StateTests
+pub mod Checks
