@@ -15,12 +15,12 @@ use Rattle.words.proofs.Truth.{and-l, and-r, not-f}
 use Rattle.tables.specs.declared.Row.{Row}
 use Rattle.tables.specs.Rows.{free}
 use Rattle.state.specs.declared.Level.{Level}
-use Rattle.solver.specs.declared.Rule.{Rule}
-use Rattle.solver.specs.declared.Rule.the-variants.{AllSatisfied, Conflict, Unit, Choice}
+use Rattle.scan.specs.declared.Rule.{Rule}
+use Rattle.scan.specs.declared.Rule.the-variants.{AllSatisfied, Conflict, Unit, Choice}
 use Rattle.state.specs.declared.Standing.{Standing}
 use Rattle.state.specs.declared.Standing.the-variants.{Open, Satisfied, Refuted}
 use Rattle.state.specs.State.{State}
-use Rattle.solver.specs.Rules.{rule}
+use Rattle.scan.specs.Rules.{rule}
 use Rattle.solver.specs.Step.{ifOpen, follow, step}
 use Rattle.state.specs.WellFormed.{wellFormedState}
 use Rattle.solver.proofs.RuleLaws.{Ruled, ruled, unit-settable, choice-settable}

@@ -16,7 +16,7 @@ use Rattle.tables.specs.declared.Row.{Row}
 use Rattle.tables.specs.Rows.{satisfied, freeIn, freeLiterals}
 use Rattle.tables.proofs.Rows.{satisfies, satisfied-any, unsatisfied-none, unsatisfied-literals}
 use Rattle.state.specs.State.{State}
-use Rattle.solver.specs.Rules.{left}
+use Rattle.scan.specs.Rules.{left}
 use Rattle.solver.proofs.RuleLaws.{left-unsatisfied, left-count}
 use Rattle.netlist.proofs.Equations.{or, freeOf, freeHere, satisfiedHere, unitOf, conflictOf}
 use Rattle.netlist.proofs.Interface.{Wires, OnState, rowOf}

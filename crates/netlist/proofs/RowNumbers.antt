@@ -9,9 +9,9 @@ use Rattle.words.specs.Sets.{bit, any, lowest}
 use Rattle.words.proofs.Truth.{on, taut2, same, same-eq}
 use Rattle.tables.specs.declared.Row.{Row}
 use Rattle.tables.specs.Rows.{freeIn}
-use Rattle.solver.specs.declared.Rule.{Rule}
-use Rattle.solver.specs.declared.Rule.the-variants.{Unit}
-use Rattle.solver.specs.Rules.{allRows, anyRow, left, unitOr}
+use Rattle.scan.specs.declared.Rule.{Rule}
+use Rattle.scan.specs.declared.Rule.the-variants.{Unit}
+use Rattle.scan.specs.Rules.{allRows, anyRow, left, unitOr}
 use Rattle.netlist.proofs.Interface.{rowOf}
 
 module _ (p : Row → Bool) where

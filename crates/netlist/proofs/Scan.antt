@@ -16,10 +16,10 @@ use Rattle.words.proofs.Upto.{any-e, any-mono, lowest-hit, lowest-cong}
 use Rattle.words.proofs.Last.{any-cong, any-at, lowest-first}
 use Rattle.tables.specs.declared.Row.{Row}
 use Rattle.tables.specs.Rows.{satisfied, freeIn}
-use Rattle.solver.specs.declared.Rule.{Rule}
-use Rattle.solver.specs.declared.Rule.the-variants.{AllSatisfied, Conflict, Unit, Choice}
+use Rattle.scan.specs.declared.Rule.{Rule}
+use Rattle.scan.specs.declared.Rule.the-variants.{AllSatisfied, Conflict, Unit, Choice}
 use Rattle.state.specs.State.{State}
-use Rattle.solver.specs.Rules.{allRows, anyRow, left, choice, rule}
+use Rattle.scan.specs.Rules.{allRows, anyRow, left, choice, rule}
 use Rattle.solver.proofs.RuleLaws.{left-unsatisfied}
 use Rattle.netlist.proofs.Equations.{or, unitOf, firstOf, countsOf}
 use Rattle.netlist.proofs.Interface.{Wires, OnState, rowOf}

@@ -12,11 +12,11 @@ use Rattle.words.proofs.Truth.{and-l, and-r, and-i}
 use Rattle.words.proofs.Upto.{count-le}
 use Rattle.tables.specs.declared.Row.{Row}
 use Rattle.state.specs.declared.Level.{Level}
-use Rattle.solver.specs.declared.Rule.{Rule}
-use Rattle.solver.specs.declared.Rule.the-variants.{AllSatisfied, Conflict, Unit, Choice}
+use Rattle.scan.specs.declared.Rule.{Rule}
+use Rattle.scan.specs.declared.Rule.the-variants.{AllSatisfied, Conflict, Unit, Choice}
 use Rattle.state.specs.declared.Standing.{Standing}
 use Rattle.state.specs.declared.Standing.the-variants.{Open, Satisfied, Refuted}
-use Rattle.solver.specs.Rules.{rule}
+use Rattle.scan.specs.Rules.{rule}
 use Rattle.state.specs.State.{State, fresh}
 use Rattle.solver.specs.Step.{back, assign, follow, ifOpen, step, after}
 use Rattle.solver.specs.Truth.{occurs, occurring}

@@ -16,7 +16,7 @@ use Rattle.tables.proofs.Accepted.{accepted}
 use Rattle.state.specs.declared.Standing.{Standing}
 use Rattle.state.specs.declared.Standing.the-variants.{Open, Satisfied, Refuted}
 use Rattle.solver.specs.declared.Verdict.the-variants.{Satisfiable, Unsatisfiable, Unknown}
-use Rattle.solver.specs.Rules.{allRows}
+use Rattle.scan.specs.Rules.{allRows}
 use Rattle.state.specs.State.{State, fresh}
 use Rattle.solver.specs.Step.{after}
 use Rattle.solver.specs.Truth.{allTrue}

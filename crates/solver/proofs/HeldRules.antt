@@ -11,7 +11,7 @@ use lib.Seq.{getD-set-same, getD-set-other, lt-length-set, drop-cons, drop-drop,
 use borrow.Author.Tests.{lt-ltb}
 use Rattle.words.specs.Sets.{put}
 use Rattle.state.specs.declared.Level.{Level}
-use Rattle.solver.specs.declared.Rule.the-variants.{AllSatisfied, Conflict, Unit, Choice}
+use Rattle.scan.specs.declared.Rule.the-variants.{AllSatisfied, Conflict, Unit, Choice}
 use Rattle.state.specs.declared.Run.{Run}
 use Rattle.state.specs.declared.Standing.{Standing}
 use Rattle.state.specs.declared.Standing.the-variants.{Open, Satisfied, Refuted}

@@ -7,12 +7,12 @@ use Prim.Native.Nat.{ℕ, _<_}
 use native.Mathlib.Omega.{arith}
 use lib.ListN.{length}
 use Rattle.tables.specs.declared.Row.{Row}
-use Rattle.solver.specs.declared.Rule.{Rule}
-use Rattle.solver.specs.declared.Rule.the-variants.{Unit, Choice}
+use Rattle.scan.specs.declared.Rule.{Rule}
+use Rattle.scan.specs.declared.Rule.the-variants.{Unit, Choice}
 use Rattle.state.specs.declared.Run.{Run}
 use Rattle.state.specs.declared.Standing.{Standing}
 use Rattle.state.specs.declared.Standing.the-variants.{Open, Satisfied, Refuted}
-use Rattle.solver.specs.Rules.{rule}
+use Rattle.scan.specs.Rules.{rule}
 use Rattle.state.specs.State.{stateOf, runOf}
 use Rattle.solver.specs.Step.{ifOpen, follow, step}
 use Rattle.state.specs.WellFormed.{wellFormed, wellFormedState}

@@ -1,7 +1,7 @@
-pub mod RowLaws
 pub mod RuleLaws
 pub mod LowRows
 pub mod WidthLaws
+pub mod AcceptedRule
 pub mod SettingLaws
 pub mod StepLaws
 pub mod RunLaws
@@ -11,8 +11,6 @@ pub mod Refutation
 pub mod Bound
 pub mod Demand2
 pub mod Marked
-pub mod SurveyLaws
-pub mod RuleOfSurvey
 pub mod HeldRules
 pub mod HeldStep
 pub mod BudgetedRun

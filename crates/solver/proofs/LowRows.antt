@@ -16,8 +16,8 @@ use Rattle.tables.specs.declared.Row.{Row}
 use Rattle.tables.specs.Rows.{rowsFrom, rowsOf}
 use Rattle.tables.specs.Acceptance.{tableChecks}
 use Rattle.tables.proofs.Accepted.{accepted}
-use Rattle.solver.specs.Rules.{allRows}
-use Rattle.solver.proofs.RowLaws.{all-rows-append}
+use Rattle.scan.specs.Rules.{allRows}
+use Rattle.scan.proofs.RowLaws.{all-rows-append}
 
 -- the row's words are below 2 ^ n
 abbrev pub lowRow : ℕ → Row → Bool

@@ -17,15 +17,15 @@ use Rattle.tables.specs.declared.Row.{Row}
 use Rattle.tables.specs.Rows.{satisfied, freeIn}
 use Rattle.tables.proofs.Rows.{unsatisfied-none}
 use Rattle.state.specs.declared.Level.{Level}
-use Rattle.solver.specs.declared.Rule.{Rule}
-use Rattle.solver.specs.declared.Rule.the-variants.{AllSatisfied, Conflict, Unit, Choice}
+use Rattle.scan.specs.declared.Rule.{Rule}
+use Rattle.scan.specs.declared.Rule.the-variants.{AllSatisfied, Conflict, Unit, Choice}
 use Rattle.state.specs.declared.Standing.{Standing}
 use Rattle.state.specs.declared.Standing.the-variants.{Open, Satisfied, Refuted}
-use Rattle.solver.specs.Rules.{left, allRows, rule}
+use Rattle.scan.specs.Rules.{left, allRows, rule}
 use Rattle.state.specs.State.{State, fresh}
 use Rattle.solver.specs.Step.{back, assign, follow, ifOpen, step, after}
 use Rattle.solver.specs.Truth.{allTrue}
-use Rattle.solver.proofs.RowLaws.{In}
+use Rattle.scan.proofs.RowLaws.{In}
 use Rattle.solver.proofs.RuleLaws.{Ruled, ruled, Forces, left-unsatisfied, left-count}
 use Rattle.solver.proofs.StepLaws.{after-keeps}
 use Rattle.solver.proofs.LowRows.{lowRow}

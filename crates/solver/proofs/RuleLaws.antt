@@ -13,11 +13,11 @@ use Rattle.words.proofs.Upto.{count-some, lowest-hit}
 use Rattle.tables.specs.declared.Row.{Row}
 use Rattle.tables.specs.Rows.{padding, satisfied, free, holds, freeIn}
 use Rattle.tables.proofs.Rows.{unsatisfied-padding, unsatisfied-literals}
-use Rattle.solver.specs.declared.Rule.{Rule}
-use Rattle.solver.specs.declared.Rule.the-variants.{AllSatisfied, Conflict, Unit, Choice}
-use Rattle.solver.specs.Rules.{allRows, anyRow, left, unitOr, choice, rule}
+use Rattle.scan.specs.declared.Rule.{Rule}
+use Rattle.scan.specs.declared.Rule.the-variants.{AllSatisfied, Conflict, Unit, Choice}
+use Rattle.scan.specs.Rules.{allRows, anyRow, left, unitOr, choice, rule}
 use Rattle.solver.specs.Truth.{occurs}
-use Rattle.solver.proofs.RowLaws.{In, in-head, in-tail, any-row-e, any-row-i, not-all-rows, no-row}
+use Rattle.scan.proofs.RowLaws.{In, in-head, in-tail, any-row-e, any-row-i, not-all-rows, no-row}
 
 -- ---- what holds
 

@@ -9,7 +9,7 @@ use Rattle.tables.specs.declared.Row.{Row}
 use Rattle.state.specs.declared.Standing.{Standing}
 use Rattle.state.specs.declared.Standing.the-variants.{Open, Satisfied, Refuted}
 use Rattle.state.specs.State.{State}
-use Rattle.solver.specs.Rules.{rule}
+use Rattle.scan.specs.Rules.{rule}
 use Rattle.solver.specs.Step.{follow, ifOpen, step, after}
 use Rattle.solver.specs.Answers.{Ran, runFrom}
 

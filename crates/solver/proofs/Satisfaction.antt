@@ -13,15 +13,15 @@ use Rattle.tables.specs.declared.Row.{Row}
 use Rattle.tables.specs.Rows.{satisfied}
 use Rattle.tables.proofs.Rows.{satisfies, satisfied-any}
 use Rattle.state.specs.declared.Level.{Level}
-use Rattle.solver.specs.declared.Rule.{Rule}
-use Rattle.solver.specs.declared.Rule.the-variants.{AllSatisfied, Conflict, Unit, Choice}
+use Rattle.scan.specs.declared.Rule.{Rule}
+use Rattle.scan.specs.declared.Rule.the-variants.{AllSatisfied, Conflict, Unit, Choice}
 use Rattle.state.specs.declared.Standing.{Standing}
 use Rattle.state.specs.declared.Standing.the-variants.{Open, Satisfied, Refuted}
-use Rattle.solver.specs.Rules.{allRows, rule}
+use Rattle.scan.specs.Rules.{allRows, rule}
 use Rattle.state.specs.State.{State, fresh}
 use Rattle.solver.specs.Step.{back, follow, ifOpen, step, after}
 use Rattle.solver.specs.Truth.{rowTrue, allTrue}
-use Rattle.solver.proofs.RowLaws.{all-rows-mono}
+use Rattle.scan.proofs.RowLaws.{all-rows-mono}
 use Rattle.solver.proofs.RuleLaws.{Ruled, ruled}
 use Rattle.state.proofs.WellFormedLaws.{Sets}
 use Rattle.solver.proofs.StepLaws.{after-keeps, after-formed, fresh-formed}

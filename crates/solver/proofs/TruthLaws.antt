@@ -8,9 +8,9 @@ use Rattle.words.specs.Sets.{bit, any}
 use Rattle.words.proofs.Upto.{any-width}
 use Rattle.words.proofs.Operations.{bit-high}
 use Rattle.tables.specs.declared.Row.{Row}
-use Rattle.solver.specs.Rules.{allRows}
+use Rattle.scan.specs.Rules.{allRows}
 use Rattle.solver.specs.Truth.{rowTrue, allTrue}
-use Rattle.solver.proofs.RowLaws.{In}
+use Rattle.scan.proofs.RowLaws.{In}
 use Rattle.solver.proofs.LowRows.{lowRow, low-positive, low-negative}
 
 -- the assignment makes a literal of this variable true

@@ -12,10 +12,10 @@ use Rattle.words.proofs.Upto.{count-some, lowest-width}
 use Rattle.tables.specs.declared.Row.{Row}
 use Rattle.tables.specs.Rows.{satisfied, freeIn}
 use Rattle.tables.proofs.Rows.{satisfied-width, literals-width}
-use Rattle.solver.specs.declared.Rule.{Rule}
-use Rattle.solver.specs.declared.Rule.the-variants.{Unit, Choice}
-use Rattle.solver.specs.Rules.{allRows, anyRow, left, unitOr, choice, rule}
-use Rattle.solver.proofs.RowLaws.{In, in-head, in-tail}
+use Rattle.scan.specs.declared.Rule.{Rule}
+use Rattle.scan.specs.declared.Rule.the-variants.{Unit, Choice}
+use Rattle.scan.specs.Rules.{allRows, anyRow, left, unitOr, choice, rule}
+use Rattle.scan.proofs.RowLaws.{In, in-head, in-tail}
 use Rattle.solver.proofs.RuleLaws.{left-count, choice-hit}
 use Rattle.solver.proofs.LowRows.{lowRow, low-positive, low-negative}
 

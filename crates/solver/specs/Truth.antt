@@ -5,7 +5,7 @@ use mathlib.Core.List.{List}
 use Rattle.words.specs.Sets.{bit, any, count}
 use Rattle.tables.specs.declared.Row.{Row}
 use Rattle.tables.specs.Rows.{padding, holds}
-use Rattle.solver.specs.Rules.{allRows, anyRow}
+use Rattle.scan.specs.Rules.{allRows, anyRow}
 
 -- some literal of the row is true; a row's word has 32 bits
 unfoldable pub rowTrue : (ℕ → Bool) → Row → Bool

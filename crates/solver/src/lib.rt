@@ -1,6 +1,5 @@
 // The giant step and the budgeted run over two stations' tables: whether one assignment satisfies both.
 mod rules;
-mod scan;
 
 use refusals::Outcome;
 use refusals::Refusal;
@@ -18,14 +17,6 @@ ghost use Rattle.tables.specs.Rows.{rowsOf};
 ghost use Rattle.state.specs.WellFormed.{stateChecks};
 ghost use Rattle.solver.specs.Step.{ifOpen};
 ghost use Rattle.solver.specs.Answers.{verdictOf, answerOf, stepped, solved, modelOf};
-
-// The rule of the giant step that applies: a unit has its variable and whether it becomes true, a choice its variable.
-pub enum Rule {
-    AllSatisfied,
-    Conflict,
-    Unit(u32, bool),
-    Choice(u32),
-}
 
 // A run after one step, or as it was with the refusal.
 pub struct Stepped {

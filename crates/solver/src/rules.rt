@@ -1,5 +1,5 @@
 // The giant step by value (document 01, "Giant step"): one function a rule, and the step that follows the rule.
-use crate::Rule;
+use scan::Rule;
 use state::Level;
 use state::Run;
 use state::Standing;
@@ -11,11 +11,22 @@ ghost use Rattle.refusals.specs.Checks.{outcome};
 ghost use Rattle.refusals.specs.declared.Outcome.the-variants.{Taken};
 ghost use Rattle.tables.specs.Acceptance.{tableChecks};
 ghost use Rattle.tables.specs.Rows.{rowsOf};
-ghost use Rattle.solver.specs.declared.Rule.the-variants.{AllSatisfied, Conflict, Unit, Choice};
+ghost use Rattle.scan.specs.declared.Rule.the-variants.{AllSatisfied, Conflict, Unit, Choice};
 ghost use Rattle.state.specs.State.{stateOf, runOf};
+ghost use Rattle.scan.specs.Rules as Rules;
 ghost use Rattle.solver.specs.Step as Step;
 ghost use Rattle.solver.specs.Step.{follow};
 ghost use Rattle.state.specs.WellFormed.{wellFormed};
+
+// The rule that applies to accepted tables at T and F.
+fn rule(d: Dimensions, left: &[u32], right: &[u32], t: u32, f: u32) -> Rule
+    requires { ⌜ outcome (tableChecks d (now left) (now right)) ≡ Taken ⌝ }
+    ensures { λ r. ⌜ r ≡ Rules.rule (d .n) (rowsOf d (now (left .entry)) (now (right .entry))) t f ⌝ }
+{
+    let left_words = 2 * (d.left as usize);
+    let right_words = 2 * (d.right as usize);
+    scan::find_rule(&left[..left_words], &right[..right_words], t, f)
+}
 
 // Rule 1: nothing but the standing changes.
 fn satisfy(run: Run) -> Run
@@ -125,7 +136,7 @@ pub(crate) fn giant_step(d: Dimensions, left: &[u32], right: &[u32], run: Run) -
     let standing = run.standing;
     match standing {
         Standing::Open => {
-            let rule = crate::scan::rule(d, left, right, run.t, run.f);
+            let rule = rule(d, left, right, run.t, run.f);
             match rule {
                 Rule::AllSatisfied => satisfy(run),
                 Rule::Conflict => back(run),

@@ -8,10 +8,10 @@ use lib.Bits.{bitOr}
 use Rattle.words.specs.Sets.{bit, count, lowest}
 use Rattle.tables.specs.declared.Row.{Row}
 use Rattle.tables.specs.Rows.{satisfied, freeIn}
-use Rattle.solver.specs.declared.Rule.{Rule}
-use Rattle.solver.specs.declared.Rule.the-variants.{AllSatisfied, Conflict, Unit, Choice}
-use Rattle.solver.specs.declared.scan.Survey.{Survey}
-use Rattle.solver.specs.Rules.{left, allRows, anyRow, unitOr}
+use Rattle.scan.specs.declared.Rule.{Rule}
+use Rattle.scan.specs.declared.Rule.the-variants.{AllSatisfied, Conflict, Unit, Choice}
+use Rattle.scan.specs.declared.Survey.{Survey}
+use Rattle.scan.specs.Rules.{left, allRows, anyRow, unitOr}
 
 -- a survey with an unsatisfied row of this positive word and these free variables
 abbrev pub added : Survey → ℕ → ℕ → Survey

@@ -1,13 +1,18 @@
 -- Which rule applies to T and F: document 01, "Giant step", rules 1 to 4.
-use Prim.Native.Nat.{ℕ}
+use Prim.Native.Nat.{ℕ, _/_}
 use mathlib.Core.Bool.{Bool, true, false, not, _&&_, _||_}
 use mathlib.Core.List.{List, [], _∷_}
 use lib.Dec.{eqb}
+use lib.ListN.{length}
 use Rattle.words.specs.Sets.{bit, lowest}
 use Rattle.tables.specs.declared.Row.{Row}
-use Rattle.tables.specs.Rows.{satisfied, freeIn, freeLiterals}
-use Rattle.solver.specs.declared.Rule.{Rule}
-use Rattle.solver.specs.declared.Rule.the-variants.{AllSatisfied, Conflict, Unit, Choice}
+use Rattle.tables.specs.Rows.{rowsFrom, satisfied, freeIn, freeLiterals}
+use Rattle.scan.specs.declared.Rule.{Rule}
+use Rattle.scan.specs.declared.Rule.the-variants.{AllSatisfied, Conflict, Unit, Choice}
+
+-- the rows of a table's words, two words a row
+abbrev pub rowsIn : List ℕ → List Row
+rowsIn words = rowsFrom words 0 (length words / 2)
 
 unfoldable pub allRows : (Row → Bool) → List Row → Bool
 allRows p [] = true

@@ -1,16 +1,20 @@
-// The scan of all rows that finds the rule. It ends at the first conflict, since no other rule then applies.
-use crate::Rule;
-use tables::Dimensions;
+// The scan of all rows that finds which rule of the giant step applies. It ends at the first conflict, since no other rule then applies.
 use tables::Row;
 ghost use mathlib.Core.Path.{_≡_};
+ghost use mathlib.Core.List.{_++_};
 ghost use Prim.Native.Nat.{_*_, _≤_};
 ghost use lib.ListN.{length};
-ghost use Rattle.refusals.specs.Checks.{outcome};
-ghost use Rattle.refusals.specs.declared.Outcome.the-variants.{Taken};
-ghost use Rattle.tables.specs.Acceptance.{tableChecks};
-ghost use Rattle.tables.specs.Rows.{rowsFrom, rowsOf};
-ghost use Rattle.solver.specs.Rules as Rules;
-ghost use Rattle.solver.specs.Scan.{added, Adds};
+ghost use Rattle.tables.specs.Rows.{rowsFrom};
+ghost use Rattle.scan.specs.Rules.{rowsIn, rule};
+ghost use Rattle.scan.specs.Scan.{added, Adds};
+
+// The rule of the giant step that applies: a unit has its variable and whether it becomes true, a choice its variable.
+pub enum Rule {
+    AllSatisfied,
+    Conflict,
+    Unit(u32, bool),
+    Choice(u32),
+}
 
 // What the rows looked at have shown: whether one is in conflict, the one free variable of the first that has exactly one and that
 // row's positive word (0 where there is none), and the free variables of all that are unsatisfied.
@@ -71,10 +75,9 @@ fn survey_rows(s: Survey, rows: &[u32], m: usize, t: u32, f: u32) -> Survey
     found
 }
 
-// The rule that applies to accepted tables at T and F.
-pub(crate) fn rule(d: Dimensions, left: &[u32], right: &[u32], t: u32, f: u32) -> Rule
-    requires { ⌜ outcome (tableChecks d (now left) (now right)) ≡ Taken ⌝ }
-    ensures { λ r. ⌜ r ≡ Rules.rule (d .n) (rowsOf d (now (left .entry)) (now (right .entry))) t f ⌝ }
+// The rule that applies to the rows of both tables at T and F.
+pub fn find_rule(left: &[u32], right: &[u32], t: u32, f: u32) -> Rule
+    ensures { λ r. ⌜ r ≡ rule 32 (rowsIn (now (left .entry)) ++ rowsIn (now (right .entry))) t f ⌝ }
 {
     let none = Survey {
         conflict: false,
@@ -82,11 +85,11 @@ pub(crate) fn rule(d: Dimensions, left: &[u32], right: &[u32], t: u32, f: u32) -
         positive: 0,
         free: 0,
     };
-    let front = survey_rows(none, left, d.left as usize, t, f);
+    let front = survey_rows(none, left, left.len() / 2, t, f);
     if front.conflict {
         return Rule::Conflict;
     }
-    let found = survey_rows(front, right, d.right as usize, t, f);
+    let found = survey_rows(front, right, right.len() / 2, t, f);
     let conflict = found.conflict;
     let unit = found.unit;
     let free = found.free;

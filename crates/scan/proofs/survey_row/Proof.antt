@@ -5,8 +5,8 @@ use mathlib.Core.Logic.{⊎-elim}
 use borrow.Author.Needs.{needs}
 use borrow.Author.Tests.{ne-eqb, not-true, not-false}
 use Rattle.words.proofs.Truth.{and-false}
-use Rattle.solver.proofs.scan.survey_row.Statement.{statement}
-use Rattle.solver.proofs.scan.survey_row.Tie as tie
+use Rattle.scan.proofs.survey_row.Statement.{statement}
+use Rattle.scan.proofs.survey_row.Tie as tie
 
 single-requires : tie.Need-single-requires
 single-requires c κs = search needs

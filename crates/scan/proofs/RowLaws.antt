@@ -5,7 +5,7 @@ use mathlib.Core.Bool.{Bool, true, false, not, true≢false, false≢true}
 use mathlib.Core.List.{List, [], _∷_, _++_}
 use Rattle.words.proofs.Truth.{and-l, and-r, and-i, on, not-t, not-f}
 use Rattle.tables.specs.declared.Row.{Row}
-use Rattle.solver.specs.Rules.{allRows, anyRow}
+use Rattle.scan.specs.Rules.{allRows, anyRow}
 
 abbrev pub In : Row → List Row → Type 0
 In r rows = (q : Row → Bool) → allRows q rows ≡ true → q r ≡ true

@@ -1,29 +1,21 @@
 -- The survey of all rows gives the rule: the tests are those of `rule`, except that a conflict is looked for first, where not all rows are satisfied.
 -- Assumes nothing.
 use mathlib.Core.Path.{_≡_, sym, ap, _∙_}
-use mathlib.Core.Bool.{true, false, true≢false}
-use mathlib.Core.List.{List, [], append-nil}
+use mathlib.Core.Bool.{true, false, not, true≢false}
+use mathlib.Core.List.{List, [], _++_, append-nil}
 use Prim.Native.Nat.{ℕ}
 use borrow.Author.Tests.{ne-eqb}
-use Rattle.refusals.specs.Checks.{outcome}
-use Rattle.refusals.specs.declared.Outcome.the-variants.{Taken}
 use Rattle.words.specs.Sets.{bit, lowest}
-use Rattle.words.proofs.Truth.{on, or-false}
+use Rattle.words.proofs.Truth.{and-l, on, not-f, or-false}
 use Rattle.words.proofs.Upto.{lowest-cong}
 use Rattle.words.proofs.Bits.{bit-zero}
-use Rattle.tables.specs.declared.Dimensions.{Dimensions}
 use Rattle.tables.specs.declared.Row.{Row}
-use Rattle.tables.specs.Rows.{satisfied, rowsFrom, rowsOf}
-use Rattle.tables.specs.Acceptance.{tableChecks}
-use Rattle.tables.proofs.Accepted.{accepted}
-use Rattle.solver.specs.declared.Rule.the-variants.{AllSatisfied, Conflict, Unit, Choice}
-use Rattle.solver.specs.declared.scan.Survey.{Survey}
-use Rattle.solver.specs.Rules.{left, allRows, anyRow, unitOr, choice, rule}
-use Rattle.solver.specs.Scan.{ruleAfter, Adds}
-use Rattle.solver.proofs.RowLaws.{any-row-e}
-use Rattle.solver.proofs.RuleLaws.{left-unsatisfied}
-use Rattle.solver.proofs.LowRows.{accepted-low}
-use Rattle.solver.proofs.WidthLaws.{rule-width}
+use Rattle.tables.specs.Rows.{satisfied}
+use Rattle.scan.specs.declared.Rule.the-variants.{AllSatisfied, Conflict, Unit, Choice}
+use Rattle.scan.specs.declared.Survey.{Survey}
+use Rattle.scan.specs.Rules.{rowsIn, left, allRows, anyRow, unitOr, choice, rule}
+use Rattle.scan.specs.Scan.{ruleAfter, Adds}
+use Rattle.scan.proofs.RowLaws.{any-row-e}
 
 -- nothing surveyed
 abbrev pub none : Survey
@@ -31,10 +23,11 @@ none = record { conflict = false; unit = 0; positive = 0; free = 0 }
 
 -- with a conflict, not all rows are satisfied
 conflict-open : (n t f : ℕ) (rows : List Row) → anyRow (left 0 n t f) rows ≡ true → allRows (λ r. satisfied n r t f) rows ≡ false
+unfolding left
 conflict-open n t f rows e =
     let x = any-row-e (left 0 n t f) rows e in
     on (allRows (λ r. satisfied n r t f) rows)
-    (λ a. absurd (true≢false (sym (x .1 (λ r. satisfied n r t f) a) ∙ left-unsatisfied 0 n t f (x .0) (x .2))))
+    (λ a. absurd (true≢false (sym (x .1 (λ r. satisfied n r t f) a) ∙ not-f _ (and-l (not (satisfied n (x .0) t f)) _ (x .2)))))
     (λ a. a)
 
 after-none : (t f : ℕ) (rows : List Row) → ruleAfter none rows t f ≡ rule 32 rows t f
@@ -47,16 +40,12 @@ after-none t f rows =
     (λ a. rw a (rw (a, rule) (rw e (ap (λ (v : ℕ). unitOr 32 t f rows (Choice v)) (lowest-cong _ _ 32 (λ i b. rw (bit-zero i)))))))))
 
 -- the left table's rows, then the right's
-module _ (d : Dimensions) (ls rs : List ℕ) (t f : ℕ) (ok : outcome (tableChecks d ls rs) ≡ Taken) where
-  pub rule-of-left : (front : Survey) → Adds t f none (rowsFrom ls 0 (d .left)) front → ruleAfter front (rowsFrom rs 0 (d .right)) t f ≡ rule (d .n) (rowsOf d ls rs) t f
-  rule-of-left front p =
-      p (rowsFrom rs 0 (d .right))
-      ∙ after-none t f (rowsOf d ls rs)
-      ∙ rule-width (d .n) 32 (accepted d ls rs ok .n-most) t f (rowsOf d ls rs) (accepted-low d ls rs ok)
+module _ (ls rs : List ℕ) (t f : ℕ) where
+  pub rule-of-left : (front : Survey) → Adds t f none (rowsIn ls) front → ruleAfter front (rowsIn rs) t f ≡ rule 32 (rowsIn ls ++ rowsIn rs) t f
+  rule-of-left front p = p (rowsIn rs) ∙ after-none t f (rowsIn ls ++ rowsIn rs)
 
-  pub rule-of-both : (front found : Survey) → Adds t f none (rowsFrom ls 0 (d .left)) front → Adds t f front (rowsFrom rs 0 (d .right)) found
-      → ruleAfter found [] t f ≡ rule (d .n) (rowsOf d ls rs) t f
-  rule-of-both front found p q = q [] ∙ ap (λ (x : List Row). ruleAfter front x t f) (append-nil (rowsFrom rs 0 (d .right))) ∙ rule-of-left front p
+  pub rule-of-both : (front found : Survey) → Adds t f none (rowsIn ls) front → Adds t f front (rowsIn rs) found → ruleAfter found [] t f ≡ rule 32 (rowsIn ls ++ rowsIn rs) t f
+  rule-of-both front found p q = q [] ∙ ap (λ (x : List Row). ruleAfter front x t f) (append-nil (rowsIn rs)) ∙ rule-of-left front p
 
 -- ---- what a survey says
 

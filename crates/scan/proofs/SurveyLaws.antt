@@ -21,11 +21,11 @@ use Rattle.tables.specs.declared.Row.{Row}
 use Rattle.tables.specs.declared.Judged.{Judged}
 use Rattle.tables.specs.Rows.{satisfied, freeIn, judged, rowAt, rowsFrom}
 use Rattle.tables.proofs.Rows.{unsatisfied-literals}
-use Rattle.solver.specs.declared.Rule.{Rule}
-use Rattle.solver.specs.declared.Rule.the-variants.{AllSatisfied, Conflict, Unit, Choice}
-use Rattle.solver.specs.declared.scan.Survey.{Survey}
-use Rattle.solver.specs.Rules.{left, allRows, anyRow, unitOr}
-use Rattle.solver.specs.Scan.{added, ruleAfter, Adds}
+use Rattle.scan.specs.declared.Rule.{Rule}
+use Rattle.scan.specs.declared.Rule.the-variants.{AllSatisfied, Conflict, Unit, Choice}
+use Rattle.scan.specs.declared.Survey.{Survey}
+use Rattle.scan.specs.Rules.{left, allRows, anyRow, unitOr}
+use Rattle.scan.specs.Scan.{added, ruleAfter, Adds}
 
 same-rule : {c c′ a a′ : Bool} {x x′ : Rule} → c ≡ c′ → a ≡ a′ → x ≡ x′ → cond c Conflict (cond a AllSatisfied x) ≡ cond c′ Conflict (cond a′ AllSatisfied x′)
 same-rule p q o = cc

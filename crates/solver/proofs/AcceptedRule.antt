@@ -1,0 +1,41 @@
+-- The rule that the scan finds in the fronts of accepted buffers is the rule of the tables: a front holds the table's rows, and accepted rows are judged alike at 32 and at n variables.
+-- Assumes nothing.
+use mathlib.Core.Path.{_≡_, refl, ap, ap₂, _∙_}
+use mathlib.Core.List.{List, _∷_, _++_}
+use Prim.Native.Nat.{ℕ, zero, suc, _+_, _*_, _/_, _≤_}
+use native.Mathlib.Omega.{arith}
+use lib.ListN.{length, take}
+use lib.Seq.{getD-take, length-take-le}
+use Rattle.refusals.specs.Checks.{outcome}
+use Rattle.refusals.specs.declared.Outcome.the-variants.{Taken}
+use Rattle.tables.specs.declared.Dimensions.{Dimensions}
+use Rattle.tables.specs.declared.Row.{Row}
+use Rattle.tables.specs.Rows.{rowsFrom, rowsOf}
+use Rattle.tables.specs.Acceptance.{tableChecks}
+use Rattle.tables.proofs.Accepted.{accepted}
+use Rattle.scan.specs.Rules.{rowsIn, rule}
+use Rattle.solver.proofs.LowRows.{accepted-low}
+use Rattle.solver.proofs.WidthLaws.{rule-width}
+
+-- ---- the front of a buffer
+
+front-rows : (words : List ℕ) (m i k : ℕ) → 2 * (i + k) ≤ m → rowsFrom (take m words) i k ≡ rowsFrom words i k
+front-rows words m i zero h = refl
+front-rows words m i (suc k) h =
+    ap₂ _∷_
+    (ap₂ (λ (p q : ℕ). record { positive = p; negative = q }) (getD-take m words (2 * i) 0 (omega arith)) (getD-take m words (2 * i + 1) 0 (omega arith)))
+    (front-rows words m (suc i) k (omega arith))
+
+rows-in-front : (words : List ℕ) (m : ℕ) → 2 * m ≤ length words → rowsIn (take (2 * m) words) ≡ rowsFrom words 0 m
+rows-in-front words m h =
+    let e : length (take (2 * m) words) / 2 ≡ m = omega (arith, length-take-le (2 * m) words h) in
+    ap (λ (k : ℕ). rowsFrom (take (2 * m) words) 0 k) e ∙ front-rows words (2 * m) 0 m (omega arith)
+
+-- ---- accepted tables
+
+pub rule-of-fronts : (d : Dimensions) (left right : List ℕ) → outcome (tableChecks d left right) ≡ Taken → (t f : ℕ)
+    → rule 32 (rowsIn (take (2 * d .left) left) ++ rowsIn (take (2 * d .right) right)) t f ≡ rule (d .n) (rowsOf d left right) t f
+rule-of-fronts d left right ok t f =
+    let a = accepted d left right ok in
+    ap₂ (λ (x y : List Row). rule 32 (x ++ y) t f) (rows-in-front left (d .left) (a .left-length)) (rows-in-front right (d .right) (a .right-length))
+    ∙ rule-width (d .n) 32 (a .n-most) t f (rowsOf d left right) (accepted-low d left right ok)
