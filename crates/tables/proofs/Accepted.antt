@@ -8,28 +8,19 @@ use native.Mathlib.Omega.{arith}
 use lib.Dec.{ltb}
 use lib.ListN.{length, getD, take}
 use lib.Seq.{getD-take, length-take-le}
-use borrow.Author.Tests.{lt-ltb, le-ltb, ltb-false, not-false}
+use borrow.Author.Tests.{ltb-false, not-false}
 use Rattle.refusals.specs.Checks.{Check, check, outcome}
 use Rattle.refusals.specs.declared.Outcome.the-variants.{Taken, Refused}
 use Rattle.refusals.specs.declared.Refusal.{Refusal}
 use Rattle.refusals.specs.declared.Refusal.the-variants.{Variables, RowCount, RowBit, RowBuffer}
 use Rattle.refusals.proofs.Outcomes.{outcome-taken, outcome-refused, unless-passed, unless-taken}
-use Rattle.words.proofs.Truth.{or-true, or-l, or-r}
+use Rattle.words.proofs.Truth.{or-l, or-r}
 use Rattle.tables.specs.declared.Dimensions.{Dimensions}
 use Rattle.tables.specs.Sizes.{outside, sizeChecks}
 use Rattle.tables.specs.Rows.{rowAt}
 use Rattle.tables.specs.Acceptance.{allBelow, short, high, tableChecks}
+use Rattle.tables.proofs.Limits.{least, most}
 use Rattle.tables.proofs.Tables.{below-at}
-
-module _ (a b : ℕ) (left right : List ℕ) where
-  pub short-left : length left < 2 * a → short a left || short b right ≡ true
-  short-left h = rw (lt-ltb (length left) (2 * a) h)
-
-  pub short-right : ltb (length right) (2 * b) ≡ true → short a left || short b right ≡ true
-  short-right h = rw h (or-true (short a left))
-
-  pub long-both : 2 * a ≤ length left → ltb (length right) (2 * b) ≡ false → short a left || short b right ≡ false
-  long-both h k = rw (le-ltb (length left) (2 * a) h, k)
 
 -- the checks after those on the sizes
 abbrev wordChecks : Dimensions → List ℕ → List ℕ → List Check
@@ -72,12 +63,6 @@ pub record Accepted (d : Dimensions) (left right : List ℕ) : Type 0 where
   pub right-length : 2 * d .right ≤ length right
   pub left-words : (i : ℕ) → i < 2 * d .left → getD left i 0 < 2 ^ d .n
   pub right-words : (i : ℕ) → i < 2 * d .right → getD right i 0 < 2 ^ d .n
-
-least : (limit k : ℕ) → outside limit k ≡ false → 1 ≤ k
-least limit k e = ltb-false k 1 (or-l (ltb k 1) (ltb limit k) e)
-
-most : (limit k : ℕ) → outside limit k ≡ false → k ≤ limit
-most limit k e = ltb-false limit k (or-r (ltb k 1) (ltb limit k) e)
 
 words-below : (n rows : ℕ) (words : List ℕ) → 2 * rows ≤ length words → high n rows words ≡ false → (i : ℕ) → i < 2 * rows → getD words i 0 < 2 ^ n
 words-below n rows words h e i b = rw (getD-take (2 * rows) words i 0 b) at (below-at n (take (2 * rows) words) (not-false (allBelow n (take (2 * rows) words)) e) i (rw (length-take-le (2 * rows) words h) b))

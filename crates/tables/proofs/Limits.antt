@@ -2,10 +2,10 @@
 -- Assumes nothing.
 use mathlib.Core.Path.{_≡_, refl}
 use mathlib.Core.Bool.{true, false}
-use Prim.Native.Nat.{ℕ, _≤_, _<_}
+use Prim.Native.Nat.{ℕ, _≤_}
 use native.Mathlib.Omega.{arith}
 use lib.Dec.{ltb}
-use borrow.Author.Tests.{lt-ltb, le-ltb}
+use borrow.Author.Tests.{ltb-false}
 use Rattle.refusals.specs.Checks.{given}
 use Rattle.refusals.specs.declared.Outcome.{Outcome}
 use Rattle.refusals.specs.declared.Outcome.the-variants.{Taken, Refused as Not}
@@ -14,16 +14,13 @@ use Rattle.refusals.specs.declared.Refusal.the-variants.{Variables, RowCount}
 use Rattle.tables.specs.declared.Dimensions.{Dimensions}
 use Rattle.tables.specs.declared.Sized.the-variants.{Of, Refused}
 use Rattle.tables.specs.Sizes.{outside, sized}
-use Rattle.words.proofs.Truth.{or-true}
+use Rattle.words.proofs.Truth.{or-l, or-r}
 
-pub below : (limit k : ℕ) → k < 1 → outside limit k ≡ true
-below limit k h = rw (lt-ltb k 1 h)
+pub least : (limit k : ℕ) → outside limit k ≡ false → 1 ≤ k
+least limit k e = ltb-false k 1 (or-l (ltb k 1) (ltb limit k) e)
 
-pub above : (limit k : ℕ) → ltb limit k ≡ true → outside limit k ≡ true
-above limit k h = rw h (or-true (ltb k 1))
-
-pub inside : (limit k : ℕ) → 1 ≤ k → ltb limit k ≡ false → outside limit k ≡ false
-inside limit k h l = rw (le-ltb k 1 h, l)
+pub most : (limit k : ℕ) → outside limit k ≡ false → k ≤ limit
+most limit k e = ltb-false limit k (or-r (ltb k 1) (ltb limit k) e)
 
 module _ (n left right : ℕ) where
   pub refuse-variables : outside 32 n ≡ true → Refused Variables ≡ sized n left right

@@ -30,13 +30,13 @@ impl Dimensions {
     pub fn new(n: u64, left: u64, right: u64) -> Sized
         ensures { λ r. ⌜ r ≡ sized n left right ⌝ }
     {
-        if n < 1 || Dimensions::VARIABLES < n {
+        if (n < 1) | (Dimensions::VARIABLES < n) {
             return Sized::Refused(Refusal::Variables);
         }
-        if left < 1 || Dimensions::ROWS < left {
+        if (left < 1) | (Dimensions::ROWS < left) {
             return Sized::Refused(Refusal::RowCount);
         }
-        if right < 1 || Dimensions::ROWS < right {
+        if (right < 1) | (Dimensions::ROWS < right) {
             return Sized::Refused(Refusal::RowCount);
         }
         Sized::Of(Dimensions {
@@ -140,7 +140,7 @@ pub fn accept(d: Dimensions, left: &[u32], right: &[u32]) -> Outcome
     }
     let left_words = 2 * (d.left as usize);
     let right_words = 2 * (d.right as usize);
-    if left.len() < left_words || right.len() < right_words {
+    if (left.len() < left_words) | (right.len() < right_words) {
         return Outcome::Refused(Refusal::RowBuffer);
     }
     let left_rows = &left[..left_words];

@@ -1,42 +1,34 @@
 -- `Dimensions::new` meets its contract: each test of the code is a condition of the definition, in its order.
 -- Assumes nothing.
-use mathlib.Core.Logic.{⊎-elim}
 use borrow.Author.Needs.{needs}
-use Rattle.tables.proofs.Limits.{below, above, inside, refuse-variables, refuse-left, refuse-right, size}
+use Rattle.tables.proofs.Limits.{most, refuse-variables, refuse-left, refuse-right, size}
 use Rattle.tables.proofs.Dimensions.new.Statement.{statement}
 use Rattle.tables.proofs.Dimensions.new.Tie as tie
 
 returns : tie.Need-returns
-returns c = refuse-variables (c .before .args .n) (c .before .args .left) (c .before .args .right) (⊎-elim (λ w. below 32 _ (w .taken)) (λ w. above 32 (c .before .args .n) (w .1 .taken)) (c .if1 .came))
+returns c = let a = c .before .args in refuse-variables (a .n) (a .left) (a .right) (c .if1 .taken)
 
 returns-2 : tie.Need-returns-2
-returns-2 c =
-    refuse-left (c .before .before .before .args .n) (c .before .before .before .args .left) (c .before .before .before .args .right)
-    (inside _ _ (c .before .before .if1 .left) (c .before .if2 .left))
-    (⊎-elim (λ w. below 128 _ (w .taken)) (λ w. above 128 (c .before .before .before .args .left) (w .1 .taken)) (c .if3 .came))
+returns-2 c = let a = c .before .before .args in refuse-left (a .n) (a .left) (a .right) (c .before .if1 .left) (c .if2 .taken)
 
 returns-3 : tie.Need-returns-3
 returns-3 c =
-    refuse-right (c .before .before .before .before .before .args .n) (c .before .before .before .before .before .args .left) (c .before .before .before .before .before .args .right)
-    (inside _ _ (c .before .before .before .before .if1 .left) (c .before .before .before .if2 .left))
-    (inside _ _ (c .before .before .if3 .left) (c .before .if4 .left))
-    (⊎-elim (λ w. below 128 _ (w .taken)) (λ w. above 128 (c .before .before .before .before .before .args .right) (w .1 .taken)) (c .if5 .came))
+    let a = c .before .before .before .args in
+    refuse-right (a .n) (a .left) (a .right) (c .before .before .if1 .left) (c .before .if2 .left) (c .if3 .taken)
 
-cast-t13 : tie.Need-cast-t13
-cast-t13 c = search needs
+cast-t10 : tie.Need-cast-t10
+cast-t10 c = search (needs, most 32 (c .before .before .before .args .n) (c .before .before .if1 .left))
 
-cast-t14 : tie.Need-cast-t14
-cast-t14 c = search needs
+cast-t11 : tie.Need-cast-t11
+cast-t11 c = search (needs, most 128 (c .before .before .before .args .left) (c .before .if2 .left))
 
-cast-t15 : tie.Need-cast-t15
-cast-t15 c = search needs
+cast-t12 : tie.Need-cast-t12
+cast-t12 c = search (needs, most 128 (c .before .before .before .args .right) (c .if3 .left))
 
 returns-4 : tie.Need-returns-4
 returns-4 c =
-    size (c .before .before .before .before .before .before .args .n) (c .before .before .before .before .before .before .args .left) (c .before .before .before .before .before .before .args .right)
-    (inside _ _ (c .before .before .before .before .before .if1 .left) (c .before .before .before .before .if2 .left))
-    (inside _ _ (c .before .before .before .if3 .left) (c .before .before .if4 .left))
-    (inside _ _ (c .before .if5 .left) (c .if6 .left))
+    let a = c .before .before .before .args in
+    size (a .n) (a .left) (a .right) (c .before .before .if1 .left) (c .before .if2 .left) (c .if3 .left)
 
 pub new-spec : {M : Type 1} → statement M
-new-spec = tie.close (tie.spec returns returns-2 returns-3 cast-t13 cast-t14 cast-t15 returns-4)
+new-spec = tie.close (tie.spec returns returns-2 returns-3 cast-t10 cast-t11 cast-t12 returns-4)
