@@ -26,7 +26,7 @@ use Rattle.solver.specs.Step.{step}
 use Rattle.state.specs.WellFormed.{wellFormedState, stateChecks}
 use Rattle.state.proofs.HeldRun.{formed-run-e, state-back, run-of-formed}
 use Rattle.solver.proofs.StepLaws.{step-well-formed}
-use Rattle.solver.proofs.Entries.{take-state}
+use Rattle.state.proofs.Checks.{take-state}
 use Rattle.gates.specs.Gates.{Gate, wiresOf}
 use Rattle.gates.specs.Memory as Memory
 use Rattle.gates.specs.Memory.{bytesOf}
