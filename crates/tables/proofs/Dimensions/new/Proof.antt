@@ -20,10 +20,10 @@ cast-t10 : tie.Need-cast-t10
 cast-t10 c = search (needs, most 32 (c .before .before .before .args .n) (c .before .before .if1 .left))
 
 cast-t11 : tie.Need-cast-t11
-cast-t11 c = search (needs, most 128 (c .before .before .before .args .left) (c .before .if2 .left))
+cast-t11 c = let a = c .before .before .before .args in search (needs, most 128 (a .left) (c .before .if2 .left), most 128 (a .right) (c .if3 .left))
 
 cast-t12 : tie.Need-cast-t12
-cast-t12 c = search (needs, most 128 (c .before .before .before .args .right) (c .if3 .left))
+cast-t12 c = let a = c .before .before .before .args in search (needs, most 128 (a .left) (c .before .if2 .left), most 128 (a .right) (c .if3 .left))
 
 returns-4 : tie.Need-returns-4
 returns-4 c =
