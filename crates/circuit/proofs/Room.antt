@@ -24,10 +24,11 @@ use Rattle.lines.specs.Answers.{refusedLine}
 use Rattle.gates.specs.Memory.{gatesOf, wordsOf}
 use Rattle.gates.specs.Evaluation.{over}
 use Rattle.gates.proofs.InMemory.{words-length}
-use Rattle.netlist.specs.declared.Generated.{Generated}
-use Rattle.netlist.specs.declared.Generated.the-variants as generated′
-use Rattle.netlist.specs.Generation as Generation
-use Rattle.netlist.specs.Generation.{gatesOn, generatorChecks, generated}
+use Rattle.generator.specs.declared.Generated.{Generated}
+use Rattle.generator.specs.declared.Generated.the-variants as generated′
+use Rattle.generator.specs.Generation as Generation
+use Rattle.generator.specs.Generation.{generatorChecks, generated}
+use Rattle.netlist.specs.Netlist.{gatesOn}
 use Rattle.netlist.proofs.Counts.{gates-length}
 use Rattle.bristol.specs.declared.Written.{Written}
 use Rattle.bristol.specs.declared.Written.the-variants as written′

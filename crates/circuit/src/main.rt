@@ -1,9 +1,9 @@
 // The circuit program: reads n and the two row counts on standard input, and prints the text of their circuit, or the refusal alone.
 use bristol::Written;
+use generator::Generated;
 use libc::STDIN_FILENO;
 use libc::STDOUT_FILENO;
 use lines::Size;
-use netlist::Generated;
 use refusals::Refusal;
 use tables::Dimensions;
 use tables::Sized;
@@ -48,7 +48,7 @@ fn print_text(d: Dimensions, gates: &[u32]) {
 // Prints what the dimensions give.
 fn print_circuit(d: Dimensions) {
     let mut words = [0u32; WORDS];
-    match netlist::generate(d, &mut words) {
+    match generator::generate(d, &mut words) {
         Generated::Of(count) => print_text(d, &words[..3 * count]),
         Generated::Refused(refusal) => print_refusal(refusal),
     }

@@ -23,8 +23,7 @@ use Rattle.gates.proofs.Evaluation.{evaluates}
 use Rattle.wires.specs.Packing.{inputBits}
 use Rattle.wires.proofs.Lengths.{both-length, input-length}
 use Rattle.netlist.specs.Outputs.{outputBits}
-use Rattle.netlist.specs.Netlist.{addresses, circuit, gatesFor}
-use Rattle.netlist.specs.Generation.{gatesOn}
+use Rattle.netlist.specs.Netlist.{addresses, circuit, gatesFor, gatesOn}
 use Rattle.netlist.proofs.Counts.{circuit-length}
 use Rattle.netlist.proofs.Accepted.{circuit-ordered}
 use Rattle.netlist.proofs.GeneratedCircuit.{circuit-carries}

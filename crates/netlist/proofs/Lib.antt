@@ -14,12 +14,7 @@ pub mod Circuit
 pub mod Sizes
 pub mod Values
 pub mod Arrays
-pub mod Steps
-pub mod Placing
 pub mod Counts
-pub mod Groups
-pub mod Room
-pub mod Generating
 pub mod SectionGates
 pub mod Wiring
 pub mod Accepted

@@ -2,4 +2,3 @@ pub mod Templates
 pub mod Arrays
 pub mod Netlist
 pub mod Outputs
-pub mod Generation

@@ -1,6 +1,7 @@
 -- The circuit of the giant step for n variables and m rows: its sections, one behind the other, and where each begins.
 use mathlib.Core.List.{List, [], _∷_, _++_}
 use Prim.Native.Nat.{ℕ, _+_, _*_}
+use Rattle.tables.specs.declared.Dimensions.{Dimensions}
 use Rattle.gates.specs.Gates.{Gate}
 use Rattle.netlist.specs.Templates as Templates
 use Rattle.netlist.specs.Arrays.{cell, rows, along, none, cells, line, array}
@@ -245,3 +246,7 @@ module _ (a : Addresses) where
 -- the gates for n variables and the two stations' row counts
 unfoldable pub gatesFor : ℕ → ℕ → ℕ → List Gate
 gatesFor n left right = circuit (addresses n (left + right))
+
+-- the circuit of some dimensions
+abbrev pub gatesOn : Dimensions → List Gate
+gatesOn d = gatesFor (d .n) (d .left) (d .right)

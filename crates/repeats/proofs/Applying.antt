@@ -39,7 +39,7 @@ use Rattle.wires.specs.Packing.{inputBits, packChecks}
 use Rattle.wires.proofs.Lengths.{state-length, input-length}
 use Rattle.wires.proofs.Checks.{Passed, passed, state-decides, refuse-room}
 use Rattle.wires.proofs.RoundTrip.{read-packed}
-use Rattle.netlist.specs.Generation.{gatesOn}
+use Rattle.netlist.specs.Netlist.{gatesOn}
 use Rattle.netlist.specs.Outputs.{closed, outputBits}
 use Rattle.netlist.proofs.EveryState.{gates-accepted, every-state}
 use Rattle.repeats.specs.declared.Applied.{Applied}

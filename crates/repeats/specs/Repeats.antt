@@ -9,7 +9,7 @@ use Rattle.tables.specs.declared.Dimensions.{Dimensions}
 use Rattle.tables.specs.Sizes.{inputWires}
 use Rattle.state.specs.declared.Run.{Run}
 use Rattle.gates.specs.Memory.{wordsOf}
-use Rattle.netlist.specs.Generation.{gatesOn}
+use Rattle.netlist.specs.Netlist.{gatesOn}
 use Rattle.repeats.specs.declared.Applied.{Applied}
 use Rattle.repeats.specs.Application.{applied}
 

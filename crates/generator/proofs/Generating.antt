@@ -1,0 +1,77 @@
+-- What the generator gives, by what its checks find, and that the checks leave room: from the order of the checks.
+-- Assumes nothing.
+use mathlib.Core.Path.{_≡_, ap, sym, _∙_}
+use mathlib.Core.Bool.{_||_}
+use mathlib.Core.List.{List, [], _∷_, _++_}
+use Prim.Native.Nat.{ℕ, _+_, _*_, _≤_, _<_}
+use native.Mathlib.Nat.{mul-le-mul, zero-add}
+use native.Mathlib.Omega.{arith}
+use borrow.Author.Tests.{lt-ltb, le-ltb, ltb-false}
+use lib.Dec.{ltb}
+use lib.ListN.{length, drop}
+use lib.Seq.{sets, sets-eq}
+use Rattle.refusals.specs.declared.Refusal.{Refusal}
+use Rattle.refusals.specs.declared.Refusal.the-variants.{Variables, RowCount, GateBuffer}
+use Rattle.refusals.specs.declared.Outcome.{Outcome}
+use Rattle.refusals.specs.declared.Outcome.the-variants.{Taken, Refused as Not}
+use Rattle.refusals.specs.Checks.{Check, check, outcome, given}
+use Rattle.refusals.proofs.Outcomes.{outcome-taken, outcome-refused, unless-passed, unless-taken}
+use Rattle.words.proofs.Truth.{or-l, or-r}
+use Rattle.tables.specs.declared.Dimensions.{Dimensions}
+use Rattle.tables.specs.Sizes.{outside, sizeChecks, ceiling}
+use Rattle.gates.specs.Memory.{wordsOf}
+use Rattle.gates.specs.Evaluation.{over}
+use Rattle.gates.proofs.InMemory.{words-length}
+use Rattle.generator.specs.declared.Generated.the-variants.{Of, Refused}
+use Rattle.netlist.specs.Netlist.{addresses, circuit, gatesFor, gatesOn}
+use Rattle.generator.specs.Generation.{generatorChecks, generated, written}
+use Rattle.netlist.proofs.Counts.{circuit-length, gates-length}
+
+-- n and the rows of dimensions that are taken
+pub small : (n left right : ℕ) → outcome (sizeChecks n left right) ≡ Taken → (n ≤ 32) × (left + right ≤ 256)
+small n left right e =
+    let n-in = unless-passed (outside 32 n) Variables _ e in
+    let rows-in = unless-passed (outside 128 left || outside 128 right) RowCount _ (unless-taken (outside 32 n) Variables _ e) in
+    let l = ltb-false 128 left (or-r (ltb left 1) (ltb 128 left) (or-l (outside 128 left) (outside 128 right) rows-in)) in
+    let r = ltb-false 128 right (or-r (ltb right 1) (ltb 128 right) (or-r (outside 128 left) (outside 128 right) rows-in)) in
+    (ltb-false 32 n (or-r (ltb n 1) (ltb 32 n) n-in), omega arith)
+
+-- the ceiling of such dimensions
+pub ceiling-small : (n left right : ℕ) → outcome (sizeChecks n left right) ≡ Taken → 64 * (left + right + n + 1) * (n + 1) ≤ 610368
+ceiling-small n left right e =
+    let h = small n left right e in
+    omega (arith, mul-le-mul (h .0) (h .1), mul-le-mul (h .0) (h .0))
+
+-- the number of gates, counted
+pub counted : (n m r : ℕ) → r ≡ 19 * (n * m) + 15 * (n * n) + 23 * m + 27 * n + 31 → r ≡ length (circuit (addresses n m))
+counted n m r e = omega (arith, circuit-length (addresses n m))
+
+module _ (d : Dimensions) (words : List ℕ) where
+  bufferChecks : List Check
+  bufferChecks = check (ltb (length words) (3 * ceiling d)) GateBuffer ∷ []
+
+  -- what follows from the outcome
+  by-outcome : (o : Outcome) → outcome (generatorChecks d words) ≡ o
+      → (given o (Of (length (gatesOn d))) Refused ≡ generated d words) × (given o (over (wordsOf (gatesOn d)) words) (λ r. words) ≡ written d words)
+  by-outcome o e = (ap (λ (x : Outcome). given x (Of (length (gatesOn d))) Refused) (sym e), ap (λ (x : Outcome). given x (over (wordsOf (gatesOn d)) words) (λ r. words)) (sym e))
+
+  pub refuse-size : (r : Refusal) → outcome (sizeChecks (d .n) (d .left) (d .right)) ≡ Not r
+      → (Refused r ≡ generated d words) × (words ≡ written d words)
+  unfolding bufferChecks
+  refuse-size r e = by-outcome (Not r) (outcome-refused (sizeChecks (d .n) (d .left) (d .right)) bufferChecks r e)
+
+  module _ (e : outcome (sizeChecks (d .n) (d .left) (d .right)) ≡ Taken) where
+    pub refuse-buffer : length words < 3 * ceiling d → (Refused GateBuffer ≡ generated d words) × (words ≡ written d words)
+    unfolding bufferChecks
+    refuse-buffer h =
+        by-outcome (Not GateBuffer) (outcome-taken (sizeChecks (d .n) (d .left) (d .right)) bufferChecks e ∙ rw (lt-ltb _ _ h))
+
+    pub taken : 3 * ceiling d ≤ length words → (r : ℕ) (w : List ℕ) → r ≡ length (circuit (addresses (d .n) (d .left + d .right)))
+        → w ≡ sets words 0 (wordsOf (circuit (addresses (d .n) (d .left + d .right))))
+        → (Of r ≡ generated d words) × (w ≡ written d words)
+    unfolding bufferChecks gatesFor
+    taken h r w er ew =
+        let g = circuit (addresses (d .n) (d .left + d .right)) in
+        let t = by-outcome Taken (outcome-taken (sizeChecks (d .n) (d .left) (d .right)) bufferChecks e ∙ rw (le-ltb _ _ h)) in
+        let l : 0 + length (wordsOf g) ≤ length words = omega (arith, words-length g, gates-length (d .n) (d .left) (d .right)) in
+        (ap Of er ∙ t .0, ew ∙ (sets-eq (wordsOf g) words 0 l ∙ ap (λ (k : ℕ). wordsOf g ++ drop k words) (zero-add (length (wordsOf g))) ∙ t .1))

@@ -1,0 +1,141 @@
+-- What placing a cell's gates keeps from turn to turn: the rest of the template, stored now, gives what the whole gives, stored at first.
+-- Assumes nothing.
+use mathlib.Core.Path.{_≡_, refl, ap, ap₂, sym, _∙_}
+use mathlib.Core.Bool.{true, _&&_, cond}
+use mathlib.Core.List.{List, [], _∷_, _++_}
+use Prim.Native.Nat.{ℕ, zero, suc, _+_, _*_, _-_, _/_, _≤_, _<_}
+use native.Mathlib.Nat.{add-zero, add-suc, suc-add, not-suc-le-zero, le-of-suc-le-suc, mul-le-mul, mul-le-mul-left}
+use native.Mathlib.Numerals.{add-one, add-two, add-three}
+use native.Mathlib.Omega.{arith}
+use lib.Dec.{eqb}
+use lib.ListN.{length, getD, drop, set, length-set, length-drop, drop-of-length-le}
+use lib.Seq.{sets}
+use Rattle.words.proofs.Truth.{and-l, and-r}
+use Rattle.gates.specs.Gates.{Gate}
+use Rattle.gates.specs.Memory.{gateWords, wordsOf, gateOf, gatesOf, drives, accepted}
+use Rattle.gates.proofs.InMemory.{words-append, words-length, accepted-length}
+use Rattle.gates.proofs.Judging.{drop-three, accepted-at, drives-below}
+use Rattle.netlist.specs.Templates.{sum}
+use Rattle.netlist.specs.Arrays.{operand, placed, cell, rows, along, none, cells, line, array}
+use Rattle.netlist.specs.Netlist.{two, levelSums}
+use Rattle.netlist.proofs.Sizes.{rows-length, cell-length, cells-length, line-length, array-length}
+
+-- stores one after the other are one run of stores
+pub sets-append : (xs ys l : List ℕ) (i : ℕ) → sets l i (xs ++ ys) ≡ sets (sets l i xs) (i + length xs) ys
+sets-append [] ys l i = ap (λ (k : ℕ). sets l k ys) (sym (add-zero i))
+sets-append (x ∷ xs) ys l i =
+    sets-append xs ys (set l i x) (suc i) ∙ ap (λ (k : ℕ). sets (sets (set l i x) (suc i) xs) k ys) (suc-add i (length xs) ∙ sym (add-suc i (length xs)))
+
+-- the words of a placed gate
+placed-words : (s : List ℕ) (b k x y : ℕ) → k < 3
+    → gateWords (placed s b (gateOf k x y)) ≡ k ∷ operand s b x ∷ cond (eqb k 2) 0 (operand s b y) ∷ []
+placed-words s b zero x y h = refl
+placed-words s b (suc zero) x y h = refl
+placed-words s b (suc (suc zero)) x y h = refl
+placed-words s b (suc (suc (suc k))) x y h = absurd (not-suc-le-zero (le-of-suc-le-suc (le-of-suc-le-suc (le-of-suc-le-suc h))))
+
+pub record Placing (w₀ : List ℕ) (t s : List ℕ) (base p₀ : ℕ) (w : List ℕ) (p i : ℕ) : Type 0 where
+  pub good : accepted (8 + i / 3) (drop i t) ≡ true
+  pub same : sets w p (wordsOf (cell s base (gatesOf (drop i t)))) ≡ sets w₀ p₀ (wordsOf (cell s base (gatesOf t)))
+  pub size : length w ≡ length w₀
+  pub step : p ≡ p₀ + i
+  pub upto : i ≤ length t
+
+pub start : (w t s : List ℕ) (base p : ℕ) → accepted 8 t ≡ true → Placing w t s base p w p 0
+start w t s base p e = record { good = e; same = refl; size = refl; step = omega arith; upto = omega arith }
+
+module _ (w₀ t s : List ℕ) (base p₀ : ℕ) (w : List ℕ) (p i : ℕ) (r : Placing w₀ t s base p₀ w p i) where
+  whole : i < length t → i + 3 ≤ length t
+  whole h = omega (arith, accepted-length (8 + i / 3) (drop i t) (r .good), length-drop i t)
+
+  judged : (h : i < length t) → drives (8 + i / 3) (getD t i 0) (getD t (i + 1) 0) (getD t (i + 2) 0) && accepted (8 + i / 3 + 1) (drop (i + 3) t) ≡ true
+  judged h = sym (accepted-at t i (whole h) (8 + i / 3)) ∙ r .good
+
+  -- a whole gate is left, and its operands are slots or earlier gates of the template
+  pub turn : i < length t → (i + 3 ≤ length t) × (getD t i 0 < 3) × (getD t (i + 1) 0 < 8 + i / 3) × (getD t (i + 2) 0 < 8 + i / 3)
+  turn h =
+      let d = drives-below (8 + i / 3) (getD t i 0) (getD t (i + 1) 0) (getD t (i + 2) 0) (and-l _ _ (judged h)) in
+      (whole h, d .0, d .1, d .2)
+
+  cell-words : i < length t
+      → wordsOf (cell s base (gatesOf (drop i t)))
+      ≡ getD t i 0 ∷ operand s base (getD t (i + 1) 0) ∷ cond (eqb (getD t i 0) 2) 0 (operand s base (getD t (i + 2) 0)) ∷ wordsOf (cell s base (gatesOf (drop (i + 3) t)))
+  unfolding wordsOf gatesOf
+  cell-words h =
+      ap (λ (l : List ℕ). wordsOf (cell s base (gatesOf l))) (drop-three t i (whole h))
+      ∙ ap (λ (l : List ℕ). l ++ wordsOf (cell s base (gatesOf (drop (i + 3) t)))) (placed-words s base (getD t i 0) (getD t (i + 1) 0) (getD t (i + 2) 0) (turn h .1))
+
+  pub again : (a b : ℕ) → i < length t → a ≡ operand s base (getD t (i + 1) 0) → b ≡ cond (eqb (getD t i 0) 2) 0 (operand s base (getD t (i + 2) 0))
+      → Placing w₀ t s base p₀ (set (set (set w p (getD t i 0)) (p + 1) a) (p + 2) b) (p + 3) (i + 3)
+  again a b h ea eb =
+      let e : 8 + i / 3 + 1 ≡ 8 + (i + 3) / 3 = omega arith in
+      record {
+        good = ap (λ (k : ℕ). accepted k (drop (i + 3) t)) (sym e) ∙ and-r (drives (8 + i / 3) (getD t i 0) (getD t (i + 1) 0) (getD t (i + 2) 0)) _ (judged h);
+        same =
+            rw (add-one p, add-two p, add-three p, ea, eb)
+            (sym (ap (λ (l : List ℕ). sets w p l) (cell-words h)) ∙ r .same);
+        size = simp length-set (r .size);
+        step = omega (arith, r .step);
+        upto = whole h;
+      }
+
+  pub done : length t ≤ i → w ≡ sets w₀ p₀ (wordsOf (cell s base (gatesOf t)))
+  unfolding wordsOf gatesOf
+  done h = rw (drop-of-length-le t h) at (r .same)
+
+-- gates behind gates: q is where the second ones are stored
+pub followed-by : (A B : List Gate) (w₀ w w′ : List ℕ) (p q : ℕ) → w ≡ sets w₀ p (wordsOf A) → q ≡ p + 3 * length A
+    → w′ ≡ sets w q (wordsOf B) → w′ ≡ sets w₀ p (wordsOf (A ++ B))
+followed-by A B w₀ w w′ p q e h e′ =
+    e′ ∙ ap₂ (λ (l : List ℕ) (k : ℕ). sets l k (wordsOf B)) e (h ∙ ap (λ (k : ℕ). p + k) (sym (words-length A)))
+    ∙ sym (ap (λ (l : List ℕ). sets w₀ p l) (words-append A B) ∙ sets-append (wordsOf A) (wordsOf B) w₀ p)
+
+-- a turn of a loop that places: one more row behind those that stand
+pub row-more : (f : ℕ → List Gate) (w₀ w w′ : List ℕ) (p q i : ℕ) → w ≡ sets w₀ p (wordsOf (rows f i)) → q ≡ p + 3 * length (rows f i)
+    → w′ ≡ sets w q (wordsOf (f i)) → w′ ≡ sets w₀ p (wordsOf (rows f (i + 1)))
+row-more f w₀ w w′ p q i e h e′ = rw (add-one i) (followed-by (rows f i) (f i) w₀ w w′ p q e h e′)
+
+-- one more cell
+pub cells-more : (t : List Gate) (slots steps here : List ℕ) (b at size i : ℕ) (w₀ w w′ : List ℕ) (p q : ℕ)
+    → w ≡ sets w₀ p (wordsOf (cells t slots steps b i)) → size ≡ length t → q ≡ p + 3 * (size * i)
+    → here ≡ along slots steps i → at ≡ b + size * i
+    → w′ ≡ sets w q (wordsOf (cell here at t)) → w′ ≡ sets w₀ p (wordsOf (cells t slots steps b (i + 1)))
+unfolding cells
+cells-more t slots steps here b at size i w₀ w w′ p q e s h eh ea e′ =
+    row-more (λ j. cell (along slots steps j) (b + length t * j) t) w₀ w w′ p q i e
+    (h ∙ ap (λ (k : ℕ). p + 3 * k) (ap (λ (k : ℕ). k * i) s ∙ sym (rows-length (λ j. cell (along slots steps j) (b + length t * j) t) (length t) (λ j. cell-length (along slots steps j) (b + length t * j) t) i)))
+    (e′ ∙ ap₂ (λ (l : List ℕ) (k : ℕ). sets w q (wordsOf (cell l k t))) eh (ea ∙ ap (λ (k : ℕ). b + k * i) s))
+
+-- one more line
+pub lines-more : (z : ℕ) (t : List Gate) (slots outer inner here : List ℕ) (b at size n i : ℕ) (w₀ w w′ : List ℕ) (p q : ℕ)
+    → w ≡ sets w₀ p (wordsOf (array z t slots outer inner b i n)) → size ≡ length t → q ≡ p + 3 * ((z + size * n) * i)
+    → here ≡ along slots outer i → at ≡ b + (z + size * n) * i
+    → w′ ≡ sets w q (wordsOf (line z t here inner at n)) → w′ ≡ sets w₀ p (wordsOf (array z t slots outer inner b (i + 1) n))
+unfolding array
+lines-more z t slots outer inner here b at size n i w₀ w w′ p q e s h eh ea e′ =
+    row-more (λ j. line z t (along slots outer j) inner (b + (z + length t * n) * j) n) w₀ w w′ p q i e
+    (h ∙ ap (λ (k : ℕ). p + 3 * k) (ap (λ (k : ℕ). (z + k * n) * i) s ∙ sym (rows-length (λ j. line z t (along slots outer j) inner (b + (z + length t * n) * j) n) (z + length t * n) (λ j. line-length z t (along slots outer j) inner (b + (z + length t * n) * j) n) i)))
+    (e′ ∙ ap₂ (λ (l : List ℕ) (k : ℕ). sets w q (wordsOf (line z t l inner k n))) eh (ea ∙ ap (λ (k : ℕ). b + (z + k * n) * i) s))
+
+-- zeros, then cells
+pub line-whole : (z : ℕ) (t : List Gate) (slots steps : List ℕ) (b n : ℕ) (w₀ w w′ : List ℕ) (p q : ℕ)
+    → w ≡ sets w₀ p (wordsOf (cells sum none none b z)) → q ≡ p + 3 * z
+    → w′ ≡ sets w q (wordsOf (cells t slots steps (b + z) n)) → w′ ≡ sets w₀ p (wordsOf (line z t slots steps b n))
+unfolding line
+line-whole z t slots steps b n w₀ w w′ p q e h e′ =
+    followed-by (cells sum none none b z) (cells t slots steps (b + z) n) w₀ w w′ p q e (omega (arith, cells-length sum none none b z)) e′
+
+-- the products of a turn
+pub turns : (size n i k m : ℕ) → size ≤ k → n ≤ m → i < n → (size * i + size ≤ size * n) × (size * n ≤ k * m)
+turns size n i k m s h l = (omega (arith, mul-le-mul-left size l), mul-le-mul s h)
+
+-- one more level of the next state
+pub levels-more : (n block x c b l at : ℕ) (here w₀ w w′ : List ℕ) (p q : ℕ)
+    → w ≡ sets w₀ p (wordsOf (rows (levelSums n block x c b) l)) → q ≡ p + 3 * (3 * n * l)
+    → here ≡ along (two x c) (two (3 * n) 4) l → at ≡ b + 3 * n * l
+    → w′ ≡ sets w q (wordsOf (array 0 sum here (two n block) (two 1 (1 + 4 * n)) at 3 n))
+    → w′ ≡ sets w₀ p (wordsOf (rows (levelSums n block x c b) (l + 1)))
+levels-more n block x c b l at here w₀ w w′ p q e h eh ea e′ =
+    row-more (levelSums n block x c b) w₀ w w′ p q l e
+    (h ∙ ap (λ (k : ℕ). p + 3 * k) (sym (rows-length (levelSums n block x c b) (3 * n) (λ i. array-length 0 sum _ _ _ _ 3 n ∙ omega arith) l)))
+    (e′ ∙ ap₂ (λ (s : List ℕ) (k : ℕ). sets w q (wordsOf (array 0 sum s (two n block) (two 1 (1 + 4 * n)) k 3 n))) eh ea)

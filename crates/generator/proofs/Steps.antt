@@ -1,0 +1,59 @@
+-- Slots after some steps: they fit a word, and are computed one by one.
+-- Assumes nothing.
+use mathlib.Core.Path.{_≡_, ap, ap₂, sym, _∙_}
+use mathlib.Core.List.{List, [], _∷_}
+use Prim.Native.Nat.{ℕ, zero, suc, _+_, _*_, _≤_, _<_}
+use native.Mathlib.Nat.{mul-le-mul}
+use native.Mathlib.Omega.{arith}
+use lib.ListN.{length, getD, drop, drop-of-length-le}
+use lib.Seq.{drop-cons}
+use Rattle.netlist.specs.Arrays.{along, Below}
+use Rattle.netlist.proofs.Arrays.{below-at}
+
+module _ (slots steps : List ℕ) (i : ℕ) (hs : Below 33554432 slots) (hd : Below 65536 steps) (hi : i ≤ 256)
+    (es : length slots ≡ 8) (ed : length steps ≡ 8) where
+  pub step-fits : (k : ℕ) → k < 8 → getD steps k 0 * i ≤ 16777216
+  step-fits k l =
+      let d : getD steps k 0 ≤ 65536 = omega (arith, below-at 65536 steps hd k (omega arith)) in
+      omega (arith, mul-le-mul d hi)
+
+  pub sum-fits : (k : ℕ) → k < 8 → getD slots k 0 + getD steps k 0 * i ≤ 50331648
+  sum-fits k l = omega (arith, step-fits k l, below-at 33554432 slots hs k (omega arith))
+
+-- k slots from slot j on, read one by one
+from : List ℕ → List ℕ → ℕ → ℕ → ℕ → List ℕ
+from slots steps i j zero = []
+from slots steps i j (suc k) = (getD slots j 0 + getD steps j 0 * i) ∷ from slots steps i (suc j) k
+
+from-along : (slots steps : List ℕ) (i j k : ℕ) → length slots ≡ j + k → length steps ≡ j + k
+    → from slots steps i j k ≡ along (drop j slots) (drop j steps) i
+unfolding from
+from-along slots steps i j zero es ed =
+    let l : length slots ≤ j = omega arith in
+    rw (drop-of-length-le slots l)
+from-along slots steps i j (suc k) es ed =
+    ap (λ (l : List ℕ). (getD slots j 0 + getD steps j 0 * i) ∷ l) (from-along slots steps i (suc j) k (omega arith) (omega arith))
+    ∙ sym (ap₂ (λ (x y : List ℕ). along x y i) (drop-cons slots j 0 (omega arith)) (drop-cons steps j 0 (omega arith)))
+
+pub eight : (slots steps : List ℕ) (i : ℕ) → length slots ≡ 8 → length steps ≡ 8
+    → (getD slots 0 0 + getD steps 0 0 * i) ∷ (getD slots 1 0 + getD steps 1 0 * i) ∷ (getD slots 2 0 + getD steps 2 0 * i)
+    ∷ (getD slots 3 0 + getD steps 3 0 * i) ∷ (getD slots 4 0 + getD steps 4 0 * i) ∷ (getD slots 5 0 + getD steps 5 0 * i)
+    ∷ (getD slots 6 0 + getD steps 6 0 * i) ∷ (getD slots 7 0 + getD steps 7 0 * i) ∷ []
+    ≡ along slots steps i
+unfolding from
+eight slots steps i es ed = from-along slots steps i 0 8 es ed
+
+-- steps further still stand below a bound
+pub along-below : (b d k : ℕ) (slots steps : List ℕ) (i : ℕ) → Below b slots → Below d steps → i ≤ k → Below (b + d * k) (along slots steps i)
+along-below b d k [] steps i hs hd hi = tt
+along-below b d k (x ∷ slots) [] i hs hd hi = tt
+along-below b d k (x ∷ slots) (y ∷ steps) i hs hd hi =
+    let l : y ≤ d = omega (arith, hd .0) in
+    (omega (arith, hs .0, mul-le-mul l hi), along-below b d k slots steps i (hs .1) (hd .1) hi)
+
+pub along-length : (slots steps : List ℕ) (i : ℕ) → length slots ≡ 8 → length steps ≡ 8 → length (along slots steps i) ≡ 8
+along-length slots steps i es ed = ap length (sym (eight slots steps i es ed))
+
+pub below-more : (b d : ℕ) (slots : List ℕ) → Below b slots → b ≤ d → Below d slots
+below-more b d [] h l = tt
+below-more b d (x ∷ slots) h l = (omega (arith, h .0), below-more b d slots (h .1) l)

@@ -1,0 +1,88 @@
+-- `cells` meets its contract: each turn places one more cell behind those that stand.
+-- Assumes nothing.
+use borrow.Author.Needs.{needs}
+use mathlib.Core.Path.{_≡_, refl, ap}
+use Prim.Native.Nat.{_+_, _*_, _-_, _≤_}
+use native.Mathlib.Omega.{arith}
+use lib.ListN.{length}
+use lib.Seq.{sets, length-sets}
+use Rattle.gates.specs.Memory.{wordsOf, gatesOf}
+use Rattle.gates.proofs.InMemory.{accepted-length}
+use Rattle.netlist.specs.Arrays.{cells}
+use Rattle.generator.proofs.Placing.{cells-more, turns}
+use Rattle.generator.proofs.cells.cells.Statement.{statement}
+use Rattle.generator.proofs.cells.cells.Tie as tie
+
+abbrev Inv-loop : tie.InvT-loop
+Inv-loop words₀ inputs base template size n slots steps at₀ i₀ words at i =
+    (i ≤ n) × (at ≡ base + size * i) × (words ≡ sets words₀ (3 * (base - inputs)) (wordsOf (cells (gatesOf template) slots steps base i)))
+
+abbrev μ-loop : tie.MeasureT-loop
+μ-loop words₀ inputs base template size n slots steps at₀ i₀ words at i = n - i
+
+kept : (c : tie.At-loop Inv-loop μ-loop) → length (c .loop .words) ≡ length (c .before .before .before .args .words .now)
+kept c = simp length-sets at (ap length (c .loop .inv .2))
+
+loop-holds : tie.Need-loop-holds Inv-loop μ-loop
+unfolding wordsOf cells
+loop-holds c = (omega arith, omega arith, refl)
+
+along-requires : tie.Need-along-requires Inv-loop μ-loop
+along-requires c κs = let s = c .before .before .before .before in (s .pre .1 .1 .0 .0, s .pre .1 .1 .0 .1, omega arith)
+
+place-requires : tie.Need-place-requires Inv-loop μ-loop
+place-requires c κs =
+    let l = c .before .before .before in
+    let s = l .before .before .before in
+    let k = kept l in
+    let t = turns (s .args .size) (s .args .n) (l .loop .i) 16 256 (s .pre .0 .2) (s .pre .1 .0 .0) (c .before .before .loop-test .taken) in
+    let e = accepted-length 8 (s .args .template .now) (s .pre .0 .0) in
+    (s .pre .0 .0, ((omega arith, omega arith), omega arith))
+
+add-at : tie.Need-add-at Inv-loop μ-loop
+add-at c =
+    let l = c .before .before .before .before .before .before in
+    let s = l .before .before .before in
+    let t = turns (s .args .size) (s .args .n) (l .loop .i) 16 256 (s .pre .0 .2) (s .pre .1 .0 .0) (c .before .before .before .before .before .loop-test .taken) in
+    omega arith
+
+add-i : tie.Need-add-i Inv-loop μ-loop
+add-i c = omega arith
+
+loop-less : tie.Need-loop-less Inv-loop μ-loop
+loop-less c = search needs
+
+loop-again : tie.Need-loop-again Inv-loop μ-loop
+loop-again c =
+    let l = c .before .before .before .before .before .before in
+    let s = l .before .before .before in (
+      omega arith,
+      omega arith,
+      cells-more (gatesOf (s .args .template .now)) (s .args .slots) (s .args .steps) _ (s .args .base) (l .loop .at) (s .args .size) (l .loop .i) _ _ _ _ (3 * (l .loop .at - s .args .inputs))
+          (l .loop .inv .2) (s .pre .0 .1) (omega arith) (c .before .before .before .before .along .ensures) (l .loop .inv .1) (c .before .before .place .ensures),
+    )
+
+same-length : tie.Need-same-length Inv-loop μ-loop
+same-length c = kept (c .before)
+
+returns : tie.Need-returns Inv-loop μ-loop
+returns c =
+    let l = c .before in
+    let e : l .loop .i ≡ l .before .before .before .args .n = omega arith in
+    rw e at (l .loop .inv .2)
+
+pub cells-spec : {M : Type 1} → statement M
+cells-spec =
+    tie.close
+    (tie.spec
+    Inv-loop
+    μ-loop
+    loop-holds
+    along-requires
+    place-requires
+    add-at
+    add-i
+    loop-less
+    loop-again
+    same-length
+    returns)

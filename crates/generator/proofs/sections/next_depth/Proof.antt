@@ -1,0 +1,29 @@
+-- `next_depth` meets its contract: the slots and steps are the definition's, and each fits.
+-- Assumes nothing.
+use mathlib.Core.Path.{refl}
+use native.Mathlib.Omega.{arith}
+use Rattle.gates.specs.Memory.{gatesOf, accepted}
+use borrow.Author.Needs.{needs}
+use Rattle.generator.proofs.sections.next_depth.Statement.{statement}
+use Rattle.generator.proofs.sections.next_depth.Tie as tie
+
+slice-aggregate-cells : tie.Need-slice-aggregate-cells
+slice-aggregate-cells c = search needs
+
+add-cells : tie.Need-add-cells
+add-cells c = search needs
+
+cells-requires : tie.Need-cells-requires
+unfolding accepted gatesOf
+cells-requires c κs = ((refl, refl, omega arith), ((omega arith, omega arith, omega arith), ((omega arith, omega arith), omega arith)))
+
+same-length : tie.Need-same-length
+same-length c = search needs
+
+returns : tie.Need-returns
+unfolding gatesOf
+returns c = c .before .before .cells .ensures
+
+pub next-depth-spec : {M : Type 1} → statement M
+next-depth-spec =
+    tie.close (tie.spec slice-aggregate-cells add-cells cells-requires same-length returns)

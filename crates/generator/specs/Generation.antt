@@ -1,0 +1,26 @@
+-- What the generator gives for dimensions, and what it leaves in the lent words (document 01, "Circuit", refusals 1, 2 and 7).
+use mathlib.Core.List.{List, [], _∷_, _++_}
+use Prim.Native.Nat.{ℕ, _*_}
+use lib.Dec.{ltb}
+use lib.ListN.{length}
+use Rattle.refusals.specs.declared.Refusal.the-variants.{GateBuffer}
+use Rattle.refusals.specs.Checks.{Check, check, outcome, given}
+use Rattle.tables.specs.declared.Dimensions.{Dimensions}
+use Rattle.tables.specs.Sizes.{sizeChecks, ceiling}
+use Rattle.gates.specs.Memory.{wordsOf}
+use Rattle.gates.specs.Evaluation.{over}
+use Rattle.generator.specs.declared.Generated.{Generated}
+use Rattle.generator.specs.declared.Generated.the-variants.{Of, Refused}
+use Rattle.netlist.specs.Netlist.{gatesOn}
+
+-- 1, 2, then 7: fewer than three words for each gate of the ceiling
+abbrev pub generatorChecks : Dimensions → List ℕ → List Check
+generatorChecks d words = sizeChecks (d .n) (d .left) (d .right) ++ (check (ltb (length words) (3 * ceiling d)) GateBuffer ∷ [])
+
+-- how many gates there are
+abbrev pub generated : Dimensions → List ℕ → Generated
+generated d words = given (outcome (generatorChecks d words)) (Of (length (gatesOn d))) Refused
+
+-- the words afterwards: the gates, then what stood there; refused, as they were
+abbrev pub written : Dimensions → List ℕ → List ℕ
+written d words = given (outcome (generatorChecks d words)) (over (wordsOf (gatesOn d)) words) (λ r. words)

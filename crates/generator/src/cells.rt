@@ -1,0 +1,163 @@
+// Cells: constant templates of gates, placed by address. A template's operand below 8 is a slot, 8 + k the cell's own gate k.
+ghost use mathlib.Core.Path.{_≡_};
+ghost use mathlib.Core.Bool.{true, cond};
+ghost use Prim.Native.Nat.{_+_, _*_, _-_, _≤_};
+ghost use lib.Dec.{eqb};
+ghost use lib.ListN.{length};
+ghost use lib.Seq.{sets};
+ghost use Rattle.gates.specs.Memory.{wordsOf, gatesOf, accepted};
+ghost use Rattle.netlist.specs.Arrays as Arrays;
+ghost use Rattle.netlist.specs.Arrays.{cell, Below};
+
+// XOR of slots 0 and 1; on unused slots a gate that is 0.
+pub(crate) const SUM: [u32; 3] = [0, 0, 1];
+
+// A word as an index.
+fn wide(x: u32) -> usize
+    ensures { λ r. ⌜ r ≡ x ⌝ }
+{
+    x as usize
+}
+
+// An operand's wire in a cell whose first gate drives wire `base`.
+fn operand(x: u32, base: u32, slots: [u32; 8]) -> u32
+    requires { ⌜ base + x ≤ 4294967295 ⌝ }
+    ensures { λ r. ⌜ r ≡ Arrays.operand slots base x ⌝ }
+{
+    if x < 8 {
+        let i = wide(x);
+        slots[i]
+    } else {
+        base + (x - 8)
+    }
+}
+
+// A gate's second word: 0 for INV.
+fn second(kind: u32, x: u32, base: u32, slots: [u32; 8]) -> u32
+    requires { ⌜ base + x ≤ 4294967295 ⌝ }
+    ensures { λ r. ⌜ r ≡ cond (eqb kind 2) 0 (Arrays.operand slots base x) ⌝ }
+{
+    if kind == 2 {
+        0
+    } else {
+        operand(x, base, slots)
+    }
+}
+
+// Writes a template's gates, the first of which drives wire `base`.
+pub(crate) fn place(words: &mut [u32], inputs: u32, base: u32, template: &[u32], slots: [u32; 8])
+    requires { ⌜ accepted 8 (now template) ≡ true ⌝ }
+    requires { ⌜ (inputs ≤ base) × (base + length (now template) ≤ 4294967287) ⌝ }
+    requires { ⌜ 3 * (base - inputs) + length (now template) ≤ length (now words) ⌝ }
+    ensures { λ _. ⌜ now (words .exit) ≡ sets (now (words .entry)) (3 * (base - inputs)) (wordsOf (cell slots base (gatesOf (now (template .entry))))) ⌝ }
+{
+    let mut p = 3 * wide(base - inputs);
+    let mut i = 0;
+    while i < template.len() {
+        let k = template[i];
+        let a = operand(template[i + 1], base, slots);
+        let b = second(k, template[i + 2], base, slots);
+        words[p] = k;
+        words[p + 1] = a;
+        words[p + 2] = b;
+        i += 3;
+        p += 3;
+    }
+}
+
+// The slots after i steps.
+pub(crate) fn along(slots: [u32; 8], steps: [u32; 8], i: u32) -> [u32; 8]
+    requires { ⌜ (Below 33554432 slots) × (Below 65536 steps) × (i ≤ 256) ⌝ }
+    ensures { λ r. ⌜ r ≡ Arrays.along slots steps i ⌝ }
+{
+    [
+        slots[0] + steps[0] * i,
+        slots[1] + steps[1] * i,
+        slots[2] + steps[2] * i,
+        slots[3] + steps[3] * i,
+        slots[4] + steps[4] * i,
+        slots[5] + steps[5] * i,
+        slots[6] + steps[6] * i,
+        slots[7] + steps[7] * i,
+    ]
+}
+
+// n cells, each with its slots a step on.
+pub(crate) fn cells(
+    words: &mut [u32],
+    inputs: u32,
+    base: u32,
+    template: &[u32],
+    size: u32,
+    n: u32,
+    slots: [u32; 8],
+    steps: [u32; 8],
+)
+    requires { ⌜ (accepted 8 (now template) ≡ true) × (size ≡ length (gatesOf (now template))) × (size ≤ 16) ⌝ }
+    requires { ⌜ (n ≤ 256) × (inputs ≤ base) × (base ≤ 16777216) ⌝ }
+    requires { ⌜ (Below 33554432 slots) × (Below 65536 steps) ⌝ }
+    requires { ⌜ 3 * (base - inputs) + 3 * (size * n) ≤ length (now words) ⌝ }
+    ensures { λ _. ⌜ now (words .exit) ≡ sets (now (words .entry)) (3 * (base - inputs)) (wordsOf (Arrays.cells (gatesOf (now (template .entry))) slots steps base n)) ⌝ }
+{
+    let mut at = base;
+    let mut i = 0;
+    while i < n {
+        let here = along(slots, steps, i);
+        place(words, inputs, at, template, here);
+        at += size;
+        i += 1;
+    }
+}
+
+// Gates that are 0, then n cells.
+pub(crate) fn line(
+    words: &mut [u32],
+    inputs: u32,
+    base: u32,
+    zeros: u32,
+    template: &[u32],
+    size: u32,
+    n: u32,
+    slots: [u32; 8],
+    steps: [u32; 8],
+)
+    requires { ⌜ (accepted 8 (now template) ≡ true) × (size ≡ length (gatesOf (now template))) × (size ≤ 16) ⌝ }
+    requires { ⌜ (zeros ≤ 4) × (n ≤ 256) × (inputs ≤ base) × (base ≤ 8388608) ⌝ }
+    requires { ⌜ (Below 33554432 slots) × (Below 65536 steps) ⌝ }
+    requires { ⌜ 3 * (base - inputs) + 3 * (zeros + size * n) ≤ length (now words) ⌝ }
+    ensures { λ _. ⌜ now (words .exit) ≡ sets (now (words .entry)) (3 * (base - inputs)) (wordsOf (Arrays.line zeros (gatesOf (now (template .entry))) slots steps base n)) ⌝ }
+{
+    cells(words, inputs, base, &SUM, 1, zeros, [0; 8], [0; 8]);
+    cells(words, inputs, base + zeros, template, size, n, slots, steps);
+}
+
+// m lines, each with its slots a step on.
+pub(crate) fn array(
+    words: &mut [u32],
+    inputs: u32,
+    base: u32,
+    zeros: u32,
+    template: &[u32],
+    size: u32,
+    m: u32,
+    n: u32,
+    slots: [u32; 8],
+    outer: [u32; 8],
+    inner: [u32; 8],
+)
+    requires { ⌜ (accepted 8 (now template) ≡ true) × (size ≡ length (gatesOf (now template))) × (size ≤ 16) ⌝ }
+    requires { ⌜ (zeros ≤ 4) × (m ≤ 256) × (n ≤ 256) × (inputs ≤ base) × (base ≤ 1048576) ⌝ }
+    requires { ⌜ (Below 16777216 slots) × (Below 65536 outer) × (Below 65536 inner) ⌝ }
+    requires { ⌜ 3 * (base - inputs) + 3 * ((zeros + size * n) * m) ≤ length (now words) ⌝ }
+    ensures { λ _. ⌜ now (words .exit) ≡ sets (now (words .entry)) (3 * (base - inputs)) (wordsOf (Arrays.array zeros (gatesOf (now (template .entry))) slots outer inner base m n)) ⌝ }
+{
+    let row = zeros + size * n;
+    let mut at = base;
+    let mut j = 0;
+    while j < m {
+        let here = along(slots, outer, j);
+        line(words, inputs, at, zeros, template, size, n, here, inner);
+        at += row;
+        j += 1;
+    }
+}
