@@ -14,11 +14,11 @@ use Rattle.gates.specs.Gates.{Gate, wire, wiresOf}
 use Rattle.wires.specs.Layout.{upto, rowsBits, bitsIn, inOrder, stateBits}
 use Rattle.wires.specs.Reading.{stateAt}
 use Rattle.wires.proofs.Series.{upto-more}
+use Rattle.wires.proofs.Addresses.{Same, same-trans, order-cong, positive-at, negative-at, rows-past, state-at, state-row}
 use Rattle.netlist.specs.Outputs.{outputBits}
-use Rattle.netlist.proofs.Interface.{Wires, Same, Inputs, Cells}
-use Rattle.netlist.proofs.Order.{same-trans, order-cong}
+use Rattle.netlist.proofs.Interface.{Wires, Inputs, Cells}
 use Rattle.netlist.proofs.GiantStep.{circuit-steps}
-use Rattle.netlist.proofs.Places.{positive-at, negative-at, rows-past, state-at, state-row, wires-behind, last-wires}
+use Rattle.netlist.proofs.LastWires.{wires-behind, last-wires}
 
 -- the inputs of m rows and a state stand in front, the outputs from a place on
 pub record Placed (n m : ℕ) (list : List Bool) (at : ℕ) (w : Wires) : Type 0 where

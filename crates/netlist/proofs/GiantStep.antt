@@ -27,9 +27,9 @@ use Rattle.solver.proofs.RuleLaws.{Ruled, ruled, unit-settable, choice-settable
 use Rattle.state.proofs.WellFormedLaws.{formed-e, chain-head}
 use Rattle.solver.proofs.StepLaws.{settable-depth}
 use Rattle.wires.specs.Layout.{bitsIn, isSatisfied, isRefuted, inOrder, stateBits}
+use Rattle.wires.proofs.Addresses.{Same, order-cong}
 use Rattle.netlist.specs.Outputs.{outputBits}
-use Rattle.netlist.proofs.Interface.{Wires, Same, Inputs, Cells, OnState}
-use Rattle.netlist.proofs.Order.{order-cong}
+use Rattle.netlist.proofs.Interface.{Wires, Inputs, Cells, OnState}
 use Rattle.netlist.proofs.Scan.{Shows, shown}
 use Rattle.netlist.proofs.Moves.{moved-closing, moved-true, moved-false, moved-choice, moved-back}
 use Rattle.netlist.proofs.NextState.{signals, rule-wires, moved-by}

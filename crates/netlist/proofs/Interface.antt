@@ -5,13 +5,14 @@ use mathlib.Core.Path.{_≡_}
 use mathlib.Core.Bool.{Bool, false, not, _&&_}
 use mathlib.Core.List.{List}
 use Prim.Native.Nat.{ℕ, suc, _≤_, _<_}
-use lib.ListN.{length, getD}
+use lib.ListN.{length}
 use Rattle.words.specs.Booleans.{_⊕_}
 use Rattle.words.specs.Sets.{bit}
 use Rattle.tables.specs.declared.Row.{Row}
 use Rattle.state.specs.State.{State}
 use Rattle.state.proofs.WellFormedLaws.{Formed}
 use Rattle.wires.specs.Layout.{Bits, bitsIn}
+use Rattle.wires.proofs.Addresses.{Same, rowOf}
 use Rattle.netlist.proofs.Equations.{or, freeOf, freeHere, positiveHere, satisfiedHere, unitOf, conflictOf, firstOf, countsOf, openOf, doneOf, refuteOf, popOf, pushOf, negOf, posOf}
 
 -- what the cell `rule` says
@@ -66,21 +67,6 @@ pub record Wires : Type 0 where
   -- outputs
   pub next : Bits
   pub closing : Bool
-
--- two states' bits are the same on every wire
-pub record Same (n : ℕ) (a b : Bits) : Type 0 where
-  pub same-T : (i : ℕ) → i < n → a .T i ≡ b .T i
-  pub same-F : (i : ℕ) → i < n → a .F i ≡ b .F i
-  pub same-D : (k : ℕ) → k ≤ n → a .D k ≡ b .D k
-  pub same-LT : (l i : ℕ) → l < n → i < n → a .LT l i ≡ b .LT l i
-  pub same-LF : (l i : ℕ) → l < n → i < n → a .LF l i ≡ b .LF l i
-  pub same-LV : (l i : ℕ) → l < n → i < n → a .LV l i ≡ b .LV l i
-  pub same-SAT : a .SAT ≡ b .SAT
-  pub same-REF : a .REF ≡ b .REF
-
--- the row of number j from 0
-abbrev pub rowOf : List Row → ℕ → Row
-rowOf rows j = getD rows j (record { positive = 0; negative = 0 })
 
 -- the input wires hold the bits of rows and of a state
 pub record Inputs (n : ℕ) (rows : List Row) (s : State) (w : Wires) : Type 0 where

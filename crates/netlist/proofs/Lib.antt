@@ -6,10 +6,9 @@ pub mod RowNumbers
 pub mod Scan
 pub mod Levels
 pub mod Moves
-pub mod Order
 pub mod NextState
 pub mod GiantStep
-pub mod Places
+pub mod LastWires
 pub mod Circuit
 pub mod Sizes
 pub mod Values

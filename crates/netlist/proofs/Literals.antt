@@ -18,8 +18,9 @@ use Rattle.tables.proofs.Rows.{satisfies, satisfied-any, unsatisfied-none, unsa
 use Rattle.state.specs.State.{State}
 use Rattle.scan.specs.Rules.{left}
 use Rattle.solver.proofs.RuleLaws.{left-unsatisfied, left-count}
+use Rattle.wires.proofs.Addresses.{rowOf}
 use Rattle.netlist.proofs.Equations.{or, freeOf, freeHere, satisfiedHere, unitOf, conflictOf}
-use Rattle.netlist.proofs.Interface.{Wires, OnState, rowOf}
+use Rattle.netlist.proofs.Interface.{Wires, OnState}
 use Rattle.netlist.proofs.Chains.{or-chain, xor-chain, parity-single, oddOf, manyOf, count-chain, count-one, count-zero}
 
 -- ---- a cell, where T and F are disjoint

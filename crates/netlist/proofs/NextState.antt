@@ -14,10 +14,10 @@ use Rattle.words.proofs.Truth.{on, and-false, taut3, taut4, same, same-eq}
 use Rattle.tables.specs.declared.Row.{Row}
 use Rattle.state.specs.State.{State}
 use Rattle.wires.specs.Layout.{Bits, bitsIn, isSatisfied, isRefuted}
+use Rattle.wires.proofs.Addresses.{Same, same-trans}
 use Rattle.netlist.proofs.Equations.{openOf, doneOf, refuteOf, popOf, pushOf, negOf, posOf}
-use Rattle.netlist.proofs.Interface.{Signals, Wires, Same, OnState}
+use Rattle.netlist.proofs.Interface.{Signals, Wires, OnState}
 use Rattle.netlist.proofs.Chains.{parity, xor-chain}
-use Rattle.netlist.proofs.Order.{same-trans}
 use Rattle.netlist.proofs.Moves.{popAt, pushAt, moved}
 
 -- the cell `rule`: open, some row unsatisfied, in conflict, unit, the sign, depth 0

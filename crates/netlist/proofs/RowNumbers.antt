@@ -12,7 +12,7 @@ use Rattle.tables.specs.Rows.{freeIn}
 use Rattle.scan.specs.declared.Rule.{Rule}
 use Rattle.scan.specs.declared.Rule.the-variants.{Unit}
 use Rattle.scan.specs.Rules.{allRows, anyRow, left, unitOr}
-use Rattle.netlist.proofs.Interface.{rowOf}
+use Rattle.wires.proofs.Addresses.{rowOf}
 
 module _ (p : Row → Bool) where
   pub any-numbered : (rows : List Row) → anyRow p rows ≡ any (λ j. p (rowOf rows j)) (length rows)

@@ -21,8 +21,9 @@ use Rattle.scan.specs.declared.Rule.the-variants.{AllSatisfied, Conflict, Unit,
 use Rattle.state.specs.State.{State}
 use Rattle.scan.specs.Rules.{allRows, anyRow, left, choice, rule}
 use Rattle.solver.proofs.RuleLaws.{left-unsatisfied}
+use Rattle.wires.proofs.Addresses.{rowOf}
 use Rattle.netlist.proofs.Equations.{or, unitOf, firstOf, countsOf}
-use Rattle.netlist.proofs.Interface.{Wires, OnState, rowOf}
+use Rattle.netlist.proofs.Interface.{Wires, OnState}
 use Rattle.netlist.proofs.Chains.{or-chain, xor-chain, parity-at}
 use Rattle.netlist.proofs.Literals.{x-unsatisfied, sat-row, unit-row, conflict-row, sign-row}
 use Rattle.netlist.proofs.RowNumbers.{any-numbered, all-numbered, no-unit, first-unit}
