@@ -1,32 +1,41 @@
 -- Demand 3, every state: the evaluator takes the generated circuit, and on the packed bits of tables and of a well-formed state its last 3n² + 3n + 4 wires
 -- are the bits of the state after one giant step, then whether it is closed. From the circuit's definition, with the lengths of what is packed.
 -- Assumes nothing.
-use mathlib.Core.Path.{_≡_, ap, sym, _∙_, subst}
+use mathlib.Core.Path.{_≡_, refl, ap, sym, _∙_, subst}
 use mathlib.Core.Bool.{Bool, true}
-use mathlib.Core.List.{List}
-use Prim.Native.Nat.{ℕ, suc, _+_, _-_, _≤_}
+use mathlib.Core.List.{List, [], _∷_, _++_, map}
+use Prim.Native.Nat.{ℕ, zero, suc, _+_, _-_, _/_, _≤_}
 use native.Mathlib.Omega.{arith}
-use lib.ListN.{length, drop}
+use lib.ListN.{length, take, drop, length-append, length-map}
+use lib.Seq.{take-at, drop-append-le}
 use Rattle.refusals.specs.declared.Outcome.the-variants.{Taken}
 use Rattle.refusals.specs.Checks.{outcome}
+use Rattle.words.specs.Booleans.{digit}
 use Rattle.tables.specs.declared.Dimensions.{Dimensions}
 use Rattle.tables.specs.Sizes.{rowCount, stateWires, inputWires}
 use Rattle.tables.specs.Rows.{rowsOf}
 use Rattle.state.specs.State.{State}
 use Rattle.state.specs.WellFormed.{wellFormedState}
+use Rattle.solver.specs.Step.{step}
 use Rattle.gates.specs.Gates.{wiresOf}
 use Rattle.gates.specs.Memory.{wordsOf, accepted, bytesOf}
 use Rattle.gates.specs.Evaluation.{checks, filled, over}
-use Rattle.gates.proofs.Circuits.{ordered}
-use Rattle.gates.proofs.InMemory.{accepted-words}
+use Rattle.gates.proofs.Circuits.{ordered, wires-length}
+use Rattle.gates.proofs.InMemory.{accepted-words, words-length}
 use Rattle.gates.proofs.Evaluation.{evaluates}
+use Rattle.wires.specs.Layout.{stateBits}
 use Rattle.wires.specs.Packing.{inputBits}
-use Rattle.wires.proofs.Lengths.{both-length, input-length}
-use Rattle.netlist.specs.Outputs.{outputBits}
+use Rattle.wires.proofs.Lengths.{both-length, input-length, state-length}
+use Rattle.netlist.specs.Outputs.{closed, outputBits, outputsIn, CarriesOut}
 use Rattle.netlist.specs.Netlist.{addresses, circuit, gatesFor, gatesOn}
-use Rattle.netlist.proofs.Counts.{circuit-length}
+use Rattle.netlist.proofs.Counts.{circuit-length, gates-length}
 use Rattle.netlist.proofs.Accepted.{circuit-ordered}
 use Rattle.netlist.proofs.GeneratedCircuit.{circuit-carries}
+
+drop-map : {A B : Type 0} (f : A → B) (k : ℕ) (l : List A) → drop k (map f l) ≡ map f (drop k l)
+drop-map f zero l = refl
+drop-map f (suc k) [] = refl
+drop-map f (suc k) (x ∷ l) = drop-map f k l
 
 inputs-at : (d : Dimensions) → inputWires d ≡ addresses (d .n) (rowCount d) .inputs
 inputs-at d = omega arith
@@ -55,10 +64,42 @@ module _ (d : Dimensions) (left right : List ℕ) (s : State) where
       ∙ subst (λ (m : ℕ). length bits ≡ addresses (d .n) m .inputs → drop (addresses (d .n) m .outputs) (wiresOf bits (circuit (addresses (d .n) m))) ≡ outputBits (d .n) rows s)
       (both-length d left right) (λ l. circuit-carries (d .n) rows s l formed) (input-length d left right s ∙ inputs-at d)
 
-  -- and in the evaluator's buffer
-  pub every-state-evaluated : (buffer : List ℕ) → inputWires d + length (gatesOn d) ≤ length buffer
-      → (outcome (checks (wordsOf (gatesOn d)) (bytesOf bits) buffer) ≡ Taken)
-      × (filled (wordsOf (gatesOn d)) (bytesOf bits) buffer ≡ over (bytesOf (wiresOf bits (gatesOn d))) buffer)
-  every-state-evaluated buffer h =
+  outputs-length : length (bytesOf (outputBits (d .n) (rowsOf d left right) s)) ≡ stateWires (d .n) + 1
+  unfolding outputBits
+  outputs-length =
+      let next = step (d .n) (rowsOf d left right) s in
+      length-map (stateBits (d .n) next ++ (closed next ∷ [])) digit ∙ length-append (stateBits (d .n) next) (closed next ∷ [])
+      ∙ ap (λ (k : ℕ). k + 1) (state-length (d .n) next)
+
+  -- in a buffer whose front holds the wires' bytes
+  pub outputs-filled : wellFormedState (d .n) s ≡ true → (wires : List ℕ)
+      → outputsIn d (wordsOf (gatesOn d)) (over (bytesOf (wiresOf bits (gatesOn d))) wires) ≡ bytesOf (outputBits (d .n) (rowsOf d left right) s)
+  outputs-filled formed wires =
+      let values = wiresOf bits (gatesOn d) in
+      let k = stateWires (d .n) + 1 in
+      let at = inputWires d + length (gatesOn d) - suc (stateWires (d .n)) in
+      let same : inputWires d + length (wordsOf (gatesOn d)) / 3 - k ≡ at = omega (arith, words-length (gatesOn d)) in
+      let long : length (bytesOf values) ≡ inputWires d + length (gatesOn d) =
+      length-map values digit ∙ wires-length bits (gatesOn d) ∙ ap (λ (j : ℕ). j + length (gatesOn d)) (input-length d left right s) in
+      ap (λ (j : ℕ). take k (drop j (over (bytesOf values) wires))) same
+      ∙ ap (take k)
+      (drop-append-le at (bytesOf values) _ (omega arith)
+      ∙ ap (λ (l : List ℕ). l ++ drop (length (bytesOf values)) wires) (drop-map digit at values ∙ ap bytesOf (every-state formed)))
+      ∙ take-at _ _ k outputs-length
+
+  -- the evaluator takes the packed bytes, and fills the buffer's front
+  pub evaluated : (wires : List ℕ) → inputWires d + length (gatesOn d) ≤ length wires
+      → (outcome (checks (wordsOf (gatesOn d)) (bytesOf bits) wires) ≡ Taken)
+      × (filled (wordsOf (gatesOn d)) (bytesOf bits) wires ≡ over (bytesOf (wiresOf bits (gatesOn d))) wires)
+  evaluated wires h =
       let l = input-length d left right s in
-      evaluates bits (gatesOn d) buffer (ap (λ (k : ℕ). ordered k (gatesOn d)) l ∙ gates-ordered d) (subst (λ (k : ℕ). k + length (gatesOn d) ≤ length buffer) (sym l) h)
+      evaluates bits (gatesOn d) wires (ap (λ (k : ℕ). ordered k (gatesOn d)) l ∙ gates-ordered d) (subst (λ (k : ℕ). k + length (gatesOn d) ≤ length wires) (sym l) h)
+
+pub gates-carry-out : (d : Dimensions) → CarriesOut d (wordsOf (gatesOn d))
+gates-carry-out d = record {
+  few = omega (arith, words-length (gatesOn d), gates-length (d .n) (d .left) (d .right));
+  taken = gates-accepted d;
+  steps = λ left right s wires formed h.
+      let e = evaluated d left right s wires (omega (arith, words-length (gatesOn d))) in
+      (e .0, ap (outputsIn d (wordsOf (gatesOn d))) (e .1) ∙ outputs-filled d left right s formed wires);
+}
