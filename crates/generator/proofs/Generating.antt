@@ -1,15 +1,15 @@
 -- What the generator gives, by what its checks find, and that the checks leave room: from the order of the checks.
 -- Assumes nothing.
-use mathlib.Core.Path.{_≡_, ap, sym, _∙_}
+use mathlib.Core.Path.{_≡_, ap, sym, _∙_, subst}
 use mathlib.Core.Bool.{_||_}
 use mathlib.Core.List.{List, [], _∷_, _++_}
-use Prim.Native.Nat.{ℕ, _+_, _*_, _≤_, _<_}
+use Prim.Native.Nat.{ℕ, _+_, _*_, _-_, _≤_, _<_}
 use native.Mathlib.Nat.{mul-le-mul, zero-add}
 use native.Mathlib.Omega.{arith}
 use borrow.Author.Tests.{lt-ltb, le-ltb, ltb-false}
 use lib.Dec.{ltb}
-use lib.ListN.{length, drop}
-use lib.Seq.{sets, sets-eq}
+use lib.ListN.{length, take, drop}
+use lib.Seq.{sets, sets-eq, take-at}
 use Rattle.refusals.specs.declared.Refusal.{Refusal}
 use Rattle.refusals.specs.declared.Refusal.the-variants.{Variables, RowCount, GateBuffer}
 use Rattle.refusals.specs.declared.Outcome.{Outcome}
@@ -23,8 +23,11 @@ use Rattle.gates.specs.Memory.{wordsOf}
 use Rattle.gates.specs.Evaluation.{over}
 use Rattle.gates.proofs.InMemory.{words-length}
 use Rattle.generator.specs.declared.Generated.the-variants.{Of, Refused}
+use Rattle.netlist.specs.declared.Addresses.{Addresses}
+use Rattle.netlist.specs.Outputs.{CarriesOut}
 use Rattle.netlist.specs.Netlist.{addresses, circuit, gatesFor, gatesOn}
-use Rattle.generator.specs.Generation.{generatorChecks, generated, written}
+use Rattle.generator.specs.Generation.{generatorChecks, generated, written, Carried}
+use Rattle.netlist.proofs.EveryState.{gates-carry-out}
 use Rattle.netlist.proofs.Counts.{circuit-length, gates-length}
 
 -- n and the rows of dimensions that are taken
@@ -43,8 +46,8 @@ ceiling-small n left right e =
     omega (arith, mul-le-mul (h .0) (h .1), mul-le-mul (h .0) (h .0))
 
 -- the number of gates, counted
-pub counted : (n m r : ℕ) → r ≡ 19 * (n * m) + 15 * (n * n) + 23 * m + 27 * n + 31 → r ≡ length (circuit (addresses n m))
-counted n m r e = omega (arith, circuit-length (addresses n m))
+pub counted : (n m : ℕ) (a : Addresses) → a ≡ addresses n m → a .wires - a .inputs ≡ length (circuit (addresses n m))
+counted n m a e = ap (λ (x : Addresses). x .wires - x .inputs) e ∙ omega (arith, circuit-length (addresses n m))
 
 module _ (d : Dimensions) (words : List ℕ) where
   bufferChecks : List Check
@@ -56,22 +59,27 @@ module _ (d : Dimensions) (words : List ℕ) where
   by-outcome o e = (ap (λ (x : Outcome). given x (Of (length (gatesOn d))) Refused) (sym e), ap (λ (x : Outcome). given x (over (wordsOf (gatesOn d)) words) (λ r. words)) (sym e))
 
   pub refuse-size : (r : Refusal) → outcome (sizeChecks (d .n) (d .left) (d .right)) ≡ Not r
-      → (Refused r ≡ generated d words) × (words ≡ written d words)
+      → (Refused r ≡ generated d words) × ((words ≡ written d words) × Carried d (Refused r) words)
   unfolding bufferChecks
-  refuse-size r e = by-outcome (Not r) (outcome-refused (sizeChecks (d .n) (d .left) (d .right)) bufferChecks r e)
+  refuse-size r e =
+      let t = by-outcome (Not r) (outcome-refused (sizeChecks (d .n) (d .left) (d .right)) bufferChecks r e) in
+      (t .0, (t .1, tt))
 
   module _ (e : outcome (sizeChecks (d .n) (d .left) (d .right)) ≡ Taken) where
-    pub refuse-buffer : length words < 3 * ceiling d → (Refused GateBuffer ≡ generated d words) × (words ≡ written d words)
+    pub refuse-buffer : length words < 3 * ceiling d → (Refused GateBuffer ≡ generated d words) × ((words ≡ written d words) × Carried d (Refused GateBuffer) words)
     unfolding bufferChecks
     refuse-buffer h =
-        by-outcome (Not GateBuffer) (outcome-taken (sizeChecks (d .n) (d .left) (d .right)) bufferChecks e ∙ rw (lt-ltb _ _ h))
+        let t = by-outcome (Not GateBuffer) (outcome-taken (sizeChecks (d .n) (d .left) (d .right)) bufferChecks e ∙ rw (lt-ltb _ _ h)) in
+        (t .0, (t .1, tt))
 
     pub taken : 3 * ceiling d ≤ length words → (r : ℕ) (w : List ℕ) → r ≡ length (circuit (addresses (d .n) (d .left + d .right)))
         → w ≡ sets words 0 (wordsOf (circuit (addresses (d .n) (d .left + d .right))))
-        → (Of r ≡ generated d words) × (w ≡ written d words)
+        → (Of r ≡ generated d words) × ((w ≡ written d words) × Carried d (Of r) w)
     unfolding bufferChecks gatesFor
     taken h r w er ew =
         let g = circuit (addresses (d .n) (d .left + d .right)) in
         let t = by-outcome Taken (outcome-taken (sizeChecks (d .n) (d .left) (d .right)) bufferChecks e ∙ rw (le-ltb _ _ h)) in
         let l : 0 + length (wordsOf g) ≤ length words = omega (arith, words-length g, gates-length (d .n) (d .left) (d .right)) in
-        (ap Of er ∙ t .0, ew ∙ (sets-eq (wordsOf g) words 0 l ∙ ap (λ (k : ℕ). wordsOf g ++ drop k words) (zero-add (length (wordsOf g))) ∙ t .1))
+        let whole : w ≡ over (wordsOf g) words = ew ∙ sets-eq (wordsOf g) words 0 l ∙ ap (λ (k : ℕ). wordsOf g ++ drop k words) (zero-add (length (wordsOf g))) in
+        let front : take (3 * r) w ≡ wordsOf g = ap (take (3 * r)) whole ∙ take-at (wordsOf g) _ (3 * r) (omega (arith, words-length g, er)) in
+        (ap Of er ∙ t .0, (whole ∙ t .1, subst (CarriesOut d) (sym front) (gates-carry-out d)))

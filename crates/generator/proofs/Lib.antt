@@ -1,5 +1,5 @@
 pub mod Steps
 pub mod Placing
-pub mod Groups
 pub mod Room
+pub mod Groups
 pub mod Generating

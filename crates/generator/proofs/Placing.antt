@@ -17,8 +17,7 @@ use Rattle.gates.proofs.InMemory.{words-append, words-length, accepted-length}
 use Rattle.gates.proofs.Judging.{drop-three, accepted-at, drives-below}
 use Rattle.netlist.specs.Templates.{sum}
 use Rattle.netlist.specs.Arrays.{operand, placed, cell, rows, along, none, cells, line, array}
-use Rattle.netlist.specs.Netlist.{two, levelSums}
-use Rattle.netlist.proofs.Sizes.{rows-length, cell-length, cells-length, line-length, array-length}
+use Rattle.netlist.proofs.Sizes.{rows-length, cell-length, cells-length, line-length}
 
 -- stores one after the other are one run of stores
 pub sets-append : (xs ys l : List ℕ) (i : ℕ) → sets l i (xs ++ ys) ≡ sets (sets l i xs) (i + length xs) ys
@@ -128,14 +127,3 @@ line-whole z t slots steps b n w₀ w w′ p q e h e′ =
 -- the products of a turn
 pub turns : (size n i k m : ℕ) → size ≤ k → n ≤ m → i < n → (size * i + size ≤ size * n) × (size * n ≤ k * m)
 turns size n i k m s h l = (omega (arith, mul-le-mul-left size l), mul-le-mul s h)
-
--- one more level of the next state
-pub levels-more : (n block x c b l at : ℕ) (here w₀ w w′ : List ℕ) (p q : ℕ)
-    → w ≡ sets w₀ p (wordsOf (rows (levelSums n block x c b) l)) → q ≡ p + 3 * (3 * n * l)
-    → here ≡ along (two x c) (two (3 * n) 4) l → at ≡ b + 3 * n * l
-    → w′ ≡ sets w q (wordsOf (array 0 sum here (two n block) (two 1 (1 + 4 * n)) at 3 n))
-    → w′ ≡ sets w₀ p (wordsOf (rows (levelSums n block x c b) (l + 1)))
-levels-more n block x c b l at here w₀ w w′ p q e h eh ea e′ =
-    row-more (levelSums n block x c b) w₀ w w′ p q l e
-    (h ∙ ap (λ (k : ℕ). p + 3 * k) (sym (rows-length (levelSums n block x c b) (3 * n) (λ i. array-length 0 sum _ _ _ _ 3 n ∙ omega arith) l)))
-    (e′ ∙ ap₂ (λ (s : List ℕ) (k : ℕ). sets w q (wordsOf (array 0 sum s (two n block) (two 1 (1 + 4 * n)) k 3 n))) eh ea)

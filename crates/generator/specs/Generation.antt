@@ -2,7 +2,7 @@
 use mathlib.Core.List.{List, [], _∷_, _++_}
 use Prim.Native.Nat.{ℕ, _*_}
 use lib.Dec.{ltb}
-use lib.ListN.{length}
+use lib.ListN.{length, take}
 use Rattle.refusals.specs.declared.Refusal.the-variants.{GateBuffer}
 use Rattle.refusals.specs.Checks.{Check, check, outcome, given}
 use Rattle.tables.specs.declared.Dimensions.{Dimensions}
@@ -11,6 +11,7 @@ use Rattle.gates.specs.Memory.{wordsOf}
 use Rattle.gates.specs.Evaluation.{over}
 use Rattle.generator.specs.declared.Generated.{Generated}
 use Rattle.generator.specs.declared.Generated.the-variants.{Of, Refused}
+use Rattle.netlist.specs.Outputs.{CarriesOut}
 use Rattle.netlist.specs.Netlist.{gatesOn}
 
 -- 1, 2, then 7: fewer than three words for each gate of the ceiling
@@ -24,3 +25,8 @@ generated d words = given (outcome (generatorChecks d words)) (Of (length (gates
 -- the words afterwards: the gates, then what stood there; refused, as they were
 abbrev pub written : Dimensions → List ℕ → List ℕ
 written d words = given (outcome (generatorChecks d words)) (over (wordsOf (gatesOn d)) words) (λ r. words)
+
+-- where the call is taken, the words that it says it wrote carry out the giant step
+abbrev pub Carried : Dimensions → Generated → List ℕ → Type 0
+Carried d (Of k) words = CarriesOut d (take (3 * k) words)
+Carried d (Refused r) words = Unit {0}

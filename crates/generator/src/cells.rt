@@ -1,4 +1,5 @@
 // Cells: constant templates of gates, placed by address. A template's operand below 8 is a slot, 8 + k the cell's own gate k.
+use crate::templates;
 ghost use mathlib.Core.Path.{_≡_};
 ghost use mathlib.Core.Bool.{true, cond};
 ghost use Prim.Native.Nat.{_+_, _*_, _-_, _≤_};
@@ -8,9 +9,6 @@ ghost use lib.Seq.{sets};
 ghost use Rattle.gates.specs.Memory.{wordsOf, gatesOf, accepted};
 ghost use Rattle.netlist.specs.Arrays as Arrays;
 ghost use Rattle.netlist.specs.Arrays.{cell, Below};
-
-// XOR of slots 0 and 1; on unused slots a gate that is 0.
-pub(crate) const SUM: [u32; 3] = [0, 0, 1];
 
 // A word as an index.
 fn wide(x: u32) -> usize
@@ -127,7 +125,16 @@ pub(crate) fn line(
     requires { ⌜ 3 * (base - inputs) + 3 * (zeros + size * n) ≤ length (now words) ⌝ }
     ensures { λ _. ⌜ now (words .exit) ≡ sets (now (words .entry)) (3 * (base - inputs)) (wordsOf (Arrays.line zeros (gatesOf (now (template .entry))) slots steps base n)) ⌝ }
 {
-    cells(words, inputs, base, &SUM, 1, zeros, [0; 8], [0; 8]);
+    cells(
+        words,
+        inputs,
+        base,
+        &templates::SUM,
+        1,
+        zeros,
+        [0; 8],
+        [0; 8],
+    );
     cells(words, inputs, base + zeros, template, size, n, slots, steps);
 }
 

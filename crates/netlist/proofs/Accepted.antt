@@ -9,9 +9,10 @@ use native.Mathlib.Omega.{arith}
 use lib.ListN.{length}
 use Rattle.gates.specs.Gates.{Gate}
 use Rattle.gates.proofs.Circuits.{ordered}
+use Rattle.netlist.specs.declared.Addresses.{Addresses}
 use Rattle.netlist.specs.Templates as Templates
 use Rattle.netlist.specs.Arrays.{none, rows}
-use Rattle.netlist.specs.Netlist.{Addresses, addresses, zeroGate, variables, literals, scan, weights, picks, lowest, ruleSlots, rule, selects, selectLine, selectEnd, levels, levelsT, levelsF, levelsV, assignments, assignT, assignF, depths, nextAssignment, nextDepth, nextLevel, standingSlots, nextStanding, judging, choosing, changing, outputs, circuit}
+use Rattle.netlist.specs.Netlist.{addresses, zeroGate, variables, literals, scan, weights, picks, lowest, ruleSlots, rule, selects, selectLine, selectEnd, levels, levelsT, levelsF, levelsV, assignments, assignT, assignF, depths, nextAssignment, nextDepth, nextLevel, standingSlots, nextStanding, judging, choosing, changing, outputs, circuit}
 use Rattle.netlist.proofs.Arrays.{append-ordered, rows-ordered, cell-ordered, cells-ordered, zeros-ordered, line-ordered, array-ordered}
 use Rattle.netlist.proofs.Counts.{variables-length, literals-length, scan-length, picks-length, lowest-length, select-line-length, levels-length, assignments-length, next-assignment-length, next-depth-length, next-level-length, next-levels-length, judging-length, choosing-length, changing-length}
 
@@ -49,7 +50,7 @@ module _ (n m : ℕ) where
 
   rule-ordered : ordered (a .rule) (rule a) ≡ true
   unfolding ordered
-  rule-ordered = cell-ordered (ruleSlots (a .standing) (a .scan + 16 * m) (a .state + 2 * n)) (a .rule) refl (omega arith) Templates.rule refl
+  rule-ordered = cell-ordered (ruleSlots a) (a .rule) refl (omega arith) Templates.rule refl
 
   select-line-ordered : ordered (a .selects) (selectLine a) ≡ true
   unfolding ordered
@@ -92,7 +93,7 @@ module _ (n m : ℕ) where
 
   next-standing-ordered : ordered (a .outputs + 3 * n + 1 + 3 * n * n) (nextStanding a) ≡ true
   unfolding ordered
-  next-standing-ordered = cell-ordered (standingSlots (a .standing) (a .rule)) _ refl (omega arith) Templates.standing refl
+  next-standing-ordered = cell-ordered (standingSlots a) _ refl (omega arith) Templates.standing refl
 
   judging-ordered : ordered (a .inputs) (judging a) ≡ true
   unfolding ordered

@@ -6,9 +6,10 @@ use Prim.Native.Nat.{ℕ, _+_, _*_, _≤_}
 use native.Mathlib.Omega.{arith}
 use lib.ListN.{length, length-append}
 use Rattle.gates.specs.Gates.{Gate}
+use Rattle.netlist.specs.declared.Addresses.{Addresses}
 use Rattle.netlist.specs.Templates as Templates
 use Rattle.netlist.specs.Arrays.{rows}
-use Rattle.netlist.specs.Netlist.{Addresses, addresses, zeroGate, variables, literals, scan, weights, picks, lowest, rule, selects, selectLine, selectEnd, levels, levelsT, levelsF, levelsV, assignments, assignT, assignF, depths, nextAssignment, nextDepth, nextLevel, nextStanding, judging, choosing, changing, outputs, circuit, gatesFor}
+use Rattle.netlist.specs.Netlist.{addresses, zeroGate, variables, literals, scan, weights, picks, lowest, rule, selects, selectLine, selectEnd, levels, levelsT, levelsF, levelsV, assignments, assignT, assignF, depths, nextAssignment, nextDepth, nextLevel, nextStanding, judging, choosing, changing, outputs, circuit, gatesFor}
 use Rattle.netlist.proofs.Sizes.{ands, ands-append, rows-length, rows-ands, cells-length, cells-ands, line-length, line-ands, array-length, array-ands}
 
 join : (xs ys : List Gate) (p q : ℕ) → length xs ≡ p → length ys ≡ q → length (xs ++ ys) ≡ p + q

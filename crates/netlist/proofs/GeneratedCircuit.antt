@@ -16,8 +16,9 @@ use Rattle.gates.proofs.Circuits.{ordered, wires-length}
 use Rattle.wires.specs.Layout.{rowsBits, stateBits}
 use Rattle.wires.specs.Reading.{stateAt}
 use Rattle.wires.proofs.Addresses.{Same}
+use Rattle.netlist.specs.declared.Addresses.{Addresses}
 use Rattle.netlist.specs.Outputs.{outputBits}
-use Rattle.netlist.specs.Netlist.{Addresses, addresses, circuit}
+use Rattle.netlist.specs.Netlist.{addresses, circuit}
 use Rattle.netlist.proofs.Circuit.{Placed, circuit-last}
 use Rattle.netlist.proofs.Values.{Holds, holds}
 use Rattle.netlist.proofs.Counts.{circuit-length}

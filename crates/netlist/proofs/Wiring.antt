@@ -10,9 +10,10 @@ use Rattle.words.proofs.Truth.{taut1, taut4, same, same-eq}
 use Rattle.gates.specs.Gates.{wiresOf}
 use Rattle.gates.proofs.Circuits.{ordered}
 use Rattle.wires.specs.Reading.{stateAt}
+use Rattle.netlist.specs.declared.Addresses.{Addresses}
 use Rattle.netlist.specs.Templates as Templates
 use Rattle.netlist.specs.Arrays.{none}
-use Rattle.netlist.specs.Netlist.{Addresses, ruleSlots, standingSlots}
+use Rattle.netlist.specs.Netlist.{ruleSlots, standingSlots}
 use Rattle.netlist.proofs.Interface.{Wires, Cells}
 use Rattle.netlist.proofs.Arrays.{cell-at, cells-at, line-at, array-at, zeros-at, line-zero, array-zero}
 use Rattle.netlist.proofs.SectionGates.{Sections}
@@ -106,15 +107,15 @@ module _ (W : ℕ → Bool) (a : Addresses) where
 
     closing-wire : wiresAt .closing ≡ (wiresAt .now .SAT ⊕ wiresAt .rule .done) ⊕ (wiresAt .now .REF ⊕ wiresAt .rule .refute)
     unfolding wiresOf ordered
-    closing-wire = cell-at W Templates.standing refl (standingSlots (a .standing) (a .rule)) (a .outputs + 3 * n + 1 + 3 * n * n) (s .next-standing-holds) ((a .state + (n + (n + (suc n + ((n + (n + n)) * n + 0))))) ∷ (a .rule + 3) ∷ (a .state + (n + (n + (suc n + ((n + (n + n)) * n + 1))))) ∷ (a .rule + 5) ∷ 0 ∷ 0 ∷ 0 ∷ 0 ∷ []) (omega (arith, e)) refl 2 _ (omega arith) (omega arith)
+    closing-wire = cell-at W Templates.standing refl (standingSlots a) (a .outputs + 3 * n + 1 + 3 * n * n) (s .next-standing-holds) ((a .state + (n + (n + (suc n + ((n + (n + n)) * n + 0))))) ∷ (a .rule + 3) ∷ (a .state + (n + (n + (suc n + ((n + (n + n)) * n + 1))))) ∷ (a .rule + 5) ∷ 0 ∷ 0 ∷ 0 ∷ 0 ∷ []) (omega (arith, e)) refl 2 _ (omega arith) (omega arith)
 
     SAT-wire : wiresAt .next .SAT ≡ wiresAt .now .SAT ⊕ wiresAt .rule .done
     unfolding wiresOf ordered
-    SAT-wire = cell-at W Templates.standing refl (standingSlots (a .standing) (a .rule)) (a .outputs + 3 * n + 1 + 3 * n * n) (s .next-standing-holds) ((a .state + (n + (n + (suc n + ((n + (n + n)) * n + 0))))) ∷ (a .rule + 3) ∷ (a .state + (n + (n + (suc n + ((n + (n + n)) * n + 1))))) ∷ (a .rule + 5) ∷ 0 ∷ 0 ∷ 0 ∷ 0 ∷ []) (omega (arith, e)) refl 0 _ (omega arith) (omega arith)
+    SAT-wire = cell-at W Templates.standing refl (standingSlots a) (a .outputs + 3 * n + 1 + 3 * n * n) (s .next-standing-holds) ((a .state + (n + (n + (suc n + ((n + (n + n)) * n + 0))))) ∷ (a .rule + 3) ∷ (a .state + (n + (n + (suc n + ((n + (n + n)) * n + 1))))) ∷ (a .rule + 5) ∷ 0 ∷ 0 ∷ 0 ∷ 0 ∷ []) (omega (arith, e)) refl 0 _ (omega arith) (omega arith)
 
     REF-wire : wiresAt .next .REF ≡ wiresAt .now .REF ⊕ wiresAt .rule .refute
     unfolding wiresOf ordered
-    REF-wire = cell-at W Templates.standing refl (standingSlots (a .standing) (a .rule)) (a .outputs + 3 * n + 1 + 3 * n * n) (s .next-standing-holds) ((a .state + (n + (n + (suc n + ((n + (n + n)) * n + 0))))) ∷ (a .rule + 3) ∷ (a .state + (n + (n + (suc n + ((n + (n + n)) * n + 1))))) ∷ (a .rule + 5) ∷ 0 ∷ 0 ∷ 0 ∷ 0 ∷ []) (omega (arith, e)) refl 1 _ (omega arith) (omega arith)
+    REF-wire = cell-at W Templates.standing refl (standingSlots a) (a .outputs + 3 * n + 1 + 3 * n * n) (s .next-standing-holds) ((a .state + (n + (n + (suc n + ((n + (n + n)) * n + 0))))) ∷ (a .rule + 3) ∷ (a .state + (n + (n + (suc n + ((n + (n + n)) * n + 1))))) ∷ (a .rule + 5) ∷ 0 ∷ 0 ∷ 0 ∷ 0 ∷ []) (omega (arith, e)) refl 1 _ (omega arith) (omega arith)
 
     pub cells-met : Cells n m wiresAt
     unfolding wiresOf ordered
@@ -145,12 +146,12 @@ module _ (W : ℕ → Bool) (a : Addresses) where
       seen-zero = line-zero W 1 Templates.lowest _ _ _ _ (s .lowest-holds) 0 _ (omega arith) (omega arith);
       seen-suc = λ i h. line-at W Templates.lowest refl 1 _ _ _ _ (s .lowest-holds) i h ((a .picks + (1 + 4 * m) * i + 4 * m) ∷ (a .lowest + 3 * i) ∷ 0 ∷ 0 ∷ 0 ∷ 0 ∷ 0 ∷ 0 ∷ []) (omega arith) refl 2 _ (omega arith) (omega arith);
       var-is = λ i h. line-at W Templates.lowest refl 1 _ _ _ _ (s .lowest-holds) i h ((a .picks + (1 + 4 * m) * i + 4 * m) ∷ (a .lowest + 3 * i) ∷ 0 ∷ 0 ∷ 0 ∷ 0 ∷ 0 ∷ 0 ∷ []) (omega arith) refl 1 _ (omega arith) (omega arith);
-      done-is = cell-at W Templates.rule refl (ruleSlots (a .standing) (a .scan + 16 * m) (a .state + 2 * n)) (a .rule) (s .rule-holds) ((a .state + (n + (n + (suc n + ((n + (n + n)) * n + 0))))) ∷ (a .state + (n + (n + (suc n + ((n + (n + n)) * n + 1))))) ∷ (a .scan + 16 * m) ∷ (a .scan + 1 + 16 * m) ∷ (a .scan + 2 + 16 * m) ∷ (a .scan + 3 + 16 * m) ∷ (a .state + (n + (n + 0))) ∷ 0 ∷ []) (omega (arith, e)) refl 3 _ (omega arith) (omega arith);
-      refute-is = cell-at W Templates.rule refl (ruleSlots (a .standing) (a .scan + 16 * m) (a .state + 2 * n)) (a .rule) (s .rule-holds) ((a .state + (n + (n + (suc n + ((n + (n + n)) * n + 0))))) ∷ (a .state + (n + (n + (suc n + ((n + (n + n)) * n + 1))))) ∷ (a .scan + 16 * m) ∷ (a .scan + 1 + 16 * m) ∷ (a .scan + 2 + 16 * m) ∷ (a .scan + 3 + 16 * m) ∷ (a .state + (n + (n + 0))) ∷ 0 ∷ []) (omega (arith, e)) refl 5 _ (omega arith) (omega arith);
-      pop-is = cell-at W Templates.rule refl (ruleSlots (a .standing) (a .scan + 16 * m) (a .state + 2 * n)) (a .rule) (s .rule-holds) ((a .state + (n + (n + (suc n + ((n + (n + n)) * n + 0))))) ∷ (a .state + (n + (n + (suc n + ((n + (n + n)) * n + 1))))) ∷ (a .scan + 16 * m) ∷ (a .scan + 1 + 16 * m) ∷ (a .scan + 2 + 16 * m) ∷ (a .scan + 3 + 16 * m) ∷ (a .state + (n + (n + 0))) ∷ 0 ∷ []) (omega (arith, e)) refl 6 _ (omega arith) (omega arith);
-      push-is = cell-at W Templates.rule refl (ruleSlots (a .standing) (a .scan + 16 * m) (a .state + 2 * n)) (a .rule) (s .rule-holds) ((a .state + (n + (n + (suc n + ((n + (n + n)) * n + 0))))) ∷ (a .state + (n + (n + (suc n + ((n + (n + n)) * n + 1))))) ∷ (a .scan + 16 * m) ∷ (a .scan + 1 + 16 * m) ∷ (a .scan + 2 + 16 * m) ∷ (a .scan + 3 + 16 * m) ∷ (a .state + (n + (n + 0))) ∷ 0 ∷ []) (omega (arith, e)) refl 10 _ (omega arith) (omega arith);
-      neg-is = cell-at W Templates.rule refl (ruleSlots (a .standing) (a .scan + 16 * m) (a .state + 2 * n)) (a .rule) (s .rule-holds) ((a .state + (n + (n + (suc n + ((n + (n + n)) * n + 0))))) ∷ (a .state + (n + (n + (suc n + ((n + (n + n)) * n + 1))))) ∷ (a .scan + 16 * m) ∷ (a .scan + 1 + 16 * m) ∷ (a .scan + 2 + 16 * m) ∷ (a .scan + 3 + 16 * m) ∷ (a .state + (n + (n + 0))) ∷ 0 ∷ []) (omega (arith, e)) refl 12 _ (omega arith) (omega arith);
-      pos-is = cell-at W Templates.rule refl (ruleSlots (a .standing) (a .scan + 16 * m) (a .state + 2 * n)) (a .rule) (s .rule-holds) ((a .state + (n + (n + (suc n + ((n + (n + n)) * n + 0))))) ∷ (a .state + (n + (n + (suc n + ((n + (n + n)) * n + 1))))) ∷ (a .scan + 16 * m) ∷ (a .scan + 1 + 16 * m) ∷ (a .scan + 2 + 16 * m) ∷ (a .scan + 3 + 16 * m) ∷ (a .state + (n + (n + 0))) ∷ 0 ∷ []) (omega (arith, e)) refl 13 _ (omega arith) (omega arith);
+      done-is = cell-at W Templates.rule refl (ruleSlots a) (a .rule) (s .rule-holds) ((a .state + (n + (n + (suc n + ((n + (n + n)) * n + 0))))) ∷ (a .state + (n + (n + (suc n + ((n + (n + n)) * n + 1))))) ∷ (a .scan + 16 * m) ∷ (a .scan + 1 + 16 * m) ∷ (a .scan + 2 + 16 * m) ∷ (a .scan + 3 + 16 * m) ∷ (a .state + (n + (n + 0))) ∷ 0 ∷ []) (omega (arith, e)) refl 3 _ (omega arith) (omega arith);
+      refute-is = cell-at W Templates.rule refl (ruleSlots a) (a .rule) (s .rule-holds) ((a .state + (n + (n + (suc n + ((n + (n + n)) * n + 0))))) ∷ (a .state + (n + (n + (suc n + ((n + (n + n)) * n + 1))))) ∷ (a .scan + 16 * m) ∷ (a .scan + 1 + 16 * m) ∷ (a .scan + 2 + 16 * m) ∷ (a .scan + 3 + 16 * m) ∷ (a .state + (n + (n + 0))) ∷ 0 ∷ []) (omega (arith, e)) refl 5 _ (omega arith) (omega arith);
+      pop-is = cell-at W Templates.rule refl (ruleSlots a) (a .rule) (s .rule-holds) ((a .state + (n + (n + (suc n + ((n + (n + n)) * n + 0))))) ∷ (a .state + (n + (n + (suc n + ((n + (n + n)) * n + 1))))) ∷ (a .scan + 16 * m) ∷ (a .scan + 1 + 16 * m) ∷ (a .scan + 2 + 16 * m) ∷ (a .scan + 3 + 16 * m) ∷ (a .state + (n + (n + 0))) ∷ 0 ∷ []) (omega (arith, e)) refl 6 _ (omega arith) (omega arith);
+      push-is = cell-at W Templates.rule refl (ruleSlots a) (a .rule) (s .rule-holds) ((a .state + (n + (n + (suc n + ((n + (n + n)) * n + 0))))) ∷ (a .state + (n + (n + (suc n + ((n + (n + n)) * n + 1))))) ∷ (a .scan + 16 * m) ∷ (a .scan + 1 + 16 * m) ∷ (a .scan + 2 + 16 * m) ∷ (a .scan + 3 + 16 * m) ∷ (a .state + (n + (n + 0))) ∷ 0 ∷ []) (omega (arith, e)) refl 10 _ (omega arith) (omega arith);
+      neg-is = cell-at W Templates.rule refl (ruleSlots a) (a .rule) (s .rule-holds) ((a .state + (n + (n + (suc n + ((n + (n + n)) * n + 0))))) ∷ (a .state + (n + (n + (suc n + ((n + (n + n)) * n + 1))))) ∷ (a .scan + 16 * m) ∷ (a .scan + 1 + 16 * m) ∷ (a .scan + 2 + 16 * m) ∷ (a .scan + 3 + 16 * m) ∷ (a .state + (n + (n + 0))) ∷ 0 ∷ []) (omega (arith, e)) refl 12 _ (omega arith) (omega arith);
+      pos-is = cell-at W Templates.rule refl (ruleSlots a) (a .rule) (s .rule-holds) ((a .state + (n + (n + (suc n + ((n + (n + n)) * n + 0))))) ∷ (a .state + (n + (n + (suc n + ((n + (n + n)) * n + 1))))) ∷ (a .scan + 16 * m) ∷ (a .scan + 1 + 16 * m) ∷ (a .scan + 2 + 16 * m) ∷ (a .scan + 3 + 16 * m) ∷ (a .state + (n + (n + 0))) ∷ 0 ∷ []) (omega (arith, e)) refl 13 _ (omega arith) (omega arith);
       pd-zero = line-zero W 2 Templates.select _ _ _ _ (s .select-line-holds) 0 _ (omega arith) (omega arith);
       pd-suc = λ l h. line-at W Templates.select refl 2 _ _ _ _ (s .select-line-holds) l h ((a .rule + 6) ∷ (a .state + (n + (n + suc l))) ∷ (a .rule + 10) ∷ (a .state + (n + (n + l))) ∷ 0 ∷ 0 ∷ 0 ∷ 0 ∷ []) (omega arith) refl 0 _ (omega arith) (omega arith);
       pd-end = zeros-at W _ 2 (s .select-end-holds) 0 _ (omega arith) (omega arith);

@@ -25,12 +25,12 @@ mul-words c =
 array-share-prefix-words : tie.Need-array-share-prefix-words
 array-share-prefix-words c =
     let generate = c .before .before .before .before .generate in
-    generated-words (c .before .before .before .before .before .before .args .d) (replicate 16383 0) _ _ (sym (generate .ensures .0) ∙ c .before .count .given .1) (generate .ensures .1)
+    generated-words (c .before .before .before .before .before .before .args .d) (replicate 16383 0) _ _ (sym (generate .ensures .0) ∙ c .before .count .given .1) (generate .ensures .1 .0)
 
 slice-aggregate-print-text : tie.Need-slice-aggregate-print-text
 slice-aggregate-print-text c =
     let generate = c .before .before .before .before .before .generate in
-    simp length-take (omega (arith, generated-words (c .before .before .before .before .before .before .before .args .d) (replicate 16383 0) _ _ (sym (generate .ensures .0) ∙ c .before .before .count .given .1) (generate .ensures .1)))
+    simp length-take (omega (arith, generated-words (c .before .before .before .before .before .before .before .args .d) (replicate 16383 0) _ _ (sym (generate .ensures .0) ∙ c .before .before .count .given .1) (generate .ensures .1 .0)))
 
 print-text-requires : tie.Need-print-text-requires
 print-text-requires c κs = search needs
