@@ -3,12 +3,12 @@
 -- Assumes nothing.
 use mathlib.Core.Path.{_≡_, refl, sym, ap, ap₂, _∙_}
 use mathlib.Core.Bool.{Bool, true, false}
-use mathlib.Core.List.{List, [], _∷_, _++_, map, map-append}
-use Prim.Native.Nat.{ℕ, zero, suc, _+_, _-_, _/_, _≤_, _<_}
+use mathlib.Core.List.{List, [], _∷_, _++_, map-append}
+use Prim.Native.Nat.{ℕ, _+_, _/_, _≤_, _<_}
 use native.Mathlib.Omega.{arith}
 use lib.Dec.{eqb, leb}
-use lib.ListN.{length, getD, take, drop, length-append, length-map}
-use lib.Seq.{take-at, drop-append-le, getD-at}
+use lib.ListN.{length, getD, length-map}
+use lib.Seq.{getD-at}
 use borrow.Author.Tests.{leb-true, leb-false}
 use Rattle.refusals.specs.Checks.{outcome, given}
 use Rattle.refusals.specs.declared.Outcome.{Outcome}
@@ -31,27 +31,21 @@ use Rattle.gates.specs.Gates.{Gate, wiresOf}
 use Rattle.gates.specs.Memory as Memory
 use Rattle.gates.specs.Memory.{bytesOf}
 use Rattle.gates.specs.Evaluation.{over}
-use Rattle.gates.proofs.Circuits.{wires-length}
 use Rattle.gates.proofs.InMemory.{words-length, gates-words}
 use Rattle.wires.specs.declared.Read.{Read}
 use Rattle.wires.specs.Layout.{stateBits}
 use Rattle.wires.specs.Packing.{inputBits, packChecks}
-use Rattle.wires.proofs.Lengths.{state-length, input-length}
+use Rattle.wires.proofs.Lengths.{state-length}
 use Rattle.wires.proofs.Checks.{Passed, passed, state-decides, refuse-room}
 use Rattle.wires.proofs.RoundTrip.{read-packed}
 use Rattle.netlist.specs.Netlist.{gatesOn}
 use Rattle.netlist.specs.Outputs.{closed, outputBits}
-use Rattle.netlist.proofs.EveryState.{gates-accepted, every-state}
+use Rattle.netlist.proofs.EveryState.{gates-accepted, outputs-filled}
 use Rattle.repeats.specs.declared.Applied.{Applied}
 use Rattle.repeats.specs.Application.{turnedBack, nextRun, outputsIn, judged, wiresAfter, applied}
 use Rattle.repeats.specs.Repeats.{Attempt, circuitWords, longEnough}
 use Rattle.repeats.specs.Demand3.{Accepts, EveryState}
 use Rattle.repeats.proofs.Judging.{refused, refuse-packing, refuse-wires, take-all, wires-then}
-
-drop-map : {A B : Type 0} (f : A → B) (k : ℕ) (l : List A) → drop k (map f l) ≡ map f (drop k l)
-drop-map f zero l = refl
-drop-map f (suc k) [] = refl
-drop-map f (suc k) (x ∷ l) = drop-map f k l
 
 digit-bit : (b : Bool) → eqb (digit b) 1 ≡ b
 digit-bit true = refl
@@ -115,27 +109,12 @@ module _ (d : Dimensions) (left right : List ℕ) (acc : Accepts d left right) (
           wires-then d left right (circuitWords d) run bytes wires packs (words-accepted d) enough
           ∙ ap (λ (gs : List Gate). over (bytesOf (wiresOf bits gs)) wires) (words-gates d)
 
-      outputs-length : length (bytesOf (outputBits (d .n) (rowsOf d left right) (stateOf run))) ≡ stateWires (d .n) + 1
-      unfolding outputBits
-      outputs-length =
-          length-map (stateBits (d .n) next ++ (closed next ∷ [])) digit ∙ length-append (stateBits (d .n) next) (closed next ∷ [])
-          ∙ ap (λ (k : ℕ). k + 1) (state-length (d .n) next)
-
       outputs-are : outputsIn d (circuitWords d) (wiresAfter d left right (circuitWords d) run bytes wires)
           ≡ bytesOf (outputBits (d .n) (rowsOf d left right) (stateOf run))
+      unfolding circuitWords
       outputs-are =
-          let k = stateWires (d .n) + 1 in
-          let at = inputWires d + length (gatesOn d) - suc (stateWires (d .n)) in
-          let same : inputWires d + length (gatesOn d) - k ≡ at = omega arith in
-          let long : length (bytesOf values) ≡ inputWires d + length (gatesOn d) =
-          length-map values digit ∙ wires-length bits (gatesOn d) ∙ ap (λ (j : ℕ). j + length (gatesOn d)) (input-length d left right (stateOf run)) in
-          ap₂ (λ (j : ℕ) (l : List ℕ). take k (drop (inputWires d + j - k) l)) (words-third d) wires-are
-          ∙ ap (take k)
-          (ap (λ (j : ℕ). drop j (over (bytesOf values) wires)) same
-          ∙ drop-append-le at (bytesOf values) _ (omega arith)
-          ∙ ap (λ (l : List ℕ). l ++ drop (length (bytesOf values)) wires)
-          (drop-map digit at values ∙ ap bytesOf (every-state d left right (stateOf run) formed)))
-          ∙ take-at _ _ k outputs-length
+          ap (outputsIn d (circuitWords d)) wires-are
+          ∙ outputs-filled d left right (stateOf run) formed wires
 
       -- the outputs, read back
       next-is : applied d left right (circuitWords d) run bytes wires ≡ record { outcome = Taken; run = runOf (d .n) next; mark = closed next }
