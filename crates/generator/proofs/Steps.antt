@@ -1,12 +1,13 @@
--- Slots after some steps: they fit a word, and are computed one by one.
+-- Slots after some steps: they fit a word, and are stored one by one.
 -- Assumes nothing.
-use mathlib.Core.Path.{_≡_, ap, ap₂, sym, _∙_}
-use mathlib.Core.List.{List, [], _∷_}
-use Prim.Native.Nat.{ℕ, zero, suc, _+_, _*_, _≤_, _<_}
+use mathlib.Core.Path.{_≡_, refl, ap, ap₂, sym, _∙_, subst}
+use mathlib.Core.List.{List, [], _∷_, _++_, append-nil}
+use Prim.Native.Nat.{ℕ, zero, suc, _+_, _*_, _-_, _≤_, _<_}
 use native.Mathlib.Nat.{mul-le-mul}
+use native.Mathlib.Numerals.{add-one}
 use native.Mathlib.Omega.{arith}
-use lib.ListN.{length, getD, drop, drop-of-length-le}
-use lib.Seq.{drop-cons}
+use lib.ListN.{length, getD, drop, set, drop-of-length-le}
+use lib.Seq.{drop-cons, sets, sets-eq}
 use Rattle.netlist.specs.Arrays.{along, Below}
 use Rattle.netlist.proofs.Arrays.{below-at}
 
@@ -21,9 +22,14 @@ module _ (slots steps : List ℕ) (i : ℕ) (hs : Below 33554432 slots) (hd : Be
   sum-fits k l = omega (arith, step-fits k l, below-at 33554432 slots hs k (omega arith))
 
 -- k slots from slot j on, read one by one
-from : List ℕ → List ℕ → ℕ → ℕ → ℕ → List ℕ
+unfoldable pub from : List ℕ → List ℕ → ℕ → ℕ → ℕ → List ℕ
 from slots steps i j zero = []
 from slots steps i j (suc k) = (getD slots j 0 + getD steps j 0 * i) ∷ from slots steps i (suc j) k
+
+from-length : (slots steps : List ℕ) (i j k : ℕ) → length (from slots steps i j k) ≡ k
+unfolding from
+from-length slots steps i j zero = refl
+from-length slots steps i j (suc k) = ap suc (from-length slots steps i (suc j) k)
 
 from-along : (slots steps : List ℕ) (i j k : ℕ) → length slots ≡ j + k → length steps ≡ j + k
     → from slots steps i j k ≡ along (drop j slots) (drop j steps) i
@@ -35,13 +41,21 @@ from-along slots steps i j (suc k) es ed =
     ap (λ (l : List ℕ). (getD slots j 0 + getD steps j 0 * i) ∷ l) (from-along slots steps i (suc j) k (omega arith) (omega arith))
     ∙ sym (ap₂ (λ (x y : List ℕ). along x y i) (drop-cons slots j 0 (omega arith)) (drop-cons steps j 0 (omega arith)))
 
-pub eight : (slots steps : List ℕ) (i : ℕ) → length slots ≡ 8 → length steps ≡ 8
-    → (getD slots 0 0 + getD steps 0 0 * i) ∷ (getD slots 1 0 + getD steps 1 0 * i) ∷ (getD slots 2 0 + getD steps 2 0 * i)
-    ∷ (getD slots 3 0 + getD steps 3 0 * i) ∷ (getD slots 4 0 + getD steps 4 0 * i) ∷ (getD slots 5 0 + getD steps 5 0 * i)
-    ∷ (getD slots 6 0 + getD steps 6 0 * i) ∷ (getD slots 7 0 + getD steps 7 0 * i) ∷ []
-    ≡ along slots steps i
+-- what is left to store gives the slots after i steps
+pub along-start : (slots steps : List ℕ) (i : ℕ) → length slots ≡ 8 → length steps ≡ 8 → sets slots 0 (from slots steps i 0 8) ≡ along slots steps i
+along-start slots steps i es ed =
+    let a = from-along slots steps i 0 8 es ed in
+    let l : length (from slots steps i 0 8) ≡ 8 = from-length slots steps i 0 8 in
+    let all : length slots ≤ 0 + length (from slots steps i 0 8) = omega arith in
+    sets-eq (from slots steps i 0 8) slots 0 (omega arith)
+    ∙ ap (λ (r : List ℕ). from slots steps i 0 8 ++ r) (drop-of-length-le slots all) ∙ append-nil (from slots steps i 0 8) ∙ a
+
+pub along-more : (slots steps here : List ℕ) (i k : ℕ) (a : List ℕ) → k < 8 → sets here k (from slots steps i k (8 - k)) ≡ a
+    → sets (set here k (getD slots k 0 + getD steps k 0 * i)) (k + 1) (from slots steps i (k + 1) (8 - (k + 1))) ≡ a
 unfolding from
-eight slots steps i es ed = from-along slots steps i 0 8 es ed
+along-more slots steps here i k a h e =
+    let m : 8 - k ≡ suc (8 - (k + 1)) = omega arith in
+    rw (add-one k) (subst (λ (j : ℕ). sets here k (from slots steps i k j) ≡ a) (m ∙ ap (λ (j : ℕ). suc (8 - j)) (add-one k)) e)
 
 -- steps further still stand below a bound
 pub along-below : (b d k : ℕ) (slots steps : List ℕ) (i : ℕ) → Below b slots → Below d steps → i ≤ k → Below (b + d * k) (along slots steps i)
@@ -50,9 +64,6 @@ along-below b d k (x ∷ slots) [] i hs hd hi = tt
 along-below b d k (x ∷ slots) (y ∷ steps) i hs hd hi =
     let l : y ≤ d = omega (arith, hd .0) in
     (omega (arith, hs .0, mul-le-mul l hi), along-below b d k slots steps i (hs .1) (hd .1) hi)
-
-pub along-length : (slots steps : List ℕ) (i : ℕ) → length slots ≡ 8 → length steps ≡ 8 → length (along slots steps i) ≡ 8
-along-length slots steps i es ed = ap length (sym (eight slots steps i es ed))
 
 pub below-more : (b d : ℕ) (slots : List ℕ) → Below b slots → b ≤ d → Below d slots
 below-more b d [] h l = tt

@@ -68,16 +68,13 @@ pub(crate) fn along(slots: [u32; 8], steps: [u32; 8], i: u32) -> [u32; 8]
     requires { ⌜ (Below 33554432 slots) × (Below 65536 steps) × (i ≤ 256) ⌝ }
     ensures { λ r. ⌜ r ≡ Arrays.along slots steps i ⌝ }
 {
-    [
-        slots[0] + steps[0] * i,
-        slots[1] + steps[1] * i,
-        slots[2] + steps[2] * i,
-        slots[3] + steps[3] * i,
-        slots[4] + steps[4] * i,
-        slots[5] + steps[5] * i,
-        slots[6] + steps[6] * i,
-        slots[7] + steps[7] * i,
-    ]
+    let mut here = slots;
+    let mut k: usize = 0;
+    while k < 8 {
+        here[k] = slots[k] + steps[k] * i;
+        k += 1;
+    }
+    here
 }
 
 // n cells, each with its slots a step on.

@@ -1,144 +1,88 @@
--- `along` meets its contract: each slot with its steps fits, and the eight are the list.
+-- `along` meets its contract: what is left to store gives the slots after i steps, and each sum fits.
 -- Assumes nothing.
+use mathlib.Core.Path.{_≡_}
+use Prim.Native.Nat.{_-_, _≤_}
 use native.Mathlib.Omega.{arith}
-use Rattle.generator.proofs.Steps.{step-fits, sum-fits, eight}
+use lib.ListN.{length, length-set}
+use lib.Seq.{sets}
+use Rattle.netlist.specs.Arrays.{along}
+use Rattle.generator.proofs.Steps.{from, step-fits, sum-fits, along-start, along-more}
 use borrow.Author.Needs.{needs}
 use Rattle.generator.proofs.cells.along.Statement.{statement}
 use Rattle.generator.proofs.cells.along.Tie as tie
 
-array-read-t8 : tie.Need-array-read-t8
-array-read-t8 c = search needs
+abbrev Inv-loop : tie.InvT-loop
+Inv-loop i slots steps here₀ k₀ here k = (k ≤ 8) × (length here ≡ 8) × (sets here k (from slots steps i k (8 - k)) ≡ along slots steps i)
 
-array-read-t11 : tie.Need-array-read-t11
-array-read-t11 c = search needs
+abbrev μ-loop : tie.MeasureT-loop
+μ-loop i slots steps here₀ k₀ here k = 8 - k
 
-mul-t12 : tie.Need-mul-t12
-mul-t12 c = omega (arith, step-fits (c .args .t1) (c .args .t2) (c .args .i) (c .pre .0) (c .pre .1) (c .pre .2) (omega arith) (omega arith) 0 (omega arith))
+loop-holds : tie.Need-loop-holds Inv-loop μ-loop
+loop-holds c = (omega arith, omega arith, along-start (c .args .t1) (c .args .t2) (c .args .i) (omega arith) (omega arith))
 
-add-t13 : tie.Need-add-t13
-add-t13 c = omega (arith, sum-fits (c .args .t1) (c .args .t2) (c .args .i) (c .pre .0) (c .pre .1) (c .pre .2) (omega arith) (omega arith) 0 (omega arith))
+mul-here : tie.Need-mul-here Inv-loop μ-loop
+mul-here c = omega arith
 
-array-read-t16 : tie.Need-array-read-t16
-array-read-t16 c = search needs
+array-read-here : tie.Need-array-read-here Inv-loop μ-loop
+array-read-here c = omega arith
 
-array-read-t19 : tie.Need-array-read-t19
-array-read-t19 c = search needs
+mul-here-2 : tie.Need-mul-here-2 Inv-loop μ-loop
+mul-here-2 c = omega arith
 
-mul-t20 : tie.Need-mul-t20
-mul-t20 c = omega (arith, step-fits (c .args .t1) (c .args .t2) (c .args .i) (c .pre .0) (c .pre .1) (c .pre .2) (omega arith) (omega arith) 1 (omega arith))
+array-read-here-2 : tie.Need-array-read-here-2 Inv-loop μ-loop
+array-read-here-2 c = omega arith
 
-add-t21 : tie.Need-add-t21
-add-t21 c = omega (arith, sum-fits (c .args .t1) (c .args .t2) (c .args .i) (c .pre .0) (c .pre .1) (c .pre .2) (omega arith) (omega arith) 1 (omega arith))
+mul-here-3 : tie.Need-mul-here-3 Inv-loop μ-loop
+mul-here-3 c =
+    let s = c .before .before in
+    omega (arith, step-fits (s .args .t1) (s .args .t2) (s .args .i) (s .pre .0) (s .pre .1) (s .pre .2) (omega arith) (omega arith) (c .before .loop .k) (omega arith))
 
-array-read-t24 : tie.Need-array-read-t24
-array-read-t24 c = search needs
+add-here : tie.Need-add-here Inv-loop μ-loop
+add-here c =
+    let s = c .before .before in
+    omega (arith, sum-fits (s .args .t1) (s .args .t2) (s .args .i) (s .pre .0) (s .pre .1) (s .pre .2) (omega arith) (omega arith) (c .before .loop .k) (omega arith))
 
-array-read-t27 : tie.Need-array-read-t27
-array-read-t27 c = search needs
+mul-here-4 : tie.Need-mul-here-4 Inv-loop μ-loop
+mul-here-4 c = omega arith
 
-mul-t28 : tie.Need-mul-t28
-mul-t28 c = omega (arith, step-fits (c .args .t1) (c .args .t2) (c .args .i) (c .pre .0) (c .pre .1) (c .pre .2) (omega arith) (omega arith) 2 (omega arith))
+array-write-here : tie.Need-array-write-here Inv-loop μ-loop
+array-write-here c = omega arith
 
-add-t29 : tie.Need-add-t29
-add-t29 c = omega (arith, sum-fits (c .args .t1) (c .args .t2) (c .args .i) (c .pre .0) (c .pre .1) (c .pre .2) (omega arith) (omega arith) 2 (omega arith))
+add-k : tie.Need-add-k Inv-loop μ-loop
+add-k c = omega arith
 
-array-read-t32 : tie.Need-array-read-t32
-array-read-t32 c = search needs
+loop-less : tie.Need-loop-less Inv-loop μ-loop
+loop-less c = search needs
 
-array-read-t35 : tie.Need-array-read-t35
-array-read-t35 c = search needs
+loop-again : tie.Need-loop-again Inv-loop μ-loop
+loop-again c =
+    let l = c .before in
+    let s = l .before in
+    (omega arith, simp length-set (l .loop .inv .1), along-more (s .args .t1) (s .args .t2) (l .loop .here) (s .args .i) (l .loop .k) _ (c .loop-test .taken) (l .loop .inv .2))
 
-mul-t36 : tie.Need-mul-t36
-mul-t36 c = omega (arith, step-fits (c .args .t1) (c .args .t2) (c .args .i) (c .pre .0) (c .pre .1) (c .pre .2) (omega arith) (omega arith) 3 (omega arith))
-
-add-t37 : tie.Need-add-t37
-add-t37 c = omega (arith, sum-fits (c .args .t1) (c .args .t2) (c .args .i) (c .pre .0) (c .pre .1) (c .pre .2) (omega arith) (omega arith) 3 (omega arith))
-
-array-read-t40 : tie.Need-array-read-t40
-array-read-t40 c = search needs
-
-array-read-t43 : tie.Need-array-read-t43
-array-read-t43 c = search needs
-
-mul-t44 : tie.Need-mul-t44
-mul-t44 c = omega (arith, step-fits (c .args .t1) (c .args .t2) (c .args .i) (c .pre .0) (c .pre .1) (c .pre .2) (omega arith) (omega arith) 4 (omega arith))
-
-add-t45 : tie.Need-add-t45
-add-t45 c = omega (arith, sum-fits (c .args .t1) (c .args .t2) (c .args .i) (c .pre .0) (c .pre .1) (c .pre .2) (omega arith) (omega arith) 4 (omega arith))
-
-array-read-t48 : tie.Need-array-read-t48
-array-read-t48 c = search needs
-
-array-read-t51 : tie.Need-array-read-t51
-array-read-t51 c = search needs
-
-mul-t52 : tie.Need-mul-t52
-mul-t52 c = omega (arith, step-fits (c .args .t1) (c .args .t2) (c .args .i) (c .pre .0) (c .pre .1) (c .pre .2) (omega arith) (omega arith) 5 (omega arith))
-
-add-t53 : tie.Need-add-t53
-add-t53 c = omega (arith, sum-fits (c .args .t1) (c .args .t2) (c .args .i) (c .pre .0) (c .pre .1) (c .pre .2) (omega arith) (omega arith) 5 (omega arith))
-
-array-read-t56 : tie.Need-array-read-t56
-array-read-t56 c = search needs
-
-array-read-t59 : tie.Need-array-read-t59
-array-read-t59 c = search needs
-
-mul-t60 : tie.Need-mul-t60
-mul-t60 c = omega (arith, step-fits (c .args .t1) (c .args .t2) (c .args .i) (c .pre .0) (c .pre .1) (c .pre .2) (omega arith) (omega arith) 6 (omega arith))
-
-add-t61 : tie.Need-add-t61
-add-t61 c = omega (arith, sum-fits (c .args .t1) (c .args .t2) (c .args .i) (c .pre .0) (c .pre .1) (c .pre .2) (omega arith) (omega arith) 6 (omega arith))
-
-array-read-t64 : tie.Need-array-read-t64
-array-read-t64 c = search needs
-
-array-read-t67 : tie.Need-array-read-t67
-array-read-t67 c = search needs
-
-mul-t68 : tie.Need-mul-t68
-mul-t68 c = omega (arith, step-fits (c .args .t1) (c .args .t2) (c .args .i) (c .pre .0) (c .pre .1) (c .pre .2) (omega arith) (omega arith) 7 (omega arith))
-
-add-t69 : tie.Need-add-t69
-add-t69 c = omega (arith, sum-fits (c .args .t1) (c .args .t2) (c .args .i) (c .pre .0) (c .pre .1) (c .pre .2) (omega arith) (omega arith) 7 (omega arith))
-
-returns : tie.Need-returns
-returns c = eight (c .args .t1) (c .args .t2) (c .args .i) (omega arith) (omega arith)
+returns : tie.Need-returns Inv-loop μ-loop
+unfolding from
+returns c =
+    let l = c .before in
+    let e : l .loop .k ≡ 8 = omega arith in
+    rw e at (l .loop .inv .2)
 
 pub along-spec : {M : Type 1} → statement M
 along-spec =
     tie.close
     (tie.spec
-    array-read-t8
-    array-read-t11
-    mul-t12
-    add-t13
-    array-read-t16
-    array-read-t19
-    mul-t20
-    add-t21
-    array-read-t24
-    array-read-t27
-    mul-t28
-    add-t29
-    array-read-t32
-    array-read-t35
-    mul-t36
-    add-t37
-    array-read-t40
-    array-read-t43
-    mul-t44
-    add-t45
-    array-read-t48
-    array-read-t51
-    mul-t52
-    add-t53
-    array-read-t56
-    array-read-t59
-    mul-t60
-    add-t61
-    array-read-t64
-    array-read-t67
-    mul-t68
-    add-t69
+    Inv-loop
+    μ-loop
+    loop-holds
+    mul-here
+    array-read-here
+    mul-here-2
+    array-read-here-2
+    mul-here-3
+    add-here
+    mul-here-4
+    array-write-here
+    add-k
+    loop-less
+    loop-again
     returns)
