@@ -24,9 +24,9 @@ start n m words a e hn hm h =
 pub still : (a : Addresses) (words later : List ℕ) → Ready a words × Small a → length later ≡ length words → Ready a later × Small a
 still a words later r e = (record { laid = r .0 .laid; room = subst (λ (k : ℕ). 3 * (a .wires - a .inputs) ≤ k) (sym e) (r .0 .room) }, r .1)
 
--- the inputs come first
-pub inputs-first : (n m : ℕ) (a : Addresses) → a ≡ addresses n m → a .inputs ≤ a .wires
-inputs-first n m a e = subst (λ (x : Addresses). x .inputs ≤ x .wires) (sym e) (omega arith)
+-- the inputs come first, the outputs last
+pub in-order : (n m : ℕ) (a : Addresses) → a ≡ addresses n m → (a .inputs ≤ a .outputs) × (a .outputs ≤ a .wires)
+in-order n m a e = subst (λ (x : Addresses). (x .inputs ≤ x .outputs) × (x .outputs ≤ x .wires)) (sym e) (omega arith)
 
 -- ---- what is asked: the copies, the address, slots and steps, room for some gates
 

@@ -1,7 +1,8 @@
 -- `write` meets its contract: the four groups are the circuit, and its wires without the inputs are its gates.
 -- Assumes nothing.
 use mathlib.Core.Path.{_∙_}
-use Rattle.generator.proofs.Room.{start, inputs-first, still}
+use native.Mathlib.Omega.{arith}
+use Rattle.generator.proofs.Room.{start, in-order, still}
 use Rattle.generator.proofs.Groups.{circuit-stored}
 use Rattle.generator.proofs.Generating.{counted}
 use borrow.Author.Needs.{needs}
@@ -14,7 +15,7 @@ addresses-requires c κs = let s = c .before in (s .pre .0, s .pre .1)
 sub-gates : tie.Need-sub-gates
 sub-gates c =
     let s = c .before .before in
-    inputs-first (s .args .n) (s .args .m) _ (c .addresses .ensures)
+    omega (arith, in-order (s .args .n) (s .args .m) _ (c .addresses .ensures))
 
 cast-gates : tie.Need-cast-gates
 cast-gates c = search needs
