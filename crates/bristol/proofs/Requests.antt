@@ -1,12 +1,15 @@
 -- What asking for a line gives, by what its checks find: each law computes the list of checks.
 -- Assumes nothing.
-use mathlib.Core.Path.{_≡_, refl, sym, ap, _∙_}
+use mathlib.Core.Path.{_≡_, refl, sym, ap, subst, _∙_}
 use mathlib.Core.Bool.{Bool, true, false, not, _||_, cond}
-use mathlib.Core.List.{List, [], _∷_}
+use mathlib.Core.List.{List, [], _∷_, flatten}
+use mathlib.Core.Logic.{⊎-elim}
 use Prim.Native.Nat.{ℕ, _-_, _≤_, _<_}
 use native.Mathlib.Omega.{arith}
-use borrow.Author.Tests.{lt-ltb, le-ltb, not-false}
+use borrow.Author.Tests.{lt-ltb, le-ltb, ltb-true, ltb-false, not-false}
 use lib.Dec.{ltb}
+use types.Run.{OneOf}
+use denote.Enum.Declared.{tagOf}
 use lib.ListN.{length, take, replicate, List·getD-eq-default}
 use lib.Seq.{take-append-seam}
 use Rattle.refusals.specs.declared.Refusal.{Refusal}
@@ -23,8 +26,10 @@ use Rattle.gates.specs.Memory.{gatesOf, accepted}
 use Rattle.gates.specs.Evaluation.{over}
 use Rattle.bristol.specs.declared.Written.{Written}
 use Rattle.bristol.specs.declared.Written.the-variants as W
+use Rattle.bristol.specs.declared.WrittenLines.the-variants as lines
 use Rattle.bristol.specs.Lines.{linesOf}
-use Rattle.bristol.specs.Writing.{circuitChecks, lineAt, checks, written, filled}
+use Rattle.bristol.specs.Writing.{circuitChecks, lineAt, checks, written, filled, linesAt, writtenLines, filledLines}
+use Rattle.bristol.proofs.Written.{the-type}
 
 module _ (d : Dimensions) (ws : List ℕ) where
   pub refuse-size : (q : Refusal) → outcome (sizeChecks (d .n) (d .left) (d .right)) ≡ Refused q → Refused q ≡ outcome (circuitChecks d ws)
@@ -58,10 +63,24 @@ module _ (d : Dimensions) (ws : List ℕ) where
       ap (λ (x : Outcome). given x (over (lineAt d ws i) lent) (λ r. lent)) e,
     )
 
-    pub refuse-circuit : (q : Refusal) → outcome (circuitChecks d ws) ≡ Refused q → (W.Refused q ≡ written d ws i lent) × (lent ≡ filled d ws i lent)
-    refuse-circuit q e =
-        let p = leads (Refused q) (outcome-refused (circuitChecks d ws) (check (ltb (length lent) (length (lineAt d ws i))) LineBuffer ∷ []) q e) in
-        (sym (p .0), sym (p .1))
+    -- and for several lines
+    lead-lines : (o : Outcome) → outcome (checks d ws i lent) ≡ o
+        → (writtenLines d ws i lent ≡ given o (lines.Lines (length (linesAt d ws i lent)) (length (flatten (linesAt d ws i lent)))) lines.Refused)
+        × (filledLines d ws i lent ≡ given o (over (flatten (linesAt d ws i lent)) lent) (λ r. lent))
+    lead-lines o e = (
+      ap (λ (x : Outcome). given x (lines.Lines (length (linesAt d ws i lent)) (length (flatten (linesAt d ws i lent)))) lines.Refused) e,
+      ap (λ (x : Outcome). given x (over (flatten (linesAt d ws i lent)) lent) (λ r. lent)) e,
+    )
+
+    module _ (q : Refusal) (e : outcome (circuitChecks d ws) ≡ Refused q) where
+      refused : outcome (checks d ws i lent) ≡ Refused q
+      refused = outcome-refused (circuitChecks d ws) (check (ltb (length lent) (length (lineAt d ws i))) LineBuffer ∷ []) q e
+
+      pub refuse-circuit : (W.Refused q ≡ written d ws i lent) × (lent ≡ filled d ws i lent)
+      refuse-circuit = let p = leads (Refused q) refused in (sym (p .0), sym (p .1))
+
+      pub refuse-lines : (lines.Refused q ≡ writtenLines d ws i lent) × (lent ≡ filledLines d ws i lent)
+      refuse-lines = let p = lead-lines (Refused q) refused in (sym (p .0), sym (p .1))
 
     module _ (e : outcome (circuitChecks d ws) ≡ Taken) where
       -- the room decides
@@ -93,6 +112,37 @@ module _ (d : Dimensions) (ws : List ℕ) where
           go false q =
               let p = leads Taken (roomy false q) in
               (sym (p .0 ∙ ap (λ (b : Bool). cond b (W.Line (length (lineAt d ws i))) W.Past) there), sym (p .1))
+
+      -- a line that was put had room
+      pub was-put : i < length (linesOf d (gatesOf ws)) → (k : ℕ) → written d ws i lent ≡ W.Line k
+          → (length (lineAt d ws i) ≡ k) × (length (lineAt d ws i) ≤ length lent) × (filled d ws i lent ≡ over (lineAt d ws i) lent)
+      was-put h k w = go (ltb (length lent) (length (lineAt d ws i))) refl (line-put h .0) (line-put h .1)
+        where
+          go : (b : Bool) → ltb (length lent) (length (lineAt d ws i)) ≡ b
+              → cond b (W.Refused LineBuffer) (W.Line (length (lineAt d ws i))) ≡ written d ws i lent
+              → cond b lent (over (lineAt d ws i) lent) ≡ filled d ws i lent
+              → (length (lineAt d ws i) ≡ k) × (length (lineAt d ws i) ≤ length lent) × (filled d ws i lent ≡ over (lineAt d ws i) lent)
+          go true q x y = absurd (let z : _≡_ {A = ℕ} 0 1 = cc in omega arith)
+          go false q x y = (cc, ltb-false _ _ q, sym y)
+
+      -- a line that there is and that was not put is too long
+      pub not-put : i < length (linesOf d (gatesOf ws)) → OneOf (1 ∷ (2 ∷ [])) (tagOf the-type (written d ws i lent))
+          → (length lent < length (lineAt d ws i)) × (filled d ws i lent ≡ lent)
+      not-put h t = go (ltb (length lent) (length (lineAt d ws i))) refl (line-put h .0) (line-put h .1)
+        where
+          go : (b : Bool) → ltb (length lent) (length (lineAt d ws i)) ≡ b
+              → cond b (W.Refused LineBuffer) (W.Line (length (lineAt d ws i))) ≡ written d ws i lent
+              → cond b lent (over (lineAt d ws i) lent) ≡ filled d ws i lent
+              → (length lent < length (lineAt d ws i)) × (filled d ws i lent ≡ lent)
+          go true q x y = (ltb-true _ _ q, sym y)
+          go false q x y = absurd (⊎-elim (λ z. omega arith) (λ z. omega arith) (subst (λ (w : Written). OneOf (1 ∷ (2 ∷ [])) (tagOf the-type w)) (sym x) t))
+
+      -- several lines: whether the first of them has room decides
+      pub lines-lead : (b : Bool) → ltb (length lent) (length (lineAt d ws i)) ≡ b
+          → (writtenLines d ws i lent ≡ cond b (lines.Refused LineBuffer) (lines.Lines (length (linesAt d ws i lent)) (length (flatten (linesAt d ws i lent)))))
+          × (filledLines d ws i lent ≡ cond b lent (over (flatten (linesAt d ws i lent)) lent))
+      lines-lead true q = lead-lines (Refused LineBuffer) (roomy true q)
+      lines-lead false q = lead-lines Taken (roomy false q)
 
 -- a text by value put: its bytes are those of the line
 pub text-put : (l lent : List ℕ) (t : Text) (r : Written) (out : List ℕ) → t ≡ textOf l

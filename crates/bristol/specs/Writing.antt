@@ -1,8 +1,8 @@
--- What the writer gives when a line is asked for, and what it leaves in the lent bytes: document 01, "Circuit", refusals 1, 2, 9 and 11.
-use Prim.Native.Nat.{ℕ}
+-- What the writer gives when a line, or the lines from one on, are asked for, and what it leaves in the lent bytes: document 01, "Circuit", refusals 1, 2, 9 and 11.
+use Prim.Native.Nat.{ℕ, _-_}
 use mathlib.Core.Bool.{not, cond}
-use mathlib.Core.List.{List, [], _∷_, _++_}
-use lib.ListN.{length, getD}
+use mathlib.Core.List.{List, [], _∷_, _++_, flatten}
+use lib.ListN.{length, getD, drop}
 use lib.Dec.{ltb}
 use Rattle.refusals.specs.declared.Refusal.the-variants.{Gates, LineBuffer}
 use Rattle.refusals.specs.Checks.{Check, check, outcome, given}
@@ -12,6 +12,8 @@ use Rattle.gates.specs.Memory.{gatesOf, accepted}
 use Rattle.gates.specs.Evaluation.{over}
 use Rattle.bristol.specs.declared.Written.{Written}
 use Rattle.bristol.specs.declared.Written.the-variants.{Line, Past, Refused}
+use Rattle.bristol.specs.declared.WrittenLines.{WrittenLines}
+use Rattle.bristol.specs.declared.WrittenLines.the-variants as lines
 use Rattle.bristol.specs.Lines.{linesOf}
 
 -- 1, 2, 9: words that are no gates behind the inputs
@@ -35,3 +37,23 @@ written d words number lent =
 -- the lent bytes afterwards: the line, then the bytes that stood there; refused, as they were
 abbrev pub filled : Dimensions → List ℕ → ℕ → List ℕ → List ℕ
 filled d words number lent = given (outcome (checks d words number lent)) (over (lineAt d words number) lent) (λ r. lent)
+
+-- ---- several lines
+
+-- as many lines, from the first on, as there is room for
+unfoldable pub fitting : ℕ → List (List ℕ) → List (List ℕ)
+fitting room [] = []
+fitting room (l ∷ ls) = cond (ltb room (length l)) [] (l ∷ fitting (room - length l) ls)
+
+-- the lines from a number on that fit the lent bytes
+abbrev pub linesAt : Dimensions → List ℕ → ℕ → List ℕ → List (List ℕ)
+linesAt d words number lent = fitting (length lent) (drop number (linesOf d (gatesOf words)))
+
+-- how many they are and how many bytes they take, or the line writer's refusal
+abbrev pub writtenLines : Dimensions → List ℕ → ℕ → List ℕ → WrittenLines
+writtenLines d words number lent =
+    given (outcome (checks d words number lent)) (lines.Lines (length (linesAt d words number lent)) (length (flatten (linesAt d words number lent)))) lines.Refused
+
+-- the lent bytes afterwards
+abbrev pub filledLines : Dimensions → List ℕ → ℕ → List ℕ → List ℕ
+filledLines d words number lent = given (outcome (checks d words number lent)) (over (flatten (linesAt d words number lent)) lent) (λ r. lent)

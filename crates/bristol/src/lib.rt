@@ -1,4 +1,4 @@
-// The circuit text in Bristol Fashion, a line at a time (document 01, "Circuit"). Turned back: 1, 2, 9, then 11.
+// The circuit text in Bristol Fashion, one line or as many as fit (document 01, "Circuit"). Turned back: 1, 2, 9, then 11.
 use refusals::Outcome;
 use refusals::Refusal;
 use tables::Dimensions;
@@ -11,6 +11,7 @@ ghost use lib.Dec.{ltb};
 ghost use lib.ListN.{length, getD, take};
 ghost use Rattle.refusals.specs.Checks.{outcome};
 ghost use Rattle.refusals.specs.declared.Refusal.the-variants.{LineBuffer};
+ghost use Rattle.refusals.specs.declared.Outcome.the-variants.{Taken};
 ghost use Rattle.lexer.specs.Spelling as Spelling;
 ghost use Rattle.text.specs.Decimal.{decimal};
 ghost use Rattle.text.specs.Texts.{textOf, appended};
@@ -20,7 +21,7 @@ ghost use Rattle.gates.specs.Evaluation.{over};
 ghost use Rattle.bristol.specs.declared.Written.the-variants.{Line, Refused};
 ghost use Rattle.bristol.specs.Lines as Lines;
 ghost use Rattle.bristol.specs.Lines.{sizeLine, inputLine, outputLine, gateLine, gateLines};
-ghost use Rattle.bristol.specs.Writing.{circuitChecks, lineAt, written, filled};
+ghost use Rattle.bristol.specs.Writing.{circuitChecks, lineAt, written, filled, writtenLines, filledLines};
 
 // What became of a line that was asked for: written, with its length; none, the number being past the last line; or why not.
 pub enum Written {
@@ -41,6 +42,55 @@ pub fn write_line(d: Dimensions, gates: &[u32], line: usize, bytes: &mut [u8]) -
     if 4 + gates.len() / 3 <= line {
         return Written::Past;
     }
+    put_line(d, gates, line, bytes)
+}
+
+// What became of the lines that were asked for: how many were written and how many bytes they take, none where the number is past the last line; or why not.
+pub enum WrittenLines {
+    Lines(usize, usize),
+    Refused(Refusal),
+}
+
+// Writes the lines from a number on, each with its LF, as many as fit, to the front of the bytes; later bytes stay as they are. Refused, or asked past the last line, it changes no byte.
+pub fn write_lines(d: Dimensions, gates: &[u32], line: usize, bytes: &mut [u8]) -> WrittenLines
+    ensures { λ r. ⌜ r ≡ writtenLines d (now (gates .entry)) line (now (bytes .entry)) ⌝ }
+    ensures { λ _. ⌜ now (bytes .exit) ≡ filledLines d (now (gates .entry)) line (now (bytes .entry)) ⌝ }
+{
+    match check(d, gates) {
+        Outcome::Taken => {}
+        Outcome::Refused(refusal) => return WrittenLines::Refused(refusal),
+    }
+    put_lines(d, gates, line, bytes)
+}
+
+// The lines of accepted gates' text from a number on, put one behind the other while they fit: 11 if not even the first does.
+fn put_lines(d: Dimensions, gates: &[u32], line: usize, bytes: &mut [u8]) -> WrittenLines
+    requires { ⌜ outcome (circuitChecks d (now gates)) ≡ Taken ⌝ }
+    ensures { λ r. ⌜ r ≡ writtenLines d (now (gates .entry)) line (now (bytes .entry)) ⌝ }
+    ensures { λ _. ⌜ now (bytes .exit) ≡ filledLines d (now (gates .entry)) line (now (bytes .entry)) ⌝ }
+{
+    let mut next = line;
+    let mut at = 0;
+    while next < 4 + gates.len() / 3 {
+        let Written::Line(length) = put_line(d, gates, next, &mut bytes[at..]) else {
+            if next == line {
+                return WrittenLines::Refused(Refusal::LineBuffer);
+            }
+            return WrittenLines::Lines(next - line, at);
+        };
+        at += length;
+        next += 1;
+    }
+    WrittenLines::Lines(next - line, at)
+}
+
+// A line of accepted gates' text put to the front of the bytes, if it fits: 11 if not.
+fn put_line(d: Dimensions, gates: &[u32], line: usize, bytes: &mut [u8]) -> Written
+    requires { ⌜ outcome (circuitChecks d (now gates)) ≡ Taken ⌝ }
+    requires { ⌜ line < 4 + length (now gates) / 3 ⌝ }
+    ensures { λ r. ⌜ r ≡ written d (now (gates .entry)) line (now (bytes .entry)) ⌝ }
+    ensures { λ _. ⌜ now (bytes .exit) ≡ filled d (now (gates .entry)) line (now (bytes .entry)) ⌝ }
+{
     put(line_text(d, gates, line), bytes)
 }
 

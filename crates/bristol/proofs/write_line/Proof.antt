@@ -1,18 +1,17 @@
 -- `write_line` meets its contract: each return cites the law of what its checks found.
 -- Assumes nothing.
-use mathlib.Core.Path.{_≡_, sym, ap, _∙_}
+use mathlib.Core.Path.{_≡_, sym, _∙_}
 use Prim.Native.Nat.{_+_, _/_}
 use native.Mathlib.Omega.{arith}
 use denote.Ref.{now}
 use lib.ListN.{length}
 use Rattle.refusals.specs.declared.Outcome.the-variants.{Taken}
 use Rattle.refusals.specs.Checks.{outcome}
-use Rattle.text.specs.declared.Text.{Text}
 use Rattle.gates.specs.Memory.{gatesOf}
 use Rattle.bristol.specs.Lines.{linesOf}
-use Rattle.bristol.specs.Writing.{circuitChecks, lineAt}
-use Rattle.bristol.proofs.Numbering.{lines-of-words, lines-length}
-use Rattle.bristol.proofs.Requests.{taken-accepted, refuse-circuit, past-last, line-put, text-put}
+use Rattle.bristol.specs.Writing.{circuitChecks}
+use Rattle.bristol.proofs.Numbering.{lines-of-words}
+use Rattle.bristol.proofs.Requests.{taken-accepted, refuse-circuit, past-last}
 use borrow.Author.Needs.{needs}
 use Rattle.bristol.proofs.write_line.Statement.{statement}
 use Rattle.bristol.proofs.write_line.Tie as tie
@@ -49,28 +48,14 @@ returns-2 c =
     let start = c .before .before .before .before .before .before .args in
     past-last (start .d) (now (start .gates)) (start .line) (now (start .bytes)) (taken (c .before)) (omega (arith, number (c .before)))
 
-line-text-requires : tie.Need-line-text-requires
-line-text-requires c κs =
-    let start = c .before .before .before .before .before .before .args in
-    (taken-accepted (start .d) (now (start .gates)) (taken (c .before)), omega arith)
-
-put-requires : tie.Need-put-requires
-put-requires c κs =
-    let start = c .before .before .before .before .before .before .before .before .args in
-    omega (arith, ap (λ (t : Text). t .length) (c .before .line-text .ensures), lines-length (start .d) (gatesOf (now (start .gates))) (start .line))
+put-line-requires : tie.Need-put-line-requires
+put-line-requires c κs = (taken (c .before .before), omega arith)
 
 same-length : tie.Need-same-length
 same-length c = search needs
 
 returns-3 : tie.Need-returns-3
-returns-3 c =
-    let put = c .before .before in
-    let line = put .before .before in
-    let told = line .before .before in
-    let start = told .before .before .before .before .before .args in
-    let p = line-put (start .d) (now (start .gates)) (start .line) (now (start .bytes)) (taken told) (omega (arith, number told, line .before .if1 .left)) in
-    let q = text-put (lineAt (start .d) (now (start .gates)) (start .line)) (now (start .bytes)) (line .line-text .result) _ _ (line .line-text .ensures) (put .put .ensures .0) (put .put .ensures .1) in
-    (q .0 ∙ p .0, q .1 ∙ p .1)
+returns-3 c = c .before .before .put-line .ensures
 
 pub write-line-spec : {M : Type 1} → statement M
 write-line-spec =
@@ -82,7 +67,6 @@ write-line-spec =
     returns
     add-if1
     returns-2
-    line-text-requires
-    put-requires
+    put-line-requires
     same-length
     returns-3)
