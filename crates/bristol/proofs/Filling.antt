@@ -26,27 +26,8 @@ use Rattle.bristol.specs.declared.WrittenLines.the-variants as lines
 use Rattle.bristol.specs.Lines.{linesOf}
 use Rattle.bristol.specs.Writing.{circuitChecks, lineAt, written, filled, fitting, linesAt, writtenLines, filledLines}
 use Rattle.bristol.proofs.Written.{the-type}
+use Rattle.bristol.proofs.Fitting.{fitting-next, fitting-none}
 use Rattle.bristol.proofs.Requests.{was-put, not-put, lines-lead}
-
-module _ (ls : List (List ℕ)) (i room : ℕ) where
-  pub fitting-past : length ls ≤ i → fitting room (drop i ls) ≡ []
-  unfolding fitting
-  fitting-past h = ap (fitting room) (drop-of-length-le ls h)
-
-  module _ (h : i < length ls) where
-    -- whether the next line has room decides
-    next-fits : (b : Bool) → ltb room (length (getD ls i [])) ≡ b
-        → fitting room (drop i ls) ≡ cond b [] (getD ls i [] ∷ fitting (room - length (getD ls i [])) (drop (suc i) ls))
-    unfolding fitting
-    next-fits b e =
-        ap (fitting room) (drop-cons ls i [] h)
-        ∙ ap (λ (x : Bool). cond x [] (getD ls i [] ∷ fitting (room - length (getD ls i [])) (drop (suc i) ls))) e
-
-    pub fitting-next : length (getD ls i []) ≤ room → fitting room (drop i ls) ≡ getD ls i [] ∷ fitting (room - length (getD ls i [])) (drop (suc i) ls)
-    fitting-next f = next-fits false (le-ltb _ _ f)
-
-    pub fitting-none : room < length (getD ls i []) → fitting room (drop i ls) ≡ []
-    fitting-none f = next-fits true (lt-ltb _ _ f)
 
 -- the lent bytes after some turns, with the number of the line to come and of the bytes put
 pub record Put (ls : List (List ℕ)) (lent : List ℕ) (line : ℕ) (bytes : List ℕ) (next at : ℕ) : Type 0 where

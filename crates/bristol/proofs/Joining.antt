@@ -1,27 +1,64 @@
--- The writer's lines in order are the text: asked for the lines from the first on, each time with room, it leaves in front of the lent bytes
--- what joins to the text, and past the last line nothing. By induction on the lines that are left.
+-- The writer's lines in order are the text: asked from the first line on, each time with room for a line, and each time from where the last request
+-- ended, it leaves in front of the lent bytes what joins to the text, and past the last line nothing. By induction on the requests, once for both
+-- entries.
 -- Assumes nothing.
-use mathlib.Core.Path.{_≡_, sym, ap, ap₂, _∙_}
-use mathlib.Core.Bool.{false, cond}
-use mathlib.Core.List.{List, [], _++_, flatten}
-use Prim.Native.Nat.{ℕ, zero, suc, _+_, _/_, _≤_, _<_}
+use mathlib.Core.Path.{_≡_, refl, sym, ap, ap₂, _∙_}
+use mathlib.Core.Bool.{Bool, true, false, cond}
+use mathlib.Core.List.{List, [], _∷_, _++_, append-assoc, append-nil, flatten}
+use Prim.Native.Nat.{ℕ, zero, suc, _+_, _-_, _/_, _≤_, _<_}
 use native.Mathlib.Omega.{arith}
-use borrow.Author.Tests.{le-ltb}
+use borrow.Author.Tests.{le-ltb, ltb-true, ltb-false}
 use lib.Dec.{ltb}
-use lib.ListN.{length, take, drop, drop-of-length-le}
-use lib.Seq.{take-append-seam, drop-cons}
+use lib.ListN.{length, take, drop, drop-of-length-le, List·getD-eq-default}
+use lib.Seq.{take-append-seam, drop-cons, drop-drop}
 use Rattle.refusals.specs.declared.Refusal.the-variants.{LineBuffer}
-use Rattle.refusals.specs.declared.Outcome.the-variants.{Taken}
+use Rattle.refusals.specs.declared.Outcome.{Outcome}
+use Rattle.refusals.specs.declared.Outcome.the-variants.{Taken, Refused}
 use Rattle.refusals.specs.Checks.{outcome}
 use Rattle.tables.specs.declared.Dimensions.{Dimensions}
 use Rattle.gates.specs.Memory.{gatesOf}
 use Rattle.gates.specs.Evaluation.{over}
 use Rattle.bristol.specs.declared.Written.{Written}
 use Rattle.bristol.specs.declared.Written.the-variants as W
+use Rattle.bristol.specs.declared.WrittenLines.{WrittenLines}
+use Rattle.bristol.specs.declared.WrittenLines.the-variants as lines
 use Rattle.bristol.specs.Lines.{linesOf, circuitText}
-use Rattle.bristol.specs.Writing.{circuitChecks, lineAt, written, filled}
+use Rattle.bristol.specs.Writing.{circuitChecks, lineAt, written, filled, fitting, linesAt, writtenLines, filledLines}
 use Rattle.bristol.proofs.Numbering.{lines-of-words, lines-length}
-use Rattle.bristol.proofs.Requests.{taken-accepted, past-last, line-put}
+use Rattle.bristol.proofs.Fitting.{fitting-past, fitting-next, fitting-none, fitting-front}
+use Rattle.bristol.proofs.Requests.{taken-accepted, refuse-circuit, refuse-lines, past-last, line-put, lines-lead}
+
+-- ---- requests in a row, whatever each puts
+
+-- what k requests put, from a line's number on: each from behind the lines that the last one counted
+unfoldable pub asked : (ℕ → List ℕ) → (ℕ → ℕ) → ℕ → ℕ → List ℕ
+asked put count i zero = []
+asked put count i (suc k) = put i ++ asked put count (i + count i) k
+
+-- a front of the lines and what lies behind it
+flatten-front : (k : ℕ) (ls : List (List ℕ)) → flatten (take k ls) ++ flatten (drop k ls) ≡ flatten ls
+unfolding flatten
+flatten-front zero ls = refl
+flatten-front (suc k) [] = refl
+flatten-front (suc k) (l ∷ ls) = append-assoc l (flatten (take k ls)) (flatten (drop k ls)) ∙ ap (λ (x : List ℕ). l ++ x) (flatten-front k ls)
+
+-- requests that put the lines they count, and at least one while there is one
+module _ (ls : List (List ℕ)) (put : ℕ → List ℕ) (count : ℕ → ℕ)
+    (whole : (i : ℕ) → put i ≡ flatten (take (count i) (drop i ls))) (some : (i : ℕ) → i < length ls → 1 ≤ count i) where
+  pub asked-join : (i k : ℕ) → length ls ≤ i + k → asked put count i k ≡ flatten (drop i ls)
+  unfolding asked flatten
+  asked-join i zero h =
+      let all : length ls ≤ i = omega arith in
+      ap flatten (sym (drop-of-length-le ls all))
+  asked-join i (suc k) h =
+      ap₂ (λ (x y : List ℕ). x ++ y) (whole i) (asked-join (i + count i) k (enough (ltb i (length ls)) refl) ∙ ap flatten (sym (drop-drop (count i) i ls)))
+      ∙ flatten-front (count i) (drop i ls)
+    where
+      enough : (b : Bool) → ltb i (length ls) ≡ b → length ls ≤ i + count i + k
+      enough true e = omega (arith, some i (ltb-true i (length ls) e), h)
+      enough false e = omega (arith, ltb-false i (length ls) e)
+
+-- ---- a line a request
 
 -- what a request put in front of the lent bytes: as many as it says
 abbrev pub front : Written → List ℕ → List ℕ
@@ -30,35 +67,148 @@ front W.Past bytes = []
 front (W.Refused r) bytes = []
 
 -- the fronts of k requests, from a line's number on, each with lent bytes of its own
-unfoldable pub requested : Dimensions → List ℕ → (ℕ → List ℕ) → ℕ → ℕ → List ℕ
-requested d ws lent i zero = []
-requested d ws lent i (suc k) = front (written d ws i (lent i)) (filled d ws i (lent i)) ++ requested d ws lent (suc i) k
+abbrev pub requested : Dimensions → List ℕ → (ℕ → List ℕ) → ℕ → ℕ → List ℕ
+requested d ws lent i k = asked (λ j. front (written d ws j (lent j)) (filled d ws j (lent j))) (λ j. 1) i k
 
 module _ (d : Dimensions) (ws : List ℕ) (e : outcome (circuitChecks d ws) ≡ Taken) (lent : ℕ → List ℕ) (room : (i : ℕ) → 127 ≤ length (lent i)) where
-  one-line : (i : ℕ) → i < length (linesOf d (gatesOf ws)) → front (written d ws i (lent i)) (filled d ws i (lent i)) ≡ lineAt d ws i
-  one-line i h =
-      let p = line-put d ws i (lent i) e h in
-      let fits : ltb (length (lent i)) (length (lineAt d ws i)) ≡ false = le-ltb (length (lent i)) (length (lineAt d ws i)) (omega (arith, lines-length d (gatesOf ws) i, room i)) in
-      ap₂ front
-      (sym (p .0) ∙ ap (λ b. cond b (W.Refused LineBuffer) (W.Line (length (lineAt d ws i)))) fits)
-      (sym (p .1) ∙ ap (λ b. cond b (lent i) (over (lineAt d ws i) (lent i))) fits)
-      ∙ take-append-seam (lineAt d ws i) (drop (length (lineAt d ws i)) (lent i))
+  -- a line has room
+  fits : (i : ℕ) → ltb (length (lent i)) (length (lineAt d ws i)) ≡ false
+  fits i = le-ltb (length (lent i)) (length (lineAt d ws i)) (omega (arith, lines-length d (gatesOf ws) i, room i))
 
-  from : (i k : ℕ) → i + k ≡ length (linesOf d (gatesOf ws)) → requested d ws lent i k ≡ flatten (drop i (linesOf d (gatesOf ws)))
-  unfolding requested flatten
-  from i zero h =
-      let all : length (linesOf d (gatesOf ws)) ≤ i = omega arith in
-      ap flatten (sym (drop-of-length-le (linesOf d (gatesOf ws)) all))
-  from i (suc k) h =
-      ap₂ (λ (x y : List ℕ). x ++ y) (one-line i (omega arith)) (from (suc i) k (omega arith))
-      ∙ ap flatten (sym (drop-cons (linesOf d (gatesOf ws)) i [] (omega arith)))
+  one-line : (i : ℕ) → front (written d ws i (lent i)) (filled d ws i (lent i)) ≡ flatten (take 1 (drop i (linesOf d (gatesOf ws))))
+  unfolding flatten
+  one-line i = go (ltb i (length (linesOf d (gatesOf ws)))) refl
+    where
+      go : (b : Bool) → ltb i (length (linesOf d (gatesOf ws))) ≡ b → front (written d ws i (lent i)) (filled d ws i (lent i)) ≡ flatten (take 1 (drop i (linesOf d (gatesOf ws))))
+      go true q =
+          let p = line-put d ws i (lent i) e (ltb-true _ _ q) in
+          ap₂ front
+          (sym (p .0) ∙ ap (λ b. cond b (W.Refused LineBuffer) (W.Line (length (lineAt d ws i)))) (fits i))
+          (sym (p .1) ∙ ap (λ b. cond b (lent i) (over (lineAt d ws i) (lent i))) (fits i))
+          ∙ take-append-seam (lineAt d ws i) (drop (length (lineAt d ws i)) (lent i)) ∙ sym (append-nil (lineAt d ws i))
+          ∙ ap (λ (x : List (List ℕ)). flatten (take 1 x)) (sym (drop-cons (linesOf d (gatesOf ws)) i [] (ltb-true _ _ q)))
+      go false q =
+          ap (λ (x : Written). front x (filled d ws i (lent i))) (sym (past-last d ws i (lent i) e (ltb-false _ _ q) .0))
+          ∙ ap (λ (x : List (List ℕ)). flatten (take 1 x)) (sym (drop-of-length-le (linesOf d (gatesOf ws)) (ltb-false _ _ q)))
 
   pub requests-join : requested d ws lent 0 (4 + length ws / 3) ≡ circuitText d (gatesOf ws)
   unfolding circuitText
-  requests-join = from 0 (4 + length ws / 3) (omega (arith, lines-of-words d ws (taken-accepted d ws e)))
+  requests-join =
+      asked-join (linesOf d (gatesOf ws)) (λ j. front (written d ws j (lent j)) (filled d ws j (lent j))) (λ j. 1) one-line (λ i h. omega arith)
+      0 (4 + length ws / 3) (omega (arith, lines-of-words d ws (taken-accepted d ws e)))
 
   -- and there is no further line
   pub requests-end : (i : ℕ) → 4 + length ws / 3 ≤ i → (written d ws i (lent i) ≡ W.Past) × (filled d ws i (lent i) ≡ lent i)
   requests-end i h =
       let p = past-last d ws i (lent i) e (omega (arith, lines-of-words d ws (taken-accepted d ws e))) in
       (sym (p .0), sym (p .1))
+
+-- ---- as many lines a request as fit
+
+-- how many lines a request put
+abbrev pub counted : WrittenLines → ℕ
+counted (lines.Lines k n) = k
+counted (lines.Refused r) = 0
+
+-- and their bytes
+abbrev pub fronts : WrittenLines → List ℕ → List ℕ
+fronts (lines.Lines k n) bytes = take n bytes
+fronts (lines.Refused r) bytes = []
+
+-- the fronts of k requests, each from behind the lines that the last one put, each with lent bytes of its own
+abbrev pub requestedLines : Dimensions → List ℕ → (ℕ → List ℕ) → ℕ → ℕ → List ℕ
+requestedLines d ws lent i k = asked (λ j. fronts (writtenLines d ws j (lent j)) (filledLines d ws j (lent j))) (λ j. counted (writtenLines d ws j (lent j))) i k
+
+-- lent bytes that take the line from which they are asked
+module _ (d : Dimensions) (ws : List ℕ) (e : outcome (circuitChecks d ws) ≡ Taken) (lent : ℕ → List ℕ) (room : (i : ℕ) → length (lineAt d ws i) ≤ length (lent i)) where
+  given-lines : (i : ℕ) → (writtenLines d ws i (lent i) ≡ lines.Lines (length (linesAt d ws i (lent i))) (length (flatten (linesAt d ws i (lent i)))))
+      × (filledLines d ws i (lent i) ≡ over (flatten (linesAt d ws i (lent i))) (lent i))
+  given-lines i = lines-lead d ws i (lent i) e false (le-ltb (length (lent i)) (length (lineAt d ws i)) (room i))
+
+  some-lines : (i : ℕ) → fronts (writtenLines d ws i (lent i)) (filledLines d ws i (lent i)) ≡ flatten (take (counted (writtenLines d ws i (lent i))) (drop i (linesOf d (gatesOf ws))))
+  some-lines i =
+      let p = given-lines i in
+      ap₂ fronts (p .0) (p .1) ∙ take-append-seam (flatten (linesAt d ws i (lent i))) (drop (length (flatten (linesAt d ws i (lent i)))) (lent i))
+      ∙ ap flatten (fitting-front (length (lent i)) (drop i (linesOf d (gatesOf ws))))
+      ∙ ap (λ (x : WrittenLines). flatten (take (counted x) (drop i (linesOf d (gatesOf ws))))) (sym (p .0))
+
+  one-at-least : (i : ℕ) → i < length (linesOf d (gatesOf ws)) → 1 ≤ counted (writtenLines d ws i (lent i))
+  one-at-least i h = omega (arith, ap counted (given-lines i .0), ap length (fitting-next (linesOf d (gatesOf ws)) i (length (lent i)) h (room i)))
+
+  -- a request for each line is enough, however many lines each puts
+  pub lines-join : (k : ℕ) → 4 + length ws / 3 ≤ k → requestedLines d ws lent 0 k ≡ circuitText d (gatesOf ws)
+  unfolding circuitText
+  lines-join k h =
+      asked-join (linesOf d (gatesOf ws)) (λ j. fronts (writtenLines d ws j (lent j)) (filledLines d ws j (lent j))) (λ j. counted (writtenLines d ws j (lent j)))
+      some-lines one-at-least 0 k (omega (arith, lines-of-words d ws (taken-accepted d ws e)))
+
+  -- and past the last line none is put
+  pub lines-end : (i : ℕ) → 4 + length ws / 3 ≤ i → (writtenLines d ws i (lent i) ≡ lines.Lines 0 0) × (filledLines d ws i (lent i) ≡ lent i)
+  unfolding flatten
+  lines-end i h =
+      let none : linesAt d ws i (lent i) ≡ [] = fitting-past (linesOf d (gatesOf ws)) i (length (lent i)) (omega (arith, lines-of-words d ws (taken-accepted d ws e))) in (
+        given-lines i .0 ∙ ap (λ (x : List (List ℕ)). lines.Lines (length x) (length (flatten x))) none,
+        given-lines i .1 ∙ ap (λ (x : List (List ℕ)). over (flatten x) (lent i)) none,
+      )
+
+-- ---- both entries
+
+-- the answer for a line as the answer for lines
+abbrev pub asLines : Written → WrittenLines
+asLines (W.Line k) = lines.Lines 1 k
+asLines W.Past = lines.Lines 0 0
+asLines (W.Refused r) = lines.Refused r
+
+-- with no room for two lines, both entries answer and leave the same
+module _ (d : Dimensions) (ws : List ℕ) (i : ℕ) (lent : List ℕ)
+    (room : suc i < length (linesOf d (gatesOf ws)) → length lent < length (lineAt d ws i) + length (lineAt d ws (suc i))) where
+  -- a first line that has room is the only one
+  only : i < length (linesOf d (gatesOf ws)) → length (lineAt d ws i) ≤ length lent → linesAt d ws i lent ≡ lineAt d ws i ∷ []
+  only h f =
+      fitting-next (linesOf d (gatesOf ws)) i (length lent) h f
+      ∙ ap (λ (x : List (List ℕ)). lineAt d ws i ∷ x) (go (ltb (suc i) (length (linesOf d (gatesOf ws)))) refl)
+    where
+      go : (b : Bool) → ltb (suc i) (length (linesOf d (gatesOf ws))) ≡ b → fitting (length lent - length (lineAt d ws i)) (drop (suc i) (linesOf d (gatesOf ws))) ≡ []
+      go true e =
+          let there : suc i < length (linesOf d (gatesOf ws)) = ltb-true _ _ e in
+          fitting-none (linesOf d (gatesOf ws)) (suc i) (length lent - length (lineAt d ws i)) there (omega (arith, room there, f))
+      go false e = fitting-past (linesOf d (gatesOf ws)) (suc i) _ (ltb-false _ _ e)
+
+  taken : outcome (circuitChecks d ws) ≡ Taken → (writtenLines d ws i lent ≡ asLines (written d ws i lent)) × (filledLines d ws i lent ≡ filled d ws i lent)
+  unfolding flatten
+  taken e = go (ltb i (length (linesOf d (gatesOf ws)))) refl (ltb (length lent) (length (lineAt d ws i))) refl
+    where
+      go : (b : Bool) → ltb i (length (linesOf d (gatesOf ws))) ≡ b → (c : Bool) → ltb (length lent) (length (lineAt d ws i)) ≡ c
+          → (writtenLines d ws i lent ≡ asLines (written d ws i lent)) × (filledLines d ws i lent ≡ filled d ws i lent)
+      go true h true q =
+          let p = line-put d ws i lent e (ltb-true _ _ h) in
+          let l = lines-lead d ws i lent e true q in (
+            l .0 ∙ ap (λ (x : Bool). asLines (cond x (W.Refused LineBuffer) (W.Line (length (lineAt d ws i))))) (sym q) ∙ ap asLines (p .0),
+            l .1 ∙ ap (λ (x : Bool). cond x lent (over (lineAt d ws i) lent)) (sym q) ∙ p .1,
+          )
+      go true h false q =
+          let p = line-put d ws i lent e (ltb-true _ _ h) in
+          let l = lines-lead d ws i lent e false q in
+          let one : flatten (linesAt d ws i lent) ≡ lineAt d ws i = ap flatten (only (ltb-true _ _ h) (ltb-false _ _ q)) ∙ append-nil (lineAt d ws i) in (
+            l .0 ∙ ap₂ lines.Lines (ap length (only (ltb-true _ _ h) (ltb-false _ _ q))) (ap length one)
+                ∙ ap (λ (x : Bool). asLines (cond x (W.Refused LineBuffer) (W.Line (length (lineAt d ws i))))) (sym q) ∙ ap asLines (p .0),
+            l .1 ∙ ap (λ (x : List ℕ). over x lent) one ∙ ap (λ (x : Bool). cond x lent (over (lineAt d ws i) lent)) (sym q) ∙ p .1,
+          )
+      go false h c q =
+          let p = past-last d ws i lent e (ltb-false _ _ h) in
+          let short : lineAt d ws i ≡ [] = List·getD-eq-default (linesOf d (gatesOf ws)) [] (ltb-false _ _ h) in
+          let l = lines-lead d ws i lent e false (ap (λ (x : List ℕ). ltb (length lent) (length x)) short ∙ le-ltb (length lent) 0 (omega arith)) in
+          let none : linesAt d ws i lent ≡ [] = fitting-past (linesOf d (gatesOf ws)) i (length lent) (ltb-false _ _ h) in (
+            l .0 ∙ ap (λ (x : List (List ℕ)). lines.Lines (length x) (length (flatten x))) none ∙ ap asLines (p .0),
+            l .1 ∙ ap (λ (x : List (List ℕ)). over (flatten x) lent) none ∙ p .1,
+          )
+
+  pub one-line-alike : (writtenLines d ws i lent ≡ asLines (written d ws i lent)) × (filledLines d ws i lent ≡ filled d ws i lent)
+  one-line-alike = go (outcome (circuitChecks d ws)) refl
+    where
+      go : (o : Outcome) → outcome (circuitChecks d ws) ≡ o → (writtenLines d ws i lent ≡ asLines (written d ws i lent)) × (filledLines d ws i lent ≡ filled d ws i lent)
+      go Taken e = taken e
+      go (Refused q) e =
+          let p = refuse-circuit d ws i lent q e in
+          let l = refuse-lines d ws i lent q e in
+          (sym (l .0) ∙ ap asLines (p .0), sym (l .1) ∙ p .1)

@@ -13,7 +13,8 @@ use Rattle.bristol.specs.Lines.{linesOf}
 use Rattle.bristol.specs.Writing.{fitting}
 use Rattle.bristol.proofs.Numbering.{lines-of-words}
 use Rattle.bristol.proofs.Requests.{taken-accepted}
-use Rattle.bristol.proofs.Filling.{Put, none-put, fitting-past, line-more, line-last, lines-put, lines-refused}
+use Rattle.bristol.proofs.Fitting.{fitting-past}
+use Rattle.bristol.proofs.Filling.{Put, none-put, line-more, line-last, lines-put, lines-refused}
 use borrow.Author.Needs.{needs}
 use Rattle.bristol.proofs.put_lines.Statement.{statement}
 use Rattle.bristol.proofs.put_lines.Tie as tie
