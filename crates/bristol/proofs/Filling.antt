@@ -13,7 +13,7 @@ use types.Run.{OneOf}
 use denote.Enum.Declared.{tagOf}
 use borrow.Rule.Slice.PartMut.{midOf, putMid}
 use lib.ListN.{length, getD, take, drop, length-append, length-drop, take-append-drop, drop-of-length-le, List·getD-eq-default}
-use lib.Seq.{length-take-le, take-all, take-at, drop-at, drop-cons, drop-drop}
+use lib.Seq.{length-take-le, take-at, drop-at, drop-cons, drop-drop}
 use Rattle.refusals.specs.declared.Refusal.the-variants.{LineBuffer}
 use Rattle.refusals.specs.declared.Outcome.the-variants.{Taken}
 use Rattle.refusals.specs.Checks.{outcome}
@@ -26,6 +26,7 @@ use Rattle.bristol.specs.declared.WrittenLines.the-variants as lines
 use Rattle.bristol.specs.Lines.{linesOf}
 use Rattle.bristol.specs.Writing.{circuitChecks, lineAt, written, filled, fitting, linesAt, writtenLines, filledLines}
 use Rattle.bristol.proofs.Written.{the-type}
+use Rattle.bristol.proofs.Parts.{lent-part, put-back}
 use Rattle.bristol.proofs.Fitting.{fitting-next, fitting-none}
 use Rattle.bristol.proofs.Requests.{was-put, not-put, lines-lead}
 
@@ -107,28 +108,19 @@ module _ (ls : List (List ℕ)) (lent : List ℕ) (line : ℕ) where
 module _ (d : Dimensions) (ws : List ℕ) (e : outcome (circuitChecks d ws) ≡ Taken) (line : ℕ) (lent bytes : List ℕ) (next at : ℕ)
     (p : Put (linesOf d (gatesOf ws)) lent line bytes next at) (h : next < length (linesOf d (gatesOf ws))) (r : Written) (out : List ℕ)
     (hr : r ≡ written d ws next (midOf at (length bytes - at) bytes)) (ho : out ≡ filled d ws next (midOf at (length bytes - at) bytes)) where
-  lent-part : midOf at (length bytes - at) bytes ≡ drop at bytes
-  lent-part = take-all (length bytes - at) (drop at bytes) (omega (arith, length-drop at bytes))
-
-  put-back : putMid at (length bytes - at) bytes out ≡ take at bytes ++ out
-  put-back =
-      let end : length (drop at bytes) ≤ length bytes - at = omega (arith, length-drop at bytes) in
-      let none : drop (length bytes - at) (drop at bytes) ≡ [] = drop-of-length-le (drop at bytes) end in
-      ap (λ (x : List ℕ). take at bytes ++ (out ++ x)) none ∙ ap (λ (x : List ℕ). take at bytes ++ x) (append-nil out)
-
   pub line-more : (k : ℕ) → r ≡ W.Line k → Put (linesOf d (gatesOf ws)) lent line (putMid at (length bytes - at) bytes out) (next + 1) (at + k)
   line-more k w =
-      let q = was-put d ws next (drop at bytes) e h k (ap (written d ws next) (sym lent-part) ∙ sym hr ∙ w) in
+      let q = was-put d ws next (drop at bytes) e h k (ap (written d ws next) (sym (lent-part bytes at)) ∙ sym hr ∙ w) in
       let more = one-more (linesOf d (gatesOf ws)) lent line bytes next at p (lineAt d ws next) (putMid at (length bytes - at) bytes out) h refl (q .1)
-      (put-back ∙ ap (λ (x : List ℕ). take at bytes ++ x) (ho ∙ ap (filled d ws next) lent-part ∙ q .2)) in
+      (put-back bytes at out ∙ ap (λ (x : List ℕ). take at bytes ++ x) (ho ∙ ap (filled d ws next) (lent-part bytes at) ∙ q .2)) in
       let step : suc next ≡ next + 1 = omega arith in
       rw (step, q .0) at more
 
   pub line-last : OneOf (1 ∷ (2 ∷ [])) (tagOf the-type r)
       → (putMid at (length bytes - at) bytes out ≡ bytes) × (fitting (length lent - at) (drop next (linesOf d (gatesOf ws))) ≡ [])
   line-last t =
-      let q = not-put d ws next (drop at bytes) e h (subst (λ (x : Written). OneOf (1 ∷ (2 ∷ [])) (tagOf the-type x)) (hr ∙ ap (written d ws next) lent-part) t) in (
-        put-back ∙ ap (λ (x : List ℕ). take at bytes ++ x) (ho ∙ ap (filled d ws next) lent-part ∙ q .1) ∙ take-append-drop at bytes,
+      let q = not-put d ws next (drop at bytes) e h (subst (λ (x : Written). OneOf (1 ∷ (2 ∷ [])) (tagOf the-type x)) (hr ∙ ap (written d ws next) (lent-part bytes at)) t) in (
+        put-back bytes at out ∙ ap (λ (x : List ℕ). take at bytes ++ x) (ho ∙ ap (filled d ws next) (lent-part bytes at) ∙ q .1) ∙ take-append-drop at bytes,
         fitting-none (linesOf d (gatesOf ws)) next (length lent - at) h (omega (arith, length-drop at bytes, p .same, q .0)),
       )
 

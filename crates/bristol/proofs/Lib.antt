@@ -1,3 +1,4 @@
+pub mod Parts
 pub mod Composing
 pub mod Numbering
 pub mod Requests

@@ -2,24 +2,22 @@
 -- Assumes nothing.
 use mathlib.Core.Path.{_≡_, refl, sym, ap, subst, _∙_}
 use mathlib.Core.Bool.{Bool, true, false, not, _||_, cond}
-use mathlib.Core.List.{List, [], _∷_, flatten}
+use mathlib.Core.List.{List, [], _∷_, _++_, flatten}
 use mathlib.Core.Logic.{⊎-elim}
-use Prim.Native.Nat.{ℕ, _-_, _≤_, _<_}
+use Prim.Native.Nat.{ℕ, _≤_, _<_}
 use native.Mathlib.Omega.{arith}
 use borrow.Author.Tests.{lt-ltb, le-ltb, ltb-true, ltb-false, not-false}
 use lib.Dec.{ltb}
 use types.Run.{OneOf}
 use denote.Enum.Declared.{tagOf}
-use lib.ListN.{length, take, replicate, List·getD-eq-default}
-use lib.Seq.{take-append-seam}
+use lib.ListN.{length, take, drop, List·getD-eq-default}
+use lib.Seq.{take-length}
 use Rattle.refusals.specs.declared.Refusal.{Refusal}
 use Rattle.refusals.specs.declared.Refusal.the-variants.{Variables, RowCount, Gates, LineBuffer}
 use Rattle.refusals.specs.declared.Outcome.{Outcome}
 use Rattle.refusals.specs.declared.Outcome.the-variants.{Taken, Refused}
 use Rattle.refusals.specs.Checks.{check, unless, outcome, given}
 use Rattle.refusals.proofs.Outcomes.{outcome-taken, outcome-refused, unless-passed, unless-taken}
-use Rattle.text.specs.declared.Text.{Text}
-use Rattle.text.specs.Texts.{textOf}
 use Rattle.tables.specs.declared.Dimensions.{Dimensions}
 use Rattle.tables.specs.Sizes.{outside, sizeChecks, inputWires}
 use Rattle.gates.specs.Memory.{gatesOf, accepted}
@@ -113,6 +111,26 @@ module _ (d : Dimensions) (ws : List ℕ) where
               let p = leads Taken (roomy false q) in
               (sym (p .0 ∙ ap (λ (b : Bool). cond b (W.Line (length (lineAt d ws i))) W.Past) there), sym (p .1))
 
+      module _ (h : i < length (linesOf d (gatesOf ws))) (end : ℕ) (q : end ≡ length (lineAt d ws i)) where
+        -- a line that is too long
+        pub line-long : length lent < end → (W.Refused LineBuffer ≡ written d ws i lent) × (lent ≡ filled d ws i lent)
+        line-long f =
+            let long : true ≡ ltb (length lent) (length (lineAt d ws i)) = sym (lt-ltb (length lent) (length (lineAt d ws i)) (omega arith)) in (
+              ap (λ (b : Bool). cond b (W.Refused LineBuffer) (W.Line (length (lineAt d ws i)))) long ∙ line-put h .0,
+              ap (λ (b : Bool). cond b lent (over (lineAt d ws i) lent)) long ∙ line-put h .1,
+            )
+
+        -- a line that is copied
+        pub line-copied : (front out : List ℕ) → end ≤ length lent → front ≡ lineAt d ws i → out ≡ take (length front) front ++ drop (length front) lent
+            → (W.Line end ≡ written d ws i lent) × (out ≡ filled d ws i lent)
+        line-copied front out f e o =
+            let fits : false ≡ ltb (length lent) (length (lineAt d ws i)) = sym (le-ltb (length lent) (length (lineAt d ws i)) (omega arith)) in (
+              ap W.Line q ∙ ap (λ (b : Bool). cond b (W.Refused LineBuffer) (W.Line (length (lineAt d ws i)))) fits ∙ line-put h .0,
+              o ∙ ap (λ (l : List ℕ). take (length l) l ++ drop (length l) lent) e
+                  ∙ ap (λ (l : List ℕ). l ++ drop (length (lineAt d ws i)) lent) (take-length (lineAt d ws i))
+                  ∙ ap (λ (b : Bool). cond b lent (over (lineAt d ws i) lent)) fits ∙ line-put h .1,
+            )
+
       -- a line that was put had room
       pub was-put : i < length (linesOf d (gatesOf ws)) → (k : ℕ) → written d ws i lent ≡ W.Line k
           → (length (lineAt d ws i) ≡ k) × (length (lineAt d ws i) ≤ length lent) × (filled d ws i lent ≡ over (lineAt d ws i) lent)
@@ -143,14 +161,3 @@ module _ (d : Dimensions) (ws : List ℕ) where
           × (filledLines d ws i lent ≡ cond b lent (over (flatten (linesAt d ws i lent)) lent))
       lines-lead true q = lead-lines (Refused LineBuffer) (roomy true q)
       lines-lead false q = lead-lines Taken (roomy false q)
-
--- a text by value put: its bytes are those of the line
-pub text-put : (l lent : List ℕ) (t : Text) (r : Written) (out : List ℕ) → t ≡ textOf l
-    → r ≡ cond (ltb (length lent) (t .length)) (W.Refused LineBuffer) (W.Line (t .length))
-    → out ≡ cond (ltb (length lent) (t .length)) lent (over (take (t .length) (t .bytes)) lent)
-    → (r ≡ cond (ltb (length lent) (length l)) (W.Refused LineBuffer) (W.Line (length l))) × (out ≡ cond (ltb (length lent) (length l)) lent (over l lent))
-text-put l lent t r out e hr ho = (
-  hr ∙ ap (λ (x : Text). cond (ltb (length lent) (x .length)) (W.Refused LineBuffer) (W.Line (x .length))) e,
-  ho ∙ ap (λ (x : Text). cond (ltb (length lent) (x .length)) lent (over (take (x .length) (x .bytes)) lent)) e
-      ∙ ap (λ (x : List ℕ). cond (ltb (length lent) (length l)) lent (over x lent)) (take-append-seam l (replicate (256 - length l) 0)),
-)

@@ -2,23 +2,19 @@
 use refusals::Outcome;
 use refusals::Refusal;
 use tables::Dimensions;
-use text::Text;
 ghost use mathlib.Core.Path.{_≡_};
-ghost use mathlib.Core.Bool.{true, cond};
+ghost use mathlib.Core.Bool.{true};
 ghost use mathlib.Core.List.{[], _∷_, _++_};
 ghost use Prim.Native.Nat.{_+_, _/_, _^_, _≤_, _<_};
-ghost use lib.Dec.{ltb};
-ghost use lib.ListN.{length, getD, take};
+ghost use lib.ListN.{length, getD};
+ghost use lib.Seq.{sets};
 ghost use Rattle.refusals.specs.Checks.{outcome};
-ghost use Rattle.refusals.specs.declared.Refusal.the-variants.{LineBuffer};
 ghost use Rattle.refusals.specs.declared.Outcome.the-variants.{Taken};
 ghost use Rattle.lexer.specs.Spelling as Spelling;
 ghost use Rattle.text.specs.Decimal.{decimal};
-ghost use Rattle.text.specs.Texts.{textOf, appended};
 ghost use Rattle.tables.specs.Sizes.{inputWires};
 ghost use Rattle.gates.specs.Memory as Memory;
-ghost use Rattle.gates.specs.Evaluation.{over};
-ghost use Rattle.bristol.specs.declared.Written.the-variants.{Line, Refused};
+ghost use Rattle.gates.specs.Gates.Gate.{INV};
 ghost use Rattle.bristol.specs.Lines as Lines;
 ghost use Rattle.bristol.specs.Lines.{sizeLine, inputLine, outputLine, gateLine, gateLines};
 ghost use Rattle.bristol.specs.Writing.{circuitChecks, lineAt, written, filled, writtenLines, filledLines};
@@ -91,7 +87,13 @@ fn put_line(d: Dimensions, gates: &[u32], line: usize, bytes: &mut [u8]) -> Writ
     ensures { λ r. ⌜ r ≡ written d (now (gates .entry)) line (now (bytes .entry)) ⌝ }
     ensures { λ _. ⌜ now (bytes .exit) ≡ filled d (now (gates .entry)) line (now (bytes .entry)) ⌝ }
 {
-    put(line_text(d, gates, line), bytes)
+    let mut text = [0u8; 128];
+    let length = line_text(d, gates, line, &mut text);
+    if bytes.len() < length {
+        return Written::Refused(Refusal::LineBuffer);
+    }
+    bytes::copy(&text[..length], bytes);
+    Written::Line(length)
 }
 
 // Whether dimensions and gates are a circuit's: 1, 2 or 9 if not.
@@ -108,103 +110,150 @@ fn check(d: Dimensions, gates: &[u32]) -> Outcome
     Outcome::Taken
 }
 
-// The text copied to the front of the bytes, if it fits.
-fn put(text: Text, bytes: &mut [u8]) -> Written
-    requires { ⌜ text .length ≤ 256 ⌝ }
-    ensures { λ r. ⌜ r ≡ cond (ltb (length (now (bytes .entry))) (text .length)) (Refused LineBuffer) (Line (text .length)) ⌝ }
-    ensures { λ _. ⌜ now (bytes .exit) ≡ cond (ltb (length (now (bytes .entry))) (text .length)) (now (bytes .entry)) (over (take (text .length) (text .bytes)) (now (bytes .entry))) ⌝ }
-{
-    let length = text.length;
-    let whole = text.bytes;
-    if bytes.len() < length {
-        return Written::Refused(Refusal::LineBuffer);
-    }
-    bytes::copy(&whole[..length], bytes);
-    Written::Line(length)
-}
-
-// A line of accepted gates' text.
-fn line_text(d: Dimensions, gates: &[u32], line: usize) -> Text
+// A line of accepted gates' text, written to the front of bytes that have room for any; how long it is.
+fn line_text(d: Dimensions, gates: &[u32], line: usize, text: &mut [u8]) -> usize
     requires { ⌜ Memory.accepted (inputWires d) (now gates) ≡ true ⌝ }
     requires { ⌜ line < 4 + length (now gates) / 3 ⌝ }
-    ensures { λ r. ⌜ r ≡ textOf (lineAt d (now (gates .entry)) line) ⌝ }
+    requires { ⌜ 127 < length (now text) ⌝ }
+    ensures { λ r. ⌜ r ≡ length (lineAt d (now (gates .entry)) line) ⌝ }
+    ensures { λ _. ⌜ now (text .exit) ≡ sets (now (text .entry)) 0 (lineAt d (now (gates .entry)) line) ⌝ }
 {
     let inputs = d.input_wires();
     match line {
-        0 => size_line(inputs, gates.len() / 3),
-        1 => input_line(d),
-        2 => output_line(d),
-        3 => Text::empty().push(b'\n'),
-        _ => gate_text(gates, inputs, line - 4),
+        0 => size_line(inputs, gates.len() / 3, text),
+        1 => input_line(d, text),
+        2 => output_line(d, text),
+        3 => put(b"\n", text, 0),
+        _ => gate_text(gates, inputs, line - 4, text),
     }
 }
 
-// The text with a number and a space more.
-fn field(text: Text, x: usize) -> Text
-    ensures { λ r. ⌜ r ≡ appended text (decimal x ++ Spelling.bytes " ") ⌝ }
+// Writes bytes from a place on; the place behind them. So do the next two.
+fn put(more: &[u8], text: &mut [u8], at: usize) -> usize
+    requires { ⌜ at + length (now more) ≤ length (now text) ⌝ }
+    ensures { λ r. ⌜ r ≡ at + length (now (more .entry)) ⌝ }
+    ensures { λ _. ⌜ now (text .exit) ≡ sets (now (text .entry)) at (now (more .entry)) ⌝ }
 {
-    text.decimal(x as u64).push(b' ')
+    at + bytes::copy(more, &mut text[at..])
 }
 
-// The text with a number and an LF more.
-fn last(text: Text, x: usize) -> Text
-    ensures { λ r. ⌜ r ≡ appended text (decimal x ++ Spelling.bytes "\n") ⌝ }
+// A number's decimal digits.
+fn put_number(x: usize, text: &mut [u8], at: usize) -> usize
+    requires { ⌜ at + 20 < length (now text) ⌝ }
+    ensures { λ r. ⌜ r ≡ at + length (decimal x) ⌝ }
+    ensures { λ _. ⌜ now (text .exit) ≡ sets (now (text .entry)) at (decimal x) ⌝ }
 {
-    text.decimal(x as u64).push(b'\n')
+    if x < 10 {
+        text[at] = 48 + x as u8;
+        return at + 1;
+    }
+    let last = put_number(x / 10, text, at);
+    text[last] = 48 + (x % 10) as u8;
+    last + 1
+}
+
+// A number and a byte behind it, a space or LF.
+fn put_field(x: usize, behind: u8, text: &mut [u8], at: usize) -> usize
+    requires { ⌜ at + 20 < length (now text) ⌝ }
+    ensures { λ r. ⌜ r ≡ at + length (decimal x ++ (behind ∷ [])) ⌝ }
+    ensures { λ r. ⌜ r ≤ at + 21 ⌝ }
+    ensures { λ _. ⌜ now (text .exit) ≡ sets (now (text .entry)) at (decimal x ++ (behind ∷ [])) ⌝ }
+{
+    let end = put_number(x, text, at);
+    text[end] = behind;
+    end + 1
 }
 
 // The first header line.
-fn size_line(inputs: usize, gates: usize) -> Text
+fn size_line(inputs: usize, gates: usize, text: &mut [u8]) -> usize
     requires { ⌜ inputs < 2 ^ 62 ⌝ }
     requires { ⌜ gates < 2 ^ 62 ⌝ }
-    ensures { λ r. ⌜ r ≡ textOf (sizeLine inputs gates) ⌝ }
+    requires { ⌜ 127 < length (now text) ⌝ }
+    ensures { λ r. ⌜ r ≡ length (sizeLine inputs gates) ⌝ }
+    ensures { λ _. ⌜ now (text .exit) ≡ sets (now (text .entry)) 0 (sizeLine inputs gates) ⌝ }
 {
-    last(field(Text::empty(), gates), inputs + gates)
+    let wires = put_field(gates, b' ', text, 0);
+    put_field(inputs + gates, b'\n', text, wires)
 }
 
 // The second header line.
-fn input_line(d: Dimensions) -> Text
-    ensures { λ r. ⌜ r ≡ textOf (inputLine d) ⌝ }
+fn input_line(d: Dimensions, text: &mut [u8]) -> usize
+    requires { ⌜ 127 < length (now text) ⌝ }
+    ensures { λ r. ⌜ r ≡ length (inputLine d) ⌝ }
+    ensures { λ _. ⌜ now (text .exit) ≡ sets (now (text .entry)) 0 (inputLine d) ⌝ }
 {
     let row = 2 * (d.n as usize);
-    let left = field(Text::empty().append(b"3 "), row * (d.left as usize));
-    let both = field(left, row * (d.right as usize));
-    last(both, d.state_wires())
+    let left = put(b"3 ", text, 0);
+    let right = put_field(row * (d.left as usize), b' ', text, left);
+    let state = put_field(row * (d.right as usize), b' ', text, right);
+    put_field(d.state_wires(), b'\n', text, state)
 }
 
 // The third header line.
-fn output_line(d: Dimensions) -> Text
-    ensures { λ r. ⌜ r ≡ textOf (outputLine d) ⌝ }
+fn output_line(d: Dimensions, text: &mut [u8]) -> usize
+    requires { ⌜ 127 < length (now text) ⌝ }
+    ensures { λ r. ⌜ r ≡ length (outputLine d) ⌝ }
+    ensures { λ _. ⌜ now (text .exit) ≡ sets (now (text .entry)) 0 (outputLine d) ⌝ }
 {
-    field(Text::empty().append(b"2 "), d.state_wires()).append(b"1\n")
+    let state = put(b"2 ", text, 0);
+    let closing = put_field(d.state_wires(), b' ', text, state);
+    put(b"1\n", text, closing)
 }
 
 // The line of the gate of a number, from 0.
-fn gate_text(gates: &[u32], inputs: usize, number: usize) -> Text
+fn gate_text(gates: &[u32], inputs: usize, number: usize, text: &mut [u8]) -> usize
     requires { ⌜ inputs < 2 ^ 62 ⌝ }
     requires { ⌜ number < length (now gates) / 3 ⌝ }
-    ensures { λ r. ⌜ r ≡ textOf (getD (gateLines inputs (Memory.gatesOf (now (gates .entry)))) number []) ⌝ }
+    requires { ⌜ 127 < length (now text) ⌝ }
+    ensures { λ r. ⌜ r ≡ length (getD (gateLines inputs (Memory.gatesOf (now (gates .entry)))) number []) ⌝ }
+    ensures { λ _. ⌜ now (text .exit) ≡ sets (now (text .entry)) 0 (getD (gateLines inputs (Memory.gatesOf (now (gates .entry)))) number []) ⌝ }
 {
     let at = 3 * number;
-    gate_line(gates[at], gates[at + 1], gates[at + 2], inputs + number)
+    gate_line(
+        gates[at],
+        gates[at + 1],
+        gates[at + 2],
+        inputs + number,
+        text,
+    )
 }
 
 // The line of a gate that drives a wire.
-fn gate_line(kind: u32, a: u32, b: u32, wire: usize) -> Text
-    ensures { λ r. ⌜ r ≡ textOf (gateLine wire (Memory.gateOf kind a b)) ⌝ }
+fn gate_line(kind: u32, a: u32, b: u32, wire: usize, text: &mut [u8]) -> usize
+    requires { ⌜ 127 < length (now text) ⌝ }
+    ensures { λ r. ⌜ r ≡ length (gateLine wire (Memory.gateOf kind a b)) ⌝ }
+    ensures { λ _. ⌜ now (text .exit) ≡ sets (now (text .entry)) 0 (gateLine wire (Memory.gateOf kind a b)) ⌝ }
 {
     match kind {
-        0 => two_inputs(a as usize, b as usize, wire, b"XOR"),
-        1 => two_inputs(a as usize, b as usize, wire, b"AND"),
-        _ => field(field(Text::empty().append(b"1 1 "), a as usize), wire).append(b"INV\n"),
+        0 => two_inputs(a as usize, b as usize, wire, b"XOR", text),
+        1 => two_inputs(a as usize, b as usize, wire, b"AND", text),
+        _ => one_input(a as usize, wire, text),
     }
 }
 
 // The line of a gate of two inputs.
-fn two_inputs(a: usize, b: usize, wire: usize, kind: &[u8]) -> Text
+fn two_inputs(a: usize, b: usize, wire: usize, kind: &[u8], text: &mut [u8]) -> usize
     requires { ⌜ length (now kind) ≤ 20 ⌝ }
-    ensures { λ r. ⌜ r ≡ textOf (Lines.line (Spelling.bytes "2" ∷ Spelling.bytes "1" ∷ decimal a ∷ decimal b ∷ decimal wire ∷ now (kind .entry) ∷ [])) ⌝ }
+    requires { ⌜ 127 < length (now text) ⌝ }
+    ensures { λ r. ⌜ r ≡ length (Lines.line (Spelling.bytes "2" ∷ Spelling.bytes "1" ∷ decimal a ∷ decimal b ∷ decimal wire ∷ now (kind .entry) ∷ [])) ⌝ }
+    ensures { λ _. ⌜ now (text .exit) ≡ sets (now (text .entry)) 0 (Lines.line (Spelling.bytes "2" ∷ Spelling.bytes "1" ∷ decimal a ∷ decimal b ∷ decimal wire ∷ now (kind .entry) ∷ [])) ⌝ }
 {
-    let wires = field(field(field(Text::empty().append(b"2 1 "), a), b), wire);
-    wires.append(kind).push(b'\n')
+    let first = put(b"2 1 ", text, 0);
+    let second = put_field(a, b' ', text, first);
+    let output = put_field(b, b' ', text, second);
+    let name = put_field(wire, b' ', text, output);
+    let end = put(kind, text, name);
+    put(b"\n", text, end)
+}
+
+// The line of a gate of one input.
+fn one_input(a: usize, wire: usize, text: &mut [u8]) -> usize
+    requires { ⌜ 127 < length (now text) ⌝ }
+    ensures { λ r. ⌜ r ≡ length (gateLine wire (INV a)) ⌝ }
+    ensures { λ _. ⌜ now (text .exit) ≡ sets (now (text .entry)) 0 (gateLine wire (INV a)) ⌝ }
+{
+    let first = put(b"1 1 ", text, 0);
+    let output = put_field(a, b' ', text, first);
+    let name = put_field(wire, b' ', text, output);
+    put(b"INV\n", text, name)
 }

@@ -1,12 +1,13 @@
--- `gate_line` meets its contract: the kind picks the definition's case, and the appends are the line.
+-- `gate_line` meets its contract: the kind picks the definition's case.
 -- Assumes nothing.
-use mathlib.Core.Path.{sym, ap, _∙_}
+use mathlib.Core.Path.{sym, ap}
 use Prim.Native.Nat.{ℕ}
-use Rattle.text.specs.Texts.{textOf}
+use denote.Ref.{now}
 use Rattle.gates.specs.Gates.{Gate}
+use Rattle.gates.specs.Gates.Gate.{XOR, AND, INV}
 use Rattle.gates.specs.Memory.{gateOf}
 use Rattle.bristol.specs.Lines.{gateLine}
-use Rattle.bristol.proofs.Composing.{one-composed}
+use Rattle.bristol.proofs.Composing.{same-line}
 use Rattle.bristol.proofs.Numbering.{gate-inv}
 use borrow.Author.Needs.{needs}
 use Rattle.bristol.proofs.gate_line.Statement.{statement}
@@ -24,46 +25,39 @@ slice-aggregate-two-inputs-2 c = search needs
 two-inputs-requires-2 : tie.Need-two-inputs-requires-2
 two-inputs-requires-2 c κs = search needs
 
-empty-requires : tie.Need-empty-requires
-empty-requires c κs = search needs
+one-input-requires : tie.Need-one-input-requires
+one-input-requires c κs = search needs
 
-slice-aggregate-append : tie.Need-slice-aggregate-append
-slice-aggregate-append c = search needs
-
-append-requires : tie.Need-append-requires
-append-requires c κs = search needs
-
-field-requires : tie.Need-field-requires
-field-requires c κs = search needs
-
-field-requires-2 : tie.Need-field-requires-2
-field-requires-2 c κs = search needs
-
-slice-aggregate-append-2 : tie.Need-slice-aggregate-append-2
-slice-aggregate-append-2 c = search needs
-
-append-requires-2 : tie.Need-append-requires-2
-append-requires-2 c κs = search needs
+same-length : tie.Need-same-length
+same-length c = search needs
 
 returns : tie.Need-returns
 returns c =
-    let start = c .before .before .before .args in
-    c .two-inputs .ensures ∙ ap (λ (k : ℕ). textOf (gateLine (start .wire) (gateOf k (start .a) (start .b)))) (sym (c .before .before .match .keys1))
+    let call = c .before .before in
+    let start = call .before .before .before .before .before .args in
+    same-line (now (start .text)) _ (gateLine (start .wire) (XOR (start .a) (start .b))) _ _ (call .two-inputs .ensures)
+    (ap (λ (k : ℕ). gateLine (start .wire) (gateOf k (start .a) (start .b))) (sym (call .before .before .before .match .keys1)))
+
+same-length-2 : tie.Need-same-length-2
+same-length-2 c = search needs
 
 returns-2 : tie.Need-returns-2
 returns-2 c =
-    let start = c .before .before .before .args in
-    c .two-inputs2 .ensures ∙ ap (λ (k : ℕ). textOf (gateLine (start .wire) (gateOf k (start .a) (start .b)))) (sym (c .before .before .match .keys2))
+    let call = c .before .before in
+    let start = call .before .before .before .before .before .args in
+    same-line (now (start .text)) _ (gateLine (start .wire) (AND (start .a) (start .b))) _ _ (call .two-inputs2 .ensures)
+    (ap (λ (k : ℕ). gateLine (start .wire) (gateOf k (start .a) (start .b))) (sym (call .before .before .before .match .keys2)))
+
+same-length-3 : tie.Need-same-length-3
+same-length-3 c = search needs
 
 returns-3 : tie.Need-returns-3
 returns-3 c =
-    let wires = c .before .before in
-    let first = wires .before .before in
-    let other = first .before .before .before in
-    let start = other .before .args in
-    one-composed (start .a) (start .wire) (first .before .before .empty .result) (first .append .result) (wires .before .field .result) (wires .field2 .result) (c .append2 .result)
-    (first .before .before .empty .ensures) (first .append .ensures) (wires .before .field .ensures) (wires .field2 .ensures) (c .append2 .ensures)
-    ∙ ap (λ (g : Gate). textOf (gateLine (start .wire) g)) (sym (gate-inv (start .kind) (start .a) (start .b) (other .match .rest .0 .1) (other .match .rest .1)))
+    let call = c .before .before in
+    let other = call .before .before in
+    let start = other .before .before .args in
+    same-line (now (start .text)) _ (gateLine (start .wire) (INV (start .a))) _ _ (call .one-input .ensures)
+    (ap (λ (g : Gate). gateLine (start .wire) g) (sym (gate-inv (start .kind) (start .a) (start .b) (other .match .rest .0 .1) (other .match .rest .1))))
 
 pub gate-line-spec : {M : Type 1} → statement M
 gate-line-spec =
@@ -73,13 +67,10 @@ gate-line-spec =
     two-inputs-requires
     slice-aggregate-two-inputs-2
     two-inputs-requires-2
-    empty-requires
-    slice-aggregate-append
-    append-requires
-    field-requires
-    field-requires-2
-    slice-aggregate-append-2
-    append-requires-2
+    one-input-requires
+    same-length
     returns
+    same-length-2
     returns-2
+    same-length-3
     returns-3)

@@ -1,9 +1,9 @@
 -- `gate_text` meets its contract: three words a gate, and a wire a gate behind the inputs.
 -- Assumes nothing.
-use mathlib.Core.Path.{sym, ap, _∙_}
+use mathlib.Core.Path.{sym}
 use native.Mathlib.Omega.{arith}
 use denote.Ref.{now}
-use Rattle.text.specs.Texts.{textOf}
+use Rattle.bristol.proofs.Composing.{same-line}
 use Rattle.bristol.proofs.Numbering.{gate-line-at}
 use borrow.Author.Needs.{needs}
 use Rattle.bristol.proofs.gate_text.Statement.{statement}
@@ -42,10 +42,14 @@ add-gate-line-3 c = search needs
 gate-line-requires : tie.Need-gate-line-requires
 gate-line-requires c κs = search needs
 
+same-length : tie.Need-same-length
+same-length c = search needs
+
 returns : tie.Need-returns
 returns c =
-    let start = c .before .before .before .before .before .args in
-    c .gate-line .ensures ∙ ap textOf (sym (gate-line-at (start .inputs) (now (start .gates)) (start .number) (omega arith)))
+    let call = c .before .before in
+    let start = call .before .before .before .before .before .before .before .args in
+    same-line (now (start .text)) _ _ _ _ (call .gate-line .ensures) (sym (gate-line-at (start .inputs) (now (start .gates)) (start .number) (omega arith)))
 
 pub gate-text-spec : {M : Type 1} → statement M
 gate-text-spec =
@@ -62,4 +66,5 @@ gate-text-spec =
     shared-slice-read-gate-line-3
     add-gate-line-3
     gate-line-requires
+    same-length
     returns)
