@@ -6,6 +6,7 @@ use Rattle.lexer.specs.Spelling.{bytes}
 use Rattle.text.specs.Decimal.{decimalWithin, decimal}
 use Rattle.tables.specs.declared.Dimensions.{Dimensions}
 use Rattle.gates.specs.Gates.Gate.{XOR, AND, INV}
+use Rattle.bristol.specs.Writing.{fitting}
 use Rattle.bristol.specs.Lines.{inputLine, outputLine, gateLine, gateLines, linesOf, circuitText}
 
 abbrev one : Dimensions
@@ -40,3 +41,12 @@ two-gates = refl
 pub largest : circuitText (record { n = 32; left = 128; right = 128 }) (AND 19554 7 ∷ []) ≡ bytes "1 19556\n3 8192 8192 3171\n2 3171 1\n\n2 1 19554 7 19555 AND\n"
 unfolding circuitText linesOf gateLines flatten decimal decimalWithin
 largest = refl
+
+-- the lines that fit 13 bytes, and those that fit one byte less
+pub two-fit : fitting 13 (linesOf one (XOR 0 1 ∷ INV 13 ∷ [])) ≡ bytes "2 15\n" ∷ bytes "3 2 2 9\n" ∷ []
+unfolding fitting linesOf gateLines decimal decimalWithin
+two-fit = refl
+
+pub one-fits : fitting 12 (linesOf one (XOR 0 1 ∷ INV 13 ∷ [])) ≡ bytes "2 15\n" ∷ []
+unfolding fitting linesOf gateLines decimal decimalWithin
+one-fits = refl

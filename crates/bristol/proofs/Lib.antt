@@ -4,6 +4,7 @@ pub mod Numbering
 pub mod Requests
 pub mod Fitting
 pub mod Filling
+pub mod Answers
 pub mod Joining
 pub mod Examples
 pub mod Injective
