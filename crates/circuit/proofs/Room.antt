@@ -1,8 +1,7 @@
--- What the program slices is there: a refusal's line within its text, a generated circuit within the words, a line within the bytes. By cases on the
--- checks.
+-- What the program slices is there: a refusal's line within its text, a generated circuit within the words. By cases on the checks.
 -- Assumes nothing.
-use mathlib.Core.Path.{_≡_, refl, ap, sym}
-use mathlib.Core.Bool.{Bool, true, false, _||_, cond}
+use mathlib.Core.Path.{_≡_, refl, ap}
+use mathlib.Core.Bool.{_||_}
 use mathlib.Core.List.{List}
 use Prim.Native.Nat.{ℕ, _*_, _≤_, zero-le}
 use native.Mathlib.Omega.{arith}
@@ -21,7 +20,7 @@ use Rattle.text.specs.declared.Text.{Text}
 use Rattle.text.specs.Texts.{textOf}
 use Rattle.text.proofs.Appending.{text-within}
 use Rattle.lines.specs.Answers.{refusedLine}
-use Rattle.gates.specs.Memory.{gatesOf, wordsOf}
+use Rattle.gates.specs.Memory.{wordsOf}
 use Rattle.gates.specs.Evaluation.{over}
 use Rattle.gates.proofs.InMemory.{words-length}
 use Rattle.generator.specs.declared.Generated.{Generated}
@@ -30,11 +29,6 @@ use Rattle.generator.specs.Generation as Generation
 use Rattle.generator.specs.Generation.{generatorChecks, generated}
 use Rattle.netlist.specs.Netlist.{gatesOn}
 use Rattle.netlist.proofs.Counts.{gates-length}
-use Rattle.bristol.specs.declared.Written.{Written}
-use Rattle.bristol.specs.declared.Written.the-variants as written′
-use Rattle.bristol.specs.Lines.{linesOf}
-use Rattle.bristol.specs.Writing.{checks, lineAt, written}
-use Rattle.bristol.proofs.Numbering.{lines-length}
 
 pub refused-within : (r : Refusal) (t : Text) → t ≡ textOf (refusedLine r) → t .length ≤ length (t .bytes)
 refused-within r t e = text-within t (refusedLine r) e
@@ -62,17 +56,3 @@ generated-words d words left k e w = omega (arith, ap countOf e, ap length w, go
     go : (o : Outcome) → 3 * countOf (given o (generated′.Of (length (gatesOn d))) generated′.Refused) ≤ length (given o (over (wordsOf (gatesOn d)) words) (λ r. words))
     go Taken = omega (arith, words-length (gatesOn d), length-append (wordsOf (gatesOn d)) (drop (length (wordsOf (gatesOn d))) words))
     go (Not r) = zero-le
-
-lengthOf : Written → ℕ
-lengthOf (written′.Line k) = k
-lengthOf written′.Past = 0
-lengthOf (written′.Refused r) = 0
-
-pub line-short : (d : Dimensions) (words : List ℕ) (i : ℕ) (lent : List ℕ) (k : ℕ) → written d words i lent ≡ written′.Line k → k ≤ 127
-unfolding lengthOf
-line-short d words i lent k e = omega (arith, ap lengthOf e, go (outcome (checks d words i lent)) (ltb i (length (linesOf d (gatesOf words)))))
-  where
-    go : (o : Outcome) (b : Bool) → lengthOf (given o (cond b (written′.Line (length (lineAt d words i))) written′.Past) written′.Refused) ≤ 127
-    go Taken true = lines-length d (gatesOf words) i
-    go Taken false = zero-le
-    go (Not r) b = zero-le

@@ -1,5 +1,5 @@
 // The circuit program: reads n and the two row counts on standard input, and prints the text of their circuit, or the refusal alone.
-use bristol::Written;
+use bristol::WrittenLines;
 use generator::Generated;
 use libc::STDIN_FILENO;
 use libc::STDOUT_FILENO;
@@ -32,16 +32,17 @@ fn print_refusal(refusal: Refusal) {
     io::write_all(STDOUT_FILENO, &bytes[..length]);
 }
 
-// Prints the lines of the circuit's text in order.
+// Prints the circuit's text, whole lines at a time.
 fn print_text(d: Dimensions, gates: &[u32]) {
-    let mut bytes = [0u8; 256];
+    let mut bytes = [0u8; 4096];
     let mut line = 0;
     while line < 4 + gates.len() / 3 {
-        let Written::Line(length) = bristol::write_line(d, gates, line, &mut bytes) else {
+        let WrittenLines::Lines(lines, length) = bristol::write_lines(d, gates, line, &mut bytes)
+        else {
             return;
         };
         io::write_all(STDOUT_FILENO, &bytes[..length]);
-        line += 1;
+        line += lines;
     }
 }
 

@@ -1,6 +1,5 @@
 -- `put_field` meets its contract: a byte behind the digits is stored with them.
 -- Assumes nothing.
-use Prim.Native.Nat.{ℕ}
 use native.Mathlib.Omega.{arith}
 use denote.Ref.{now}
 use Rattle.text.specs.Decimal.{decimal}

@@ -1,8 +1,8 @@
 -- `put_lines` meets its contract. The loop's invariant, `Put`: the lines that are put, and those that still fit behind them, are those that fit from
 -- the first on. The measure is the number of lines to come.
 -- Assumes nothing.
-use mathlib.Core.Path.{_≡_, refl, sym, ap, _∙_}
-use Prim.Native.Nat.{ℕ, _+_, _-_, _/_, _≤_, _<_}
+use mathlib.Core.Path.{_≡_, ap, _∙_}
+use Prim.Native.Nat.{_+_, _-_, _/_}
 use native.Mathlib.Omega.{arith}
 use denote.Ref.{now}
 use mathlib.Core.List.{[]}
