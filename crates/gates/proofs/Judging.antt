@@ -3,14 +3,14 @@
 use mathlib.Core.Path.{_≡_, refl, ap, sym, _∙_}
 use mathlib.Core.Bool.{Bool, true, false, _&&_, cond}
 use mathlib.Core.List.{List, [], _∷_}
-use Prim.Native.Nat.{ℕ, zero, suc, _+_, _%_, _^_, _≤_, _<_}
+use Prim.Native.Nat.{ℕ, zero, suc, _+_, _*_, _%_, _^_, _≤_, _<_}
 use native.Mathlib.Numerals.{add-one}
 use native.Mathlib.Omega.{arith}
-use borrow.Author.Tests.{ltb-true, lt-ltb, eqb-true}
-use lib.Dec.{ltb, eqb, leb·suc-suc, leb·suc-zero, eqb·suc-zero}
+use borrow.Author.Tests.{ltb-true, lt-ltb, le-ltb, le-leb, lt-leb, eqb-true, ne-eqb}
+use lib.Dec.{ltb, leb, eqb}
 use lib.ListN.{length, getD, drop}
 use lib.Seq.{drop-cons}
-use Rattle.words.proofs.Truth.{and-l, and-r, on}
+use Rattle.words.proofs.Truth.{and-l, and-r, and-false, on}
 use Rattle.gates.specs.Memory.{drives, accepted, bits}
 use Rattle.gates.proofs.InMemory.{accepted-length}
 
@@ -33,9 +33,28 @@ accepted-far m n (k ∷ (a ∷ (b ∷ ws))) hm hn h =
       accepted-far (suc m) (suc n) ws (omega arith) (omega arith) (λ i. h (suc (suc (suc i)))),
     )
 
-pub below-one : (b : ℕ) → ltb b 1 ≡ eqb b 0
-below-one zero = refl
-below-one (suc b) = leb·suc-suc (suc b) 0 ∙ leb·suc-zero b ∙ sym (eqb·suc-zero b)
+-- a gate whose first word, or whose second, names no earlier wire
+pub first-late : (m k a b : ℕ) → m ≤ a → drives m k a b ≡ false
+first-late m k a b h = rw (le-ltb a m h) (and-false (ltb k 3))
+
+pub second-late : (m k a b : ℕ) → a < m → m ≤ b → drives m k a b ≡ false
+second-late m k a b h l = rw (lt-ltb a m h, le-ltb b m l, ne-eqb b 0 (λ e. omega arith)) (ap (λ (t : Bool). ltb k 3 && t) (go (eqb k 2)) ∙ and-false (ltb k 3))
+  where
+    go : (t : Bool) → cond t false false ≡ false
+    go true = refl
+    go false = refl
+
+-- kind and second word as one number: where both words name earlier wires, it says all that is left to judge
+pub as-one : (m k a b : ℕ) → a < m → b < m → b < 2 ^ 32 → leb (k * 4294967296 + b) 8589934592 ≡ drives m k a b
+as-one m zero a b h l u = rw (lt-ltb a m h, lt-ltb b m l) (le-leb (0 * 4294967296 + b) 8589934592 (omega arith))
+as-one m (suc zero) a b h l u = rw (lt-ltb a m h, lt-ltb b m l) (le-leb (1 * 4294967296 + b) 8589934592 (omega arith))
+as-one m (suc (suc zero)) a b h l u = rw (lt-ltb a m h) (go b)
+  where
+    go : (b : ℕ) → leb (8589934592 + b) 8589934592 ≡ eqb b 0
+    go zero = refl
+    go (suc b) = lt-leb (8589934592 + suc b) 8589934592 (omega arith) ∙ sym (ne-eqb (suc b) 0 (λ e. omega arith))
+as-one m (suc (suc (suc k))) a b h l u =
+    rw (le-ltb (suc (suc (suc k))) 3 (omega arith)) (lt-leb (suc (suc (suc k)) * 4294967296 + b) 8589934592 (omega arith))
 
 -- the three words at i, and the rest
 pub drop-three : (g : List ℕ) (i : ℕ) → i + 3 ≤ length g → drop i g ≡ getD g i 0 ∷ (getD g (i + 1) 0 ∷ (getD g (i + 2) 0 ∷ drop (i + 3) g))

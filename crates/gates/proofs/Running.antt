@@ -1,24 +1,23 @@
 -- What the evaluator's loop goes by: the values so far, with the gates that are left, give what the whole gives.
 -- Assumes nothing.
 use mathlib.Core.Path.{_≡_, refl, ap, ap₂, sym, _∙_}
-use mathlib.Core.Bool.{Bool, true, false, not, _&&_}
+use mathlib.Core.Bool.{Bool, true, false, not, _&&_, cond, false≢true}
 use mathlib.Core.List.{List, [], _∷_, _++_, map-append}
 use Prim.Native.Nat.{ℕ, zero, suc, _+_, _*_, _/_, _%_, _^_, _≤_, _<_}
 use native.Mathlib.Numerals.{add-one}
 use native.Mathlib.Omega.{arith}
-use borrow.Author.Tests.{eqb-true}
-use lib.Bits.{bitAnd, and-mask}
+use borrow.Author.Tests.{eqb-true, eqb-false}
 use lib.Dec.{eqb}
 use lib.ListN.{length, getD, take, drop, set, length-drop, length-set, length-map, drop-of-length-le, take-append-drop, List·getD-map}
 use lib.Seq.{take-length, take-append-seam, drop-append-add, drop-drop, getD-take, take-suc-set, drop-set-lt, length-take-le}
 use Rattle.words.specs.Booleans.{digit, _⊕_}
 use Rattle.words.specs.Sets.{all}
-use Rattle.words.proofs.Truth.{and-l, and-r}
+use Rattle.words.proofs.Truth.{on}
 use Rattle.words.proofs.Upto.{all-e}
 use Rattle.gates.specs.Gates.{Gate, wire, value, wiresOf}
-use Rattle.gates.specs.Memory.{gateOf, gatesOf, drives, accepted, bytesOf, bitsOf, bits}
+use Rattle.gates.specs.Memory.{table, gateOf, gatesOf, drives, accepted, bytesOf, bitsOf, bits}
 use Rattle.gates.specs.Evaluation.{over}
-use Rattle.gates.proofs.Judging.{drop-three, accepted-at, drives-below}
+use Rattle.gates.proofs.Judging.{drop-three, accepted-at, accepted-uneven, drives-below}
 use Rattle.gates.proofs.Circuits.{wires-length}
 use Rattle.gates.proofs.InMemory.{accepted-length, bytesOf-bitsOf}
 
@@ -40,24 +39,25 @@ value-read w k a b x y ex ey = go k (ap (λ (v : ℕ). eqb v 1) ex ∙ bit-digit
     go (suc zero) p q = ap₂ (λ (s t : Bool). s && t) p q
     go (suc (suc k)) p q = ap not p
 
-pub and-one : (x : ℕ) → bitAnd x 1 ≡ x % 2
-and-one x = and-mask x 1
+-- entry 2 × (2k + a) + b is the value of a gate of kind k on wires a and b
+abbrev shows : List ℕ → ℕ → ℕ → ℕ → Bool
+shows values k a b = eqb (getD values (2 * (2 * k + a) + b) 0) (digit (value (bitsOf (a ∷ (b ∷ []))) (gateOf k 0 1)))
 
--- bit 4k + 2a + b of the table is the value of a gate of kind k on wires a and b
-abbrev shows : ℕ → ℕ → ℕ → ℕ → Bool
-shows table k a b = eqb (bitAnd (table / 2 ^ (4 * k + 2 * a + b)) 1) (digit (value (bitsOf (a ∷ (b ∷ []))) (gateOf k 0 1)))
+-- the table shows the value of each kind on each pair of wires
+unfoldable right : List ℕ → Bool
+right values = all (λ k. all (λ a. all (λ b. shows values k a b) 2) 2) 3
 
--- a table that shows the value of each kind on each pair of wires
-unfoldable pub right : ℕ → Bool
-right table = all (λ k. all (λ a. all (λ b. shows table k a b) 2) 2) 3
+table-right : right table ≡ true
+unfolding right all
+table-right = refl
 
-pub right-at : (table k a b : ℕ) → right table ≡ true → k < 3 → a < 2 → b < 2
-    → bitAnd (table / 2 ^ (4 * k + 2 * a + b)) 1 ≡ digit (value (bitsOf (a ∷ (b ∷ []))) (gateOf k 0 1))
+pub table-at : (k a b : ℕ) → k < 3 → a < 2 → b < 2
+    → getD table (2 * (2 * k + a) + b) 0 ≡ digit (value (bitsOf (a ∷ (b ∷ []))) (gateOf k 0 1))
 unfolding right
-right-at table k a b t hk ha hb =
+table-at k a b hk ha hb =
     eqb-true _ _
     (all-e (λ y. shows table k a y) 2
-    (all-e (λ x. all (λ y. shows table k x y) 2) 2 (all-e (λ j. all (λ x. all (λ y. shows table j x y) 2) 2) 3 t k hk) a ha) b hb)
+    (all-e (λ x. all (λ y. shows table k x y) 2) 2 (all-e (λ j. all (λ x. all (λ y. shows table j x y) 2) 2) 3 table-right k hk) a ha) b hb)
 
 -- the gate of the three words at i, and the rest
 wires-at : (g : List ℕ) (i : ℕ) → i + 3 ≤ length g → (w : List Bool)
@@ -66,9 +66,10 @@ wires-at : (g : List ℕ) (i : ℕ) → i + 3 ≤ length g → (w : List Bool)
 unfolding wiresOf gatesOf
 wires-at g i h w = ap (λ (l : List ℕ). wiresOf w (gatesOf l)) (drop-three g i h)
 
--- what the evaluator's loop keeps, at word i and wire m: the values so far stand at the front, and with the gates that are left they give all
+-- what the evaluator's loops keep, at word i and wire m: the values so far stand at the front, and with the gates that are left they give all;
+-- the gates that are left are judged as all are
 pub record Run (g w₀ : List ℕ) (n : ℕ) (w : List ℕ) (i m : ℕ) : Type 0 where
-  pub good : accepted m (drop i g) ≡ true
+  pub judged : accepted m (drop i g) ≡ accepted n g
   pub values : List Bool
   pub front : take m w ≡ bytesOf values
   pub same : wiresOf values (gatesOf (drop i g)) ≡ wiresOf (bitsOf (take n w₀)) (gatesOf g)
@@ -77,9 +78,9 @@ pub record Run (g w₀ : List ℕ) (n : ℕ) (w : List ℕ) (i m : ℕ) : Type 0
   pub step : 3 * m ≡ 3 * n + i
   pub upto : i ≤ length g
 
-pub start : (g w : List ℕ) (n : ℕ) → accepted n g ≡ true → bits (take n w) ≡ true → Run g w n w 0 n
-start g w n e b = record {
-  good = e;
+pub start : (g w : List ℕ) (n : ℕ) → bits (take n w) ≡ true → Run g w n w 0 n
+start g w n b = record {
+  judged = refl;
   values = bitsOf (take n w);
   front = sym (bytesOf-bitsOf (take n w) b);
   same = refl;
@@ -90,30 +91,24 @@ start g w n e b = record {
 }
 
 module _ (g w₀ : List ℕ) (n : ℕ) (w : List ℕ) (i m : ℕ) (r : Run g w₀ n w i m) (room : n + length g / 3 ≤ length w₀) where
-  -- three words for each gate that is left
-  left : length g ≡ i + 3 * length (gatesOf (drop i g))
-  left = omega (arith, accepted-length m (drop i g) (r .good), length-drop i g, r .upto)
-
-  pub more : m < n + length g / 3 → i < length g
-  more h = omega (arith, r .step)
-
-  pub all-run : n + length g / 3 ≤ m → length g ≤ i
-  all-run h = omega (arith, left, r .step)
-
-  pub whole : i < length g → i + 3 ≤ length g
-  whole h = omega (arith, left)
+  pub whole : m < n + length g / 3 → i + 3 ≤ length g
+  whole h = omega (arith, r .step)
 
   pub fits : m ≤ length w
-  fits = omega (arith, left, r .step, r .size)
+  fits = omega (arith, r .step, r .upto, r .size)
 
-  pub fits-next : i < length g → m < length w
-  fits-next h = omega (arith, left, r .step, r .size)
+  pub fits-next : m < n + length g / 3 → m < length w
+  fits-next h = omega (arith, r .size)
 
-  judged : (h : i < length g) → drives m (getD g i 0) (getD g (i + 1) 0) (getD g (i + 2) 0) && accepted (m + 1) (drop (i + 3) g) ≡ true
-  judged h = sym (accepted-at g i (whole h) m) ∙ r .good
+  -- what the whole comes to, by the gate at i and by what is left behind it
+  pub judged-at : m < n + length g / 3
+      → accepted n g ≡ drives m (getD g i 0) (getD g (i + 1) 0) (getD g (i + 2) 0) && accepted (m + 1) (drop (i + 3) g)
+  judged-at h = sym (r .judged) ∙ accepted-at g i (whole h) m
 
-  pub below : i < length g → (getD g i 0 < 3) × (getD g (i + 1) 0 < m) × (getD g (i + 2) 0 < m)
-  below h = drives-below m (getD g i 0) (getD g (i + 1) 0) (getD g (i + 2) 0) (and-l _ _ (judged h))
+  -- whole gates that all ran were accepted
+  pub all-good : length g ≤ i → accepted n g ≡ true
+  unfolding accepted
+  all-good h = sym (r .judged) ∙ ap (λ (l : List ℕ). accepted m l) (drop-of-length-le g h)
 
   read : (a : ℕ) → a < m → getD w a 0 ≡ digit (wire (r .values) a)
   read a h = sym (getD-take m w a 0 h) ∙ ap (λ (l : List ℕ). getD l a 0) (r .front) ∙ List·getD-map digit (r .values) a false
@@ -121,17 +116,19 @@ module _ (g w₀ : List ℕ) (n : ℕ) (w : List ℕ) (i m : ℕ) (r : Run g w�
   pub read-bit : (a : ℕ) → a < m → getD w a 0 < 2
   read-bit a h = omega (arith, read a h, digit-lt (wire (r .values) a))
 
-  pub again : (v : ℕ) → i < length g
+  -- a gate that may drive its wire, and its value at that wire
+  pub again : (v : ℕ) → m < n + length g / 3 → drives m (getD g i 0) (getD g (i + 1) 0) (getD g (i + 2) 0) ≡ true
       → v ≡ digit (value (bitsOf (getD w (getD g (i + 1) 0) 0 ∷ (getD w (getD g (i + 2) 0) 0 ∷ []))) (gateOf (getD g i 0) 0 1))
       → Run g w₀ n (set w m v) (i + 3) (m + 1)
-  again v h e =
+  again v h d e =
       let k = getD g i 0 in
       let a = getD g (i + 1) 0 in
       let b = getD g (i + 2) 0 in
+      let below = drives-below m k a b d in
       let u : Bool = value (r .values) (gateOf k a b) in
-      let e′ : v ≡ digit u = e ∙ ap digit (value-read (r .values) k a b _ _ (read a (below h .1)) (read b (below h .2))) in
+      let e′ : v ≡ digit u = e ∙ ap digit (value-read (r .values) k a b _ _ (read a (below .1)) (read b (below .2))) in
       record {
-        good = and-r (drives m k a b) _ (judged h);
+        judged = sym (judged-at h ∙ ap (λ (t : Bool). t && accepted (m + 1) (drop (i + 3) g)) d);
         values = r .values ++ (u ∷ []);
         front =
             ap (λ (j : ℕ). take j (set w m v)) (add-one m) ∙ take-suc-set w m v (fits-next h)
@@ -155,6 +152,18 @@ module _ (g w₀ : List ℕ) (n : ℕ) (w : List ℕ) (i m : ℕ) (r : Run g w�
       ∙ ap₂ (λ (x y : List ℕ). x ++ y) (r .front) (r .rest ∙ ap (λ (k : ℕ). drop k w₀) q)
       ∙ ap (λ (l : List Bool). over (bytesOf l) w₀) e
 
+  -- all gates of accepted words ran
+  pub filled-good : accepted n g ≡ true → n + length g / 3 ≤ m → w ≡ over (bytesOf (wiresOf (bitsOf (take n w₀)) (gatesOf g))) w₀
+  filled-good e h = done (omega (arith, r .step, accepted-length n g e))
+
+  -- all gates ran: the words were accepted where they are whole gates, and then the buffer is filled
+  pub ended : n + length g / 3 ≤ m
+      → let F = over (bytesOf (wiresOf (bitsOf (take n w₀)) (gatesOf g))) w₀ in
+      (eqb (length g % 3) 0 ≡ accepted n g) × (cond (eqb (length g % 3) 0) w [] ≡ cond (eqb (length g % 3) 0) F [])
+  ended h = on (eqb (length g % 3) 0)
+      (λ t. let q : length g ≤ i = omega (arith, r .step, eqb-true (length g % 3) 0 t) in rw t (sym (all-good q), done q))
+      (λ t. rw t (sym (accepted-uneven n g (eqb-false (length g % 3) 0 t)), refl))
+
 -- a buffer to whose front the inputs were copied
 module _ (s w w₁ : List ℕ) (e : w₁ ≡ take (length s) s ++ drop (length s) w) where
   inputs-first : w₁ ≡ s ++ drop (length s) w
@@ -163,13 +172,17 @@ module _ (s w w₁ : List ℕ) (e : w₁ ≡ take (length s) s ++ drop (length s
   pub copied : take (length s) w₁ ≡ s
   copied = ap (λ (l : List ℕ). take (length s) l) inputs-first ∙ take-append-seam s (drop (length s) w)
 
+  -- a byte for each input and each gate
+  filled-length : (gs : List Gate) → length (bytesOf (wiresOf (bitsOf s) gs)) ≡ length s + length gs
+  filled-length gs =
+      length-map (wiresOf (bitsOf s) gs) digit ∙ wires-length (bitsOf s) gs ∙ ap (λ (k : ℕ). k + length gs) (length-map s (λ x. eqb x 1))
+
   -- what the gates' values are written over is what stood there before
   pub written : (gs : List Gate) (w₂ : List ℕ) → w₂ ≡ over (bytesOf (wiresOf (bitsOf (take (length s) w₁)) gs)) w₁
       → w₂ ≡ over (bytesOf (wiresOf (bitsOf s) gs)) w
   written gs w₂ f =
       let F = bytesOf (wiresOf (bitsOf s) gs) in
-      let q : length F ≡ length s + length gs =
-      length-map (wiresOf (bitsOf s) gs) digit ∙ wires-length (bitsOf s) gs ∙ ap (λ (k : ℕ). k + length gs) (length-map s (λ x. eqb x 1)) in
+      let q : length F ≡ length s + length gs = filled-length gs in
       f
       ∙ ap (λ (l : List ℕ). over (bytesOf (wiresOf (bitsOf l) gs)) w₁) copied
       ∙ ap (λ (l : List ℕ). F ++ l)
@@ -177,3 +190,24 @@ module _ (s w w₁ : List ℕ) (e : w₁ ≡ take (length s) s ++ drop (length s
       ∙ drop-append-add s (drop (length s) w) (length gs)
       ∙ drop-drop (length gs) (length s) w
       ∙ ap (λ (k : ℕ). drop k w) (sym q))
+
+  -- what a trial filled, its front copied elsewhere
+  pub copied-out : (g : List ℕ) → accepted (length s) g ≡ true → (v : List ℕ)
+      → v ≡ over (bytesOf (wiresOf (bitsOf (take (length s) w₁)) (gatesOf g))) w₁
+      → (x w₂ : List ℕ) → (let t = take (length s + length g / 3) v in w₂ ≡ take (length t) t ++ drop (length t) x)
+      → w₂ ≡ over (bytesOf (wiresOf (bitsOf s) (gatesOf g))) x
+  copied-out g a v h x w₂ f =
+      let F = bytesOf (wiresOf (bitsOf s) (gatesOf g)) in
+      let q : length s + length g / 3 ≡ length F = omega (arith, accepted-length (length s) g a, filled-length (gatesOf g)) in
+      let t : take (length s + length g / 3) v ≡ F =
+      ap (λ (k : ℕ). take k v) q
+      ∙ ap (λ (l : List ℕ). take (length F) l) (h ∙ ap (λ (l : List ℕ). over (bytesOf (wiresOf (bitsOf l) (gatesOf g))) w₁) copied)
+      ∙ take-append-seam F (drop (length F) w₁) in
+      f
+      ∙ ap (λ (l : List ℕ). take (length l) l ++ drop (length l) x) t
+      ∙ ap (λ (l : List ℕ). l ++ drop (length F) x) (take-length F)
+
+-- a list that is given only where the test holds
+pub given-so : (t : Bool) (x y : List ℕ) → t ≡ true → cond t x [] ≡ cond t y [] → x ≡ y
+given-so true x y e h = h
+given-so false x y e h = absurd (false≢true e)

@@ -1,12 +1,13 @@
 // Gates in memory and the evaluator of circuits (document 01, "Circuit"). Turned back: 9, then 10.
 ghost use mathlib.Core.Path.{_≡_};
-ghost use mathlib.Core.Bool.{true};
+ghost use mathlib.Core.Bool.{true, cond};
 ghost use mathlib.Core.List.{[], _∷_};
 ghost use Prim.Native.Nat.{_+_, _/_, _≤_, _<_};
 ghost use lib.ListN.{length, take};
 ghost use Rattle.refusals.specs.Checks.{outcome};
 ghost use Rattle.words.specs.Booleans.{digit};
 ghost use Rattle.gates.specs.Gates.{value, wiresOf};
+ghost use Rattle.gates.specs.Memory.{table};
 ghost use Rattle.gates.specs.Memory as Memory;
 ghost use Rattle.gates.specs.Evaluation.{checks, filled, over};
 use refusals::Outcome;
@@ -25,6 +26,40 @@ pub fn accepted(gates: &[u32], inputs: usize) -> bool
 
 // Fills the front of the wires with the inputs and then each gate's value; later bytes stay as they are. Refused, it changes no byte.
 pub fn evaluate(gates: &[u32], inputs: &[u8], wires: &mut [u8]) -> Outcome
+    ensures { λ r. ⌜ r ≡ outcome (checks (now (gates .entry)) (now (inputs .entry)) (now (wires .entry))) ⌝ }
+    ensures { λ _. ⌜ now (wires .exit) ≡ filled (now (gates .entry)) (now (inputs .entry)) (now (wires .entry)) ⌝ }
+{
+    let end = inputs.len() + gates.len() / 3;
+    // For few wires the array of a trial costs more than a second pass, and more than 2^18 do not fit in it.
+    if end < 8192 || 262144 < end || !bits(inputs) {
+        return judge_first(gates, inputs, wires);
+    }
+    try_out(gates, inputs, wires)
+}
+
+// Evaluates in an array of its own, judging each gate in passing, then copies: the gates are read once.
+fn try_out(gates: &[u32], inputs: &[u8], wires: &mut [u8]) -> Outcome
+    requires { ⌜ length (now inputs) + length (now gates) / 3 ≤ 262144 ⌝ }
+    requires { ⌜ Memory.bits (now inputs) ≡ true ⌝ }
+    ensures { λ r. ⌜ r ≡ outcome (checks (now (gates .entry)) (now (inputs .entry)) (now (wires .entry))) ⌝ }
+    ensures { λ _. ⌜ now (wires .exit) ≡ filled (now (gates .entry)) (now (inputs .entry)) (now (wires .entry)) ⌝ }
+{
+    let n = inputs.len();
+    let end = n + gates.len() / 3;
+    let mut own = [0u8; 262144];
+    bytes::copy(inputs, &mut own);
+    if !trial(gates, &mut own, n) {
+        return Outcome::Refused(Refusal::Gates);
+    }
+    if wires.len() < end {
+        return Outcome::Refused(Refusal::Wires);
+    }
+    bytes::copy(&own[..end], wires);
+    Outcome::Taken
+}
+
+// Judges all gates, then evaluates in place.
+fn judge_first(gates: &[u32], inputs: &[u8], wires: &mut [u8]) -> Outcome
     ensures { λ r. ⌜ r ≡ outcome (checks (now (gates .entry)) (now (inputs .entry)) (now (wires .entry))) ⌝ }
     ensures { λ _. ⌜ now (wires .exit) ≡ filled (now (gates .entry)) (now (inputs .entry)) (now (wires .entry)) ⌝ }
 {
@@ -51,18 +86,17 @@ fn wide(x: u32) -> usize
 }
 
 // Whether three words are a gate that may drive wire m.
-fn drives(kind: u32, a: usize, b: usize, m: usize) -> bool
+fn drives(kind: u32, a: u32, b: u32, m: usize) -> bool
     ensures { λ r. ⌜ r ≡ Memory.drives m kind a b ⌝ }
 {
-    if 2 < kind {
+    if m <= wide(a) {
         return false;
     }
-    if m <= a {
+    if m <= wide(b) {
         return false;
     }
-    // 0 is what is below 1. To choose the bound takes no jump, to choose the test would.
-    let bound = if kind == 2 { 1 } else { m };
-    b < bound
+    // Kind and second word, as one number: a known kind, and 0 behind INV. To choose between tests would take a jump more.
+    wide(kind) * 4294967296 + wide(b) <= 8589934592
 }
 
 // Whether words are gates behind n wires.
@@ -77,8 +111,8 @@ fn judge(gates: &[u32], n: usize) -> bool
     let mut m = n;
     while i < gates.len() {
         let kind = gates[i];
-        let a = wide(gates[i + 1]);
-        let b = wide(gates[i + 2]);
+        let a = gates[i + 1];
+        let b = gates[i + 2];
         if !drives(kind, a, b, m) {
             return false;
         }
@@ -102,17 +136,44 @@ fn bits(bytes: &[u8]) -> bool
     true
 }
 
-// Four bits a kind, INV, AND, XOR: bit 2a + b is the value on wires a and b.
-const VALUES: u32 = 0b0011_1000_0110;
+// The values of XOR, AND and INV: four each, on wires 00, 01, 10 and 11.
+const VALUES: [u8; 12] = [0, 1, 1, 0, 0, 0, 0, 1, 1, 1, 0, 0];
 
-// The value of a gate of this kind on two wires. It is shifted out of a table: jumps on the kind would be mispredicted.
-fn gate_value(kind: u32, a: u8, b: u8) -> u8
+// The value of a gate of this kind on two wires. It is looked up: jumps on the kind would be mispredicted.
+fn gate_value(values: &[u8; 12], kind: u32, a: u8, b: u8) -> u8
+    requires { ⌜ now values ≡ table ⌝ }
     requires { ⌜ kind < 3 ⌝ }
     requires { ⌜ (a < 2) × (b < 2) ⌝ }
     ensures { λ r. ⌜ r ≡ digit (value (Memory.bitsOf (a ∷ (b ∷ []))) (Memory.gateOf kind 0 1)) ⌝ }
 {
-    let at = 4 * kind + 2 * (a as u32) + (b as u32);
-    ((VALUES >> at) & 1) as u8
+    let at = 2 * (2 * wide(kind) + (a as usize)) + (b as usize);
+    values[at]
+}
+
+// Whether the words are gates behind the first n wires; if so, runs them.
+fn trial(gates: &[u32], wires: &mut [u8], n: usize) -> bool
+    requires { ⌜ n + length (now gates) / 3 ≤ length (now wires) ⌝ }
+    requires { ⌜ Memory.bits (take n (now wires)) ≡ true ⌝ }
+    ensures { λ r. ⌜ r ≡ Memory.accepted n (now (gates .entry)) ⌝ }
+    ensures { λ r. ⌜ cond r (now (wires .exit)) [] ≡ cond r (over (Memory.bytesOf (wiresOf (Memory.bitsOf (take n (now (wires .entry)))) (Memory.gatesOf (now (gates .entry))))) (now (wires .entry))) [] ⌝ }
+{
+    let values = VALUES;
+    let end = n + gates.len() / 3;
+    let mut i = 0;
+    let mut m = n;
+    while m < end {
+        let kind = gates[i];
+        let a = gates[i + 1];
+        let b = gates[i + 2];
+        if !drives(kind, a, b, m) {
+            return false;
+        }
+        let v = gate_value(&values, kind, wires[wide(a)], wires[wide(b)]);
+        wires[m] = v;
+        i += 3;
+        m += 1;
+    }
+    gates.len() % 3 == 0
 }
 
 // Runs accepted gates behind the first n wires.
@@ -122,6 +183,7 @@ fn run(gates: &[u32], wires: &mut [u8], n: usize)
     requires { ⌜ Memory.bits (take n (now wires)) ≡ true ⌝ }
     ensures { λ _. ⌜ now (wires .exit) ≡ over (Memory.bytesOf (wiresOf (Memory.bitsOf (take n (now (wires .entry)))) (Memory.gatesOf (now (gates .entry))))) (now (wires .entry)) ⌝ }
 {
+    let values = VALUES;
     let end = n + gates.len() / 3;
     let mut i = 0;
     let mut m = n;
@@ -129,7 +191,7 @@ fn run(gates: &[u32], wires: &mut [u8], n: usize)
         let kind = gates[i];
         let a = wide(gates[i + 1]);
         let b = wide(gates[i + 2]);
-        let v = gate_value(kind, wires[a], wires[b]);
+        let v = gate_value(&values, kind, wires[a], wires[b]);
         wires[m] = v;
         i += 3;
         m += 1;

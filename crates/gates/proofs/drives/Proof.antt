@@ -1,37 +1,58 @@
--- `drives` meets its contract: each return rewrites with the tests that led there.
+-- `drives` meets its contract: each return cites the law of the tests that led there.
 -- Assumes nothing.
-use mathlib.Core.Path.{_∙_, ap}
-use mathlib.Core.Logic.{⊎-elim}
-use Prim.Native.Nat.{ℕ, _≤_, _<_}
+use borrow.Author.Needs.{needs}
+use mathlib.Core.Path.{sym}
 use native.Mathlib.Omega.{arith}
-use borrow.Author.Tests.{lt-ltb, le-ltb, eq-eqb, ne-eqb}
-use lib.Dec.{ltb}
-use Rattle.gates.proofs.Judging.{below-one}
+use Rattle.gates.proofs.Judging.{first-late, second-late, as-one}
 use Rattle.gates.proofs.drives.Statement.{statement}
 use Rattle.gates.proofs.drives.Tie as tie
 
+wide-requires : tie.Need-wide-requires
+wide-requires c κs = search needs
+
 returns : tie.Need-returns
 returns c =
-    let h : 3 ≤ c .before .args .kind = omega arith in
-    simp (le-ltb _ _ h)
+    let s = c .before .before .args in
+    sym (first-late (s .m) (s .kind) (s .a) (s .b) (omega (arith, c .before .wide .ensures)))
+
+wide-requires-2 : tie.Need-wide-requires-2
+wide-requires-2 c κs = search needs
 
 returns-2 : tie.Need-returns-2
 returns-2 c =
-    let s = c .before .before in
-    let h : s .args .kind < 3 = omega arith in
-    let k : s .args .m ≤ s .args .a = omega arith in
-    simp (lt-ltb _ _ h, le-ltb _ _ k)
+    let w = c .before .before .before in
+    let s = w .before .args in
+    sym (second-late (s .m) (s .kind) (s .a) (s .b) (omega (arith, w .wide .ensures)) (omega (arith, c .before .wide2 .ensures)))
+
+wide-requires-3 : tie.Need-wide-requires-3
+wide-requires-3 c κs = search needs
+
+mul-result : tie.Need-mul-result
+mul-result c = search needs
+
+wide-requires-4 : tie.Need-wide-requires-4
+wide-requires-4 c κs = search needs
+
+add-result : tie.Need-add-result
+add-result c = search needs
 
 returns-3 : tie.Need-returns-3
 returns-3 c =
-    let s = c .before .before .before in
-    let h : s .args .kind < 3 = omega arith in
-    let k : s .args .a < s .args .m = omega arith in
-    simp (lt-ltb _ _ h, lt-ltb _ _ k)
-    (⊎-elim
-    (λ w. ap (λ (x : ℕ). ltb (s .args .b) x) (w .1) ∙ below-one (s .args .b) ∙ simp (eq-eqb _ _ (w .0 .taken)))
-    (λ w. ap (λ (x : ℕ). ltb (s .args .b) x) (w .1) ∙ simp (ne-eqb _ _ (w .0 .left)))
-    (c .if3 .came))
+    let w = c .before .before .before .before .before in
+    let s = w .before .args in
+    rw (c .wide4 .ensures, c .before .wide3 .ensures)
+    (as-one (s .m) (s .kind) (s .a) (s .b) (omega (arith, w .wide .ensures)) (omega (arith, c .before .before .before .wide2 .ensures)) (omega arith))
 
 pub drives-spec : {M : Type 1} → statement M
-drives-spec = tie.close (tie.spec returns returns-2 returns-3)
+drives-spec =
+    tie.close
+    (tie.spec
+    wide-requires
+    returns
+    wide-requires-2
+    returns-2
+    wide-requires-3
+    mul-result
+    wide-requires-4
+    add-result
+    returns-3)

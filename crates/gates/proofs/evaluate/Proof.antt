@@ -1,86 +1,49 @@
--- `evaluate` meets its contract: each return cites the law of what its checks found.
+-- `evaluate` meets its contract: either way of evaluating has it, and the trial's premises are what the tests found.
 -- Assumes nothing.
-use mathlib.Core.Path.{_≡_, sym, _∙_, ap}
-use mathlib.Core.Bool.{true}
-use native.Mathlib.Omega.{arith}
 use borrow.Author.Needs.{needs}
-use borrow.Author.Tests.{not-true, not-false}
+use mathlib.Core.Path.{sym, _∙_}
+use Prim.Native.Nat.{_+_, _/_}
+use borrow.Author.Tests.{ltb-false, not-false}
 use lib.ListN.{length}
-use Rattle.gates.specs.Memory.{gatesOf, accepted, bits}
-use Rattle.gates.proofs.Running.{copied, written}
-use Rattle.gates.proofs.Evaluation.{no-gates, no-room, no-bits, taken}
 use Rattle.gates.proofs.evaluate.Statement.{statement}
 use Rattle.gates.proofs.evaluate.Tie as tie
 
-accepted-requires : tie.Need-accepted-requires
-accepted-requires c κs = search needs
-
-returns : tie.Need-returns
-returns c =
-    let s = c .before .before .before .before .before in
-    no-gates (s .args .gates .now) (s .args .inputs .now) (s .args .wires .now) (sym (c .before .accepted .ensures) ∙ not-true _ (c .if1 .taken))
-
--- the gates were taken
-good : (c : tie.Else1) → let s = c .before .before .before .before .before in accepted (length (s .args .inputs .now)) (s .args .gates .now) ≡ true
-good c = sym (c .before .accepted .ensures) ∙ not-false _ (c .if1 .left)
-
-add-if2 : tie.Need-add-if2
-add-if2 c = search needs
-
-returns-2 : tie.Need-returns-2
-returns-2 c =
-    let s = c .before .before .before .before .before .before in
-    no-room (s .args .gates .now) (s .args .inputs .now) (s .args .wires .now) (good (c .before)) (omega arith)
+add-end : tie.Need-add-end
+add-end c = search needs
 
 bits-requires : tie.Need-bits-requires
 bits-requires c κs = search needs
 
-returns-3 : tie.Need-returns-3
-returns-3 c =
-    let s = c .before .before .before .before .before .before .before .before in
-    no-bits (s .args .gates .now) (s .args .inputs .now) (s .args .wires .now) (good (c .before .before .before)) (omega arith)
-    (sym (c .before .bits .ensures) ∙ not-true _ (c .if3 .taken))
-
--- the inputs are bits
-bitty : (c : tie.Else3) → let s = c .before .before .before .before .before .before .before .before in bits (s .args .inputs .now) ≡ true
-bitty c = sym (c .before .bits .ensures) ∙ not-false _ (c .if3 .left)
-
-copy-requires : tie.Need-copy-requires
-copy-requires c κs = search needs
-
-run-requires : tie.Need-run-requires
-run-requires c κs =
-    let k = c .before .before .before in
-    let q = k .before .before in
-    let s = q .before .before .before .before .before .before .before .before in
-    let l : length (k .copy .last .1 .0) ≡ length (s .args .wires .now) = k .copy .kept .1 .0 in
-    let e = copied (s .args .inputs .now) (s .args .wires .now) _ (k .copy .ensures .1) in
-    (good (q .before .before .before), (omega arith, ap bits e ∙ bitty q))
+judge-first-requires : tie.Need-judge-first-requires
+judge-first-requires c κs = search needs
 
 same-length : tie.Need-same-length
 same-length c = search needs
 
-returns-4 : tie.Need-returns-4
-returns-4 c =
-    let k = c .before .before .before .before .before .before in
-    let q = k .before .before in
-    let s = q .before .before .before .before .before .before .before .before in
-    let g = s .args .gates .now in
-    let t = taken g (s .args .inputs .now) (s .args .wires .now) (good (q .before .before .before)) (omega (arith, q .before .before .if2 .left)) (bitty q) in
-    let e = written (s .args .inputs .now) (s .args .wires .now) _ (k .copy .ensures .1) (gatesOf g) _ (c .before .before .run .ensures) in
-    (t .0, e ∙ t .1)
+returns : tie.Need-returns
+returns c = search needs
+
+try-out-requires : tie.Need-try-out-requires
+try-out-requires c κs =
+    let a = c .before .before .before .before .before .before .before .before .args in
+    let t = c .before .before .bits in
+    (ltb-false 262144 (length (a .inputs .now) + length (a .gates .now) / 3) (c .before .before .before .if2 .left), sym (t .ensures) ∙ not-false (t .result) (c .before .if3 .left))
+
+same-length-2 : tie.Need-same-length-2
+same-length-2 c = search needs
+
+returns-2 : tie.Need-returns-2
+returns-2 c = search needs
 
 pub evaluate-spec : {M : Type 1} → statement M
 evaluate-spec =
     tie.close
     (tie.spec
-    accepted-requires
-    returns
-    add-if2
-    returns-2
+    add-end
     bits-requires
-    returns-3
-    copy-requires
-    run-requires
+    judge-first-requires
     same-length
-    returns-4)
+    returns
+    try-out-requires
+    same-length-2
+    returns-2)

@@ -20,13 +20,13 @@ abbrev μ-loop : tie.MeasureT-loop
 
 -- what the whole comes to, by the gate that was judged and by what is left
 judged : (c : tie.After-drives Inv-loop μ-loop)
-    → let l = c .before .before .before .before .before .before .before in
+    → let l = c .before .before .before .before .before in
     let g = l .before .before .before .args .gates .now in
     Memory.accepted (l .before .before .before .args .n) g ≡ c .drives .result && Memory.accepted (l .loop .m + 1) (drop (l .loop .i + 3) g)
 judged c =
-    let l = c .before .before .before .before .before .before .before in
+    let l = c .before .before .before .before .before in
     let s = l .before .before .before in
-    rw (c .drives .ensures, c .before .wide2 .ensures, c .before .before .before .wide .ensures)
+    rw (c .drives .ensures)
     (sym (l .loop .inv .2) ∙ accepted-at (s .args .gates .now) (l .loop .i) (omega arith) (l .loop .m))
 
 returns : tie.Need-returns Inv-loop μ-loop
@@ -41,29 +41,23 @@ mul-kind c = search needs
 shared-slice-read-kind : tie.Need-shared-slice-read-kind Inv-loop μ-loop
 shared-slice-read-kind c = search needs
 
-add-wide : tie.Need-add-wide Inv-loop μ-loop
-add-wide c = search needs
+add-a : tie.Need-add-a Inv-loop μ-loop
+add-a c = search needs
 
-mul-wide : tie.Need-mul-wide Inv-loop μ-loop
-mul-wide c = search needs
+mul-a : tie.Need-mul-a Inv-loop μ-loop
+mul-a c = search needs
 
-shared-slice-read-wide : tie.Need-shared-slice-read-wide Inv-loop μ-loop
-shared-slice-read-wide c = search needs
+shared-slice-read-a : tie.Need-shared-slice-read-a Inv-loop μ-loop
+shared-slice-read-a c = search needs
 
-wide-requires : tie.Need-wide-requires Inv-loop μ-loop
-wide-requires c κs = search needs
+add-b : tie.Need-add-b Inv-loop μ-loop
+add-b c = search needs
 
-add-wide-2 : tie.Need-add-wide-2 Inv-loop μ-loop
-add-wide-2 c = search needs
+mul-b : tie.Need-mul-b Inv-loop μ-loop
+mul-b c = search needs
 
-mul-wide-2 : tie.Need-mul-wide-2 Inv-loop μ-loop
-mul-wide-2 c = search needs
-
-shared-slice-read-wide-2 : tie.Need-shared-slice-read-wide-2 Inv-loop μ-loop
-shared-slice-read-wide-2 c = search needs
-
-wide-requires-2 : tie.Need-wide-requires-2 Inv-loop μ-loop
-wide-requires-2 c κs = search needs
+shared-slice-read-b : tie.Need-shared-slice-read-b Inv-loop μ-loop
+shared-slice-read-b c = search needs
 
 drives-requires : tie.Need-drives-requires Inv-loop μ-loop
 drives-requires c κs = search needs
@@ -98,14 +92,12 @@ judge-spec =
     loop-holds
     mul-kind
     shared-slice-read-kind
-    add-wide
-    mul-wide
-    shared-slice-read-wide
-    wide-requires
-    add-wide-2
-    mul-wide-2
-    shared-slice-read-wide-2
-    wide-requires-2
+    add-a
+    mul-a
+    shared-slice-read-a
+    add-b
+    mul-b
+    shared-slice-read-b
     drives-requires
     returns-2
     add-i

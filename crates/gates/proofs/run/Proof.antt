@@ -1,18 +1,32 @@
 -- `run` meets its contract: `Run` holds at each turn, and at the end says that the buffer is filled.
 -- Assumes nothing.
 use borrow.Author.Needs.{needs}
+use mathlib.Core.Path.{_≡_, refl, sym, _∙_}
+use mathlib.Core.Bool.{true}
 use Prim.Native.Nat.{ℕ, _≤_, _<_, _-_, _+_}
 use native.Mathlib.Omega.{arith}
 use lib.ListN.{length, getD}
-use Rattle.gates.proofs.Running.{Run, start, more, all-run, whole, fits-next, below, read-bit, again, done}
+use Rattle.words.proofs.Truth.{and-l}
+use Rattle.gates.specs.Memory.{drives}
+use Rattle.gates.proofs.Judging.{drives-below}
+use Rattle.gates.proofs.Running.{Run, start, whole, fits-next, judged-at, read-bit, again, filled-good}
 use Rattle.gates.proofs.run.Statement.{statement}
 use Rattle.gates.proofs.run.Tie as tie
 
 abbrev Inv-loop : tie.InvT-loop
-Inv-loop gates wires₀ n end i₀ m₀ wires i m = Run gates wires₀ n wires i m
+Inv-loop gates wires₀ n values end i₀ m₀ wires i m = Run gates wires₀ n wires i m
 
 abbrev μ-loop : tie.MeasureT-loop
-μ-loop gates wires₀ n end i₀ m₀ wires i m = end - m
+μ-loop gates wires₀ n values end i₀ m₀ wires i m = end - m
+
+-- the gate of a turn may drive its wire
+drove : (c : tie.In-loop Inv-loop μ-loop)
+    → let g = c .before .before .before .before .args .gates .now in
+    let l = c .before .loop in
+    drives (l .m) (getD g (l .i) 0) (getD g (l .i + 1) 0) (getD g (l .i + 2) 0) ≡ true
+drove c =
+    let p = c .before .before .before .before .pre in
+    and-l _ _ (sym (judged-at _ _ _ _ _ _ (c .before .loop .inv) (p .1 .0) (omega arith)) ∙ p .0)
 
 -- what is known of the gate of a turn
 turn : (c : tie.In-loop Inv-loop μ-loop)
@@ -22,14 +36,14 @@ turn : (c : tie.In-loop Inv-loop μ-loop)
     × ((a : ℕ) → a < l .m → getD (l .wires) a 0 < 2)
 turn c =
     let s = c .before .before .before .before in
+    let g = s .args .gates .now in
     let l = c .before .loop in
-    let h = more _ _ _ _ _ _ (l .inv) (s .pre .1 .0) (omega arith) in
-    let b = below _ _ _ _ _ _ (l .inv) (s .pre .1 .0) h in (
-      whole _ _ _ _ _ _ (l .inv) (s .pre .1 .0) h,
+    let b = drives-below (l .m) (getD g (l .i) 0) (getD g (l .i + 1) 0) (getD g (l .i + 2) 0) (drove c) in (
+      whole _ _ _ _ _ _ (l .inv) (s .pre .1 .0) (omega arith),
       b .0,
       b .1,
       b .2,
-      fits-next _ _ _ _ _ _ (l .inv) (s .pre .1 .0) h,
+      fits-next _ _ _ _ _ _ (l .inv) (s .pre .1 .0) (omega arith),
       read-bit _ _ _ _ _ _ (l .inv) (s .pre .1 .0),
     )
 
@@ -37,7 +51,7 @@ add-end : tie.Need-add-end Inv-loop μ-loop
 add-end c = search needs
 
 loop-holds : tie.Need-loop-holds Inv-loop μ-loop
-loop-holds c = let p = c .before .before .pre in start _ _ _ (p .0) (p .1 .1)
+loop-holds c = start _ _ _ (c .before .before .pre .1 .1)
 
 mul-kind : tie.Need-mul-kind Inv-loop μ-loop
 mul-kind c = search needs
@@ -70,46 +84,45 @@ wide-requires-2 : tie.Need-wide-requires-2 Inv-loop μ-loop
 wide-requires-2 c κs = search needs
 
 slice-read-gate-value : tie.Need-slice-read-gate-value Inv-loop μ-loop
-slice-read-gate-value c = let t = turn (c .before .before .before .before .before .before) in omega (arith, c .before .before .before .wide .ensures)
+slice-read-gate-value c = let t = turn (c .before .before .before .before .before .before .before) in omega (arith, c .before .before .before .before .wide .ensures)
 
 slice-read-gate-value-2 : tie.Need-slice-read-gate-value-2 Inv-loop μ-loop
-slice-read-gate-value-2 c = let t = turn (c .before .before .before .before .before .before .before) in omega (arith, c .before .before .wide2 .ensures)
+slice-read-gate-value-2 c = let t = turn (c .before .before .before .before .before .before .before .before) in omega (arith, c .before .before .before .wide2 .ensures)
 
 gate-value-requires : tie.Need-gate-value-requires Inv-loop μ-loop
 gate-value-requires c κs =
-    let t = turn (c .before .before .before .before .before .before .before) in
-    let a = c .before .before .before .before .wide in
-    let b = c .before .before .wide2 in
-    (t .1, (t .5 (a .result) (omega (arith, a .ensures)), t .5 (b .result) (omega (arith, b .ensures))))
+    let t = turn (c .before .before .before .before .before .before .before .before) in
+    let a = c .before .before .before .before .before .wide in
+    let b = c .before .before .before .wide2 in
+    (refl, (t .1, (t .5 (a .result) (omega (arith, a .ensures)), t .5 (b .result) (omega (arith, b .ensures)))))
 
 slice-write-wires : tie.Need-slice-write-wires Inv-loop μ-loop
-slice-write-wires c = let t = turn (c .before .before .before .before .before .before .before .before) in omega arith
+slice-write-wires c = let t = turn (c .before .before .before .before .before .before .before .before .before) in omega arith
 
 add-i : tie.Need-add-i Inv-loop μ-loop
-add-i c = let t = turn (c .before .before .before .before .before .before .before .before) in omega arith
+add-i c = let t = turn (c .before .before .before .before .before .before .before .before .before) in omega arith
 
 add-m : tie.Need-add-m Inv-loop μ-loop
-add-m c = let t = turn (c .before .before .before .before .before .before .before .before) in omega arith
+add-m c = let t = turn (c .before .before .before .before .before .before .before .before .before) in omega arith
 
 loop-less : tie.Need-loop-less Inv-loop μ-loop
 loop-less c = search needs
 
 loop-again : tie.Need-loop-again Inv-loop μ-loop
 loop-again c =
-    let h = c .before .before .before .before .before .before .before .before in
+    let h = c .before .before .before .before .before .before .before .before .before in
     let l = h .before in
-    let s = l .before .before .before in
-    again _ _ _ _ _ _ (l .loop .inv) (s .pre .1 .0) (c .gate-value .result) (more _ _ _ _ _ _ (l .loop .inv) (s .pre .1 .0) (omega (arith, h .loop-test .taken)))
-    (rw (← (c .before .before .before .wide2 .ensures), ← (c .before .before .before .before .before .wide .ensures)) (c .gate-value .ensures))
+    again _ _ _ _ _ _ (l .loop .inv) (l .before .before .before .pre .1 .0) (c .gate-value .result) (omega (arith, h .loop-test .taken)) (drove h)
+    (rw (← (c .before .before .before .before .wide2 .ensures), ← (c .before .before .before .before .before .before .wide .ensures)) (c .gate-value .ensures))
 
 same-length : tie.Need-same-length Inv-loop μ-loop
 same-length c = c .before .loop .inv .size
 
 returns : tie.Need-returns Inv-loop μ-loop
 returns c =
-    let r = c .before .loop .inv in
-    let p = c .before .before .before .before .pre .1 .0 in
-    done _ _ _ _ _ _ r p (all-run _ _ _ _ _ _ r p (omega arith))
+    let l = c .before in
+    let p = l .before .before .before .pre in
+    filled-good _ _ _ _ _ _ (l .loop .inv) (p .1 .0) (p .0) (omega (arith, c .loop-test .left))
 
 pub run-spec : {M : Type 1} → statement M
 run-spec =

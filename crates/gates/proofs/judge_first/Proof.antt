@@ -1,0 +1,86 @@
+-- `judge_first` meets its contract: each return cites the law of what its checks found.
+-- Assumes nothing.
+use mathlib.Core.Path.{_≡_, sym, _∙_, ap}
+use mathlib.Core.Bool.{true}
+use native.Mathlib.Omega.{arith}
+use borrow.Author.Needs.{needs}
+use borrow.Author.Tests.{not-true, not-false}
+use lib.ListN.{length}
+use Rattle.gates.specs.Memory.{gatesOf, accepted, bits}
+use Rattle.gates.proofs.Running.{copied, written}
+use Rattle.gates.proofs.Evaluation.{no-gates, no-room, no-bits, taken}
+use Rattle.gates.proofs.judge_first.Statement.{statement}
+use Rattle.gates.proofs.judge_first.Tie as tie
+
+accepted-requires : tie.Need-accepted-requires
+accepted-requires c κs = search needs
+
+returns : tie.Need-returns
+returns c =
+    let s = c .before .before .before .before .before in
+    no-gates (s .args .gates .now) (s .args .inputs .now) (s .args .wires .now) (sym (c .before .accepted .ensures) ∙ not-true _ (c .if1 .taken))
+
+-- the gates were taken
+good : (c : tie.Else1) → let s = c .before .before .before .before .before in accepted (length (s .args .inputs .now)) (s .args .gates .now) ≡ true
+good c = sym (c .before .accepted .ensures) ∙ not-false _ (c .if1 .left)
+
+add-if2 : tie.Need-add-if2
+add-if2 c = search needs
+
+returns-2 : tie.Need-returns-2
+returns-2 c =
+    let s = c .before .before .before .before .before .before in
+    no-room (s .args .gates .now) (s .args .inputs .now) (s .args .wires .now) (good (c .before)) (omega arith)
+
+bits-requires : tie.Need-bits-requires
+bits-requires c κs = search needs
+
+returns-3 : tie.Need-returns-3
+returns-3 c =
+    let s = c .before .before .before .before .before .before .before .before in
+    no-bits (s .args .gates .now) (s .args .inputs .now) (s .args .wires .now) (good (c .before .before .before)) (omega arith)
+    (sym (c .before .bits .ensures) ∙ not-true _ (c .if3 .taken))
+
+-- the inputs are bits
+bitty : (c : tie.Else3) → let s = c .before .before .before .before .before .before .before .before in bits (s .args .inputs .now) ≡ true
+bitty c = sym (c .before .bits .ensures) ∙ not-false _ (c .if3 .left)
+
+copy-requires : tie.Need-copy-requires
+copy-requires c κs = search needs
+
+run-requires : tie.Need-run-requires
+run-requires c κs =
+    let k = c .before .before .before in
+    let q = k .before .before in
+    let s = q .before .before .before .before .before .before .before .before in
+    let l : length (k .copy .last .1 .0) ≡ length (s .args .wires .now) = k .copy .kept .1 .0 in
+    let e = copied (s .args .inputs .now) (s .args .wires .now) _ (k .copy .ensures .1) in
+    (good (q .before .before .before), (omega arith, ap bits e ∙ bitty q))
+
+same-length : tie.Need-same-length
+same-length c = search needs
+
+returns-4 : tie.Need-returns-4
+returns-4 c =
+    let k = c .before .before .before .before .before .before in
+    let q = k .before .before in
+    let s = q .before .before .before .before .before .before .before .before in
+    let g = s .args .gates .now in
+    let t = taken g (s .args .inputs .now) (s .args .wires .now) (good (q .before .before .before)) (omega (arith, q .before .before .if2 .left)) (bitty q) in
+    let e = written (s .args .inputs .now) (s .args .wires .now) _ (k .copy .ensures .1) (gatesOf g) _ (c .before .before .run .ensures) in
+    (t .0, e ∙ t .1)
+
+pub judge-first-spec : {M : Type 1} → statement M
+judge-first-spec =
+    tie.close
+    (tie.spec
+    accepted-requires
+    returns
+    add-if2
+    returns-2
+    bits-requires
+    returns-3
+    copy-requires
+    run-requires
+    same-length
+    returns-4)
