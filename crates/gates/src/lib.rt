@@ -30,8 +30,8 @@ pub fn evaluate(gates: &[u32], inputs: &[u8], wires: &mut [u8]) -> Outcome
     ensures { λ _. ⌜ now (wires .exit) ≡ filled (now (gates .entry)) (now (inputs .entry)) (now (wires .entry)) ⌝ }
 {
     let end = inputs.len() + gates.len() / 3;
-    // For few wires the array of a trial costs more than a second pass, and more than 2^18 do not fit in it.
-    if end < 8192 || 262144 < end || !bits(inputs) {
+    // Few wires do not repay the trial's array, and more than 204,800 do not fit in it: the giant step's largest circuit has 197,347.
+    if end < 8192 || 204800 < end || !bits(inputs) {
         return judge_first(gates, inputs, wires);
     }
     try_out(gates, inputs, wires)
@@ -39,22 +39,22 @@ pub fn evaluate(gates: &[u32], inputs: &[u8], wires: &mut [u8]) -> Outcome
 
 // Evaluates in an array of its own, judging each gate in passing, then copies: the gates are read once.
 fn try_out(gates: &[u32], inputs: &[u8], wires: &mut [u8]) -> Outcome
-    requires { ⌜ length (now inputs) + length (now gates) / 3 ≤ 262144 ⌝ }
+    requires { ⌜ length (now inputs) + length (now gates) / 3 ≤ 204800 ⌝ }
     requires { ⌜ Memory.bits (now inputs) ≡ true ⌝ }
     ensures { λ r. ⌜ r ≡ outcome (checks (now (gates .entry)) (now (inputs .entry)) (now (wires .entry))) ⌝ }
     ensures { λ _. ⌜ now (wires .exit) ≡ filled (now (gates .entry)) (now (inputs .entry)) (now (wires .entry)) ⌝ }
 {
     let n = inputs.len();
-    let end = n + gates.len() / 3;
-    let mut own = [0u8; 262144];
+    let count = n + gates.len() / 3;
+    let mut own = [0u8; 204800];
     bytes::copy(inputs, &mut own);
     if !trial(gates, &mut own, n) {
         return Outcome::Refused(Refusal::Gates);
     }
-    if wires.len() < end {
+    if wires.len() < count {
         return Outcome::Refused(Refusal::Wires);
     }
-    bytes::copy(&own[..end], wires);
+    bytes::copy(&own[..count], wires);
     Outcome::Taken
 }
 
@@ -158,10 +158,10 @@ fn trial(gates: &[u32], wires: &mut [u8], n: usize) -> bool
     ensures { λ r. ⌜ cond r (now (wires .exit)) [] ≡ cond r (over (Memory.bytesOf (wiresOf (Memory.bitsOf (take n (now (wires .entry)))) (Memory.gatesOf (now (gates .entry))))) (now (wires .entry))) [] ⌝ }
 {
     let values = VALUES;
-    let end = n + gates.len() / 3;
+    let stop = n + gates.len() / 3;
     let mut i = 0;
     let mut m = n;
-    while m < end {
+    while m < stop {
         let kind = gates[i];
         let a = gates[i + 1];
         let b = gates[i + 2];

@@ -27,7 +27,7 @@ try-out-requires : tie.Need-try-out-requires
 try-out-requires c κs =
     let a = c .before .before .before .before .before .before .before .before .args in
     let t = c .before .before .bits in
-    (ltb-false 262144 (length (a .inputs .now) + length (a .gates .now) / 3) (c .before .before .before .if2 .left), sym (t .ensures) ∙ not-false (t .result) (c .before .if3 .left))
+    (ltb-false 204800 (length (a .inputs .now) + length (a .gates .now) / 3) (c .before .before .before .if2 .left), sym (t .ensures) ∙ not-false (t .result) (c .before .if3 .left))
 
 same-length-2 : tie.Need-same-length-2
 same-length-2 c = search needs

@@ -15,10 +15,10 @@ use Rattle.gates.proofs.trial.Statement.{statement}
 use Rattle.gates.proofs.trial.Tie as tie
 
 abbrev Inv-loop : tie.InvT-loop
-Inv-loop gates wires₀ n values end i₀ m₀ wires i m = Run gates wires₀ n wires i m
+Inv-loop gates wires₀ n values stop i₀ m₀ wires i m = Run gates wires₀ n wires i m
 
 abbrev μ-loop : tie.MeasureT-loop
-μ-loop gates wires₀ n values end i₀ m₀ wires i m = end - m
+μ-loop gates wires₀ n values stop i₀ m₀ wires i m = stop - m
 
 -- what is known at a turn
 turn : (c : tie.In-loop Inv-loop μ-loop)
@@ -55,8 +55,8 @@ below c =
     let g = l .before .before .before .args .gates .now in
     drives-below (l .loop .m) (getD g (l .loop .i) 0) (getD g (l .loop .i + 1) 0) (getD g (l .loop .i + 2) 0) (drove c)
 
-add-end : tie.Need-add-end Inv-loop μ-loop
-add-end c = search needs
+add-stop : tie.Need-add-stop Inv-loop μ-loop
+add-stop c = search needs
 
 loop-holds : tie.Need-loop-holds Inv-loop μ-loop
 loop-holds c = start _ _ _ (c .before .before .pre .1)
@@ -157,7 +157,7 @@ trial-spec =
     (tie.spec
     Inv-loop
     μ-loop
-    add-end
+    add-stop
     loop-holds
     mul-kind
     shared-slice-read-kind

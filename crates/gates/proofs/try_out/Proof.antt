@@ -14,8 +14,8 @@ use Rattle.gates.proofs.Evaluation.{no-gates, no-room, taken}
 use Rattle.gates.proofs.try_out.Statement.{statement}
 use Rattle.gates.proofs.try_out.Tie as tie
 
-add-end : tie.Need-add-end
-add-end c = search needs
+add-count : tie.Need-add-count
+add-count c = search needs
 
 slice-aggregate-copy : tie.Need-slice-aggregate-copy
 slice-aggregate-copy c = search needs
@@ -85,7 +85,7 @@ pub try-out-spec : {M : Type 1} → statement M
 try-out-spec =
     tie.close
     (tie.spec
-    add-end
+    add-count
     slice-aggregate-copy
     copy-requires
     slice-aggregate-trial
