@@ -31,10 +31,10 @@ pub fn evaluate(gates: &[u32], inputs: &[u8], wires: &mut [u8]) -> Outcome
 {
     let end = inputs.len() + gates.len() / 3;
     // Few wires do not repay the trial's array, and more than 204,800 do not fit in it: the giant step's largest circuit has 197,347.
-    if end < 8192 || 204800 < end || !bits(inputs) {
-        return judge_first(gates, inputs, wires);
+    if 8192 <= end && end <= 204800 && bits(inputs) {
+        return try_out(gates, inputs, wires);
     }
-    try_out(gates, inputs, wires)
+    judge_first(gates, inputs, wires)
 }
 
 // Evaluates in an array of its own, judging each gate in passing, then copies: the gates are read once.

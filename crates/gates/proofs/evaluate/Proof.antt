@@ -3,7 +3,7 @@
 use borrow.Author.Needs.{needs}
 use mathlib.Core.Path.{sym, _∙_}
 use Prim.Native.Nat.{_+_, _/_}
-use borrow.Author.Tests.{ltb-false, not-false}
+use borrow.Author.Tests.{leb-true}
 use lib.ListN.{length}
 use Rattle.gates.proofs.evaluate.Statement.{statement}
 use Rattle.gates.proofs.evaluate.Tie as tie
@@ -14,8 +14,11 @@ add-end c = search needs
 bits-requires : tie.Need-bits-requires
 bits-requires c κs = search needs
 
-judge-first-requires : tie.Need-judge-first-requires
-judge-first-requires c κs = search needs
+try-out-requires : tie.Need-try-out-requires
+try-out-requires c κs =
+    let a = c .before .before .before .before .before .before .before .before .args in
+    let t = c .before .before .bits in
+    (leb-true (length (a .inputs .now) + length (a .gates .now) / 3) 204800 (c .before .before .before .if2 .taken), sym (t .ensures) ∙ c .before .if3 .taken)
 
 same-length : tie.Need-same-length
 same-length c = search needs
@@ -23,11 +26,8 @@ same-length c = search needs
 returns : tie.Need-returns
 returns c = search needs
 
-try-out-requires : tie.Need-try-out-requires
-try-out-requires c κs =
-    let a = c .before .before .before .before .before .before .before .before .args in
-    let t = c .before .before .bits in
-    (ltb-false 204800 (length (a .inputs .now) + length (a .gates .now) / 3) (c .before .before .before .if2 .left), sym (t .ensures) ∙ not-false (t .result) (c .before .if3 .left))
+judge-first-requires : tie.Need-judge-first-requires
+judge-first-requires c κs = search needs
 
 same-length-2 : tie.Need-same-length-2
 same-length-2 c = search needs
@@ -41,9 +41,9 @@ evaluate-spec =
     (tie.spec
     add-end
     bits-requires
-    judge-first-requires
+    try-out-requires
     same-length
     returns
-    try-out-requires
+    judge-first-requires
     same-length-2
     returns-2)
