@@ -1,4 +1,4 @@
-//! Times the proved evaluator beside the same passes in Rust without index checks, and beside the gate loop alone, on circuits of
+//! Times the proved evaluator beside its gate loop in Rust without checks, and beside two passes that judge too, on circuits of
 //! 200,000 gates.
 //! Linked with the library that `rt staticlib interface` writes; see the Makefile.
 
@@ -26,8 +26,11 @@ fn proved(gates: &[u32], inputs: &[u8], wires: &mut [u8]) -> u8 {
     }
 }
 
-/// The values of a kind on two wires, as the proved evaluator has them: bit 4 × kind + 2a + b.
+/// The values of a kind on two wires: bit 4 × kind + 2a + b.
 const VALUES: u32 = 0b0011_1000_0110;
+
+/// The same as bytes, as the proved evaluator has them.
+static TABLE: [u8; 12] = [0, 1, 1, 0, 0, 0, 0, 1, 1, 1, 0, 0];
 
 /// The same passes in Rust, which judges words and bytes too but does not check an index.
 fn same_passes(gates: &[u32], inputs: &[u8], wires: &mut [u8]) -> bool {
@@ -51,7 +54,7 @@ fn same_passes(gates: &[u32], inputs: &[u8], wires: &mut [u8]) -> bool {
     true
 }
 
-/// The proved evaluator's own gate loop, its formula kept, with nothing judged and no index checked.
+/// The gate loop, the values shifted out of a word, with nothing judged and no index checked: the quickest form found.
 fn same_loop(gates: &[u32], inputs: &[u8], wires: &mut [u8]) {
     wires[..inputs.len()].copy_from_slice(inputs);
     for (g, gate) in gates.chunks_exact(3).enumerate() {
@@ -60,6 +63,19 @@ fn same_loop(gates: &[u32], inputs: &[u8], wires: &mut [u8]) {
             let a = u32::from(*wires.get_unchecked(gate[1] as usize));
             let b = u32::from(*wires.get_unchecked(gate[2] as usize));
             *wires.get_unchecked_mut(inputs.len() + g) = (VALUES >> (4 * gate[0] + 2 * a + b) & 1) as u8;
+        }
+    }
+}
+
+/// The gate loop as the proved evaluator has it, the values looked up in bytes, with nothing judged and no index checked.
+fn same_table(gates: &[u32], inputs: &[u8], wires: &mut [u8]) {
+    wires[..inputs.len()].copy_from_slice(inputs);
+    for (g, gate) in gates.chunks_exact(3).enumerate() {
+        // The gates of `circuit` name known kinds and earlier wires alone, and the buffer has a byte for each.
+        unsafe {
+            let a = usize::from(*wires.get_unchecked(gate[1] as usize));
+            let b = usize::from(*wires.get_unchecked(gate[2] as usize));
+            *wires.get_unchecked_mut(inputs.len() + g) = *TABLE.get_unchecked(4 * gate[0] as usize + 2 * a + b);
         }
     }
 }
@@ -125,7 +141,10 @@ fn main() {
     println!(
         "speed of the proved evaluator on 200,000 gates, the other's being 1 (median of {RUNS} runs side by side)"
     );
-    println!("{:<30}{:>8}{:>11}{:>13}{:>13}", "", "proved", "same loop", "gates alone", "same passes");
+    println!(
+        "{:<30}{:>8}{:>11}{:>12}{:>13}{:>13}",
+        "", "proved", "same loop", "same table", "gates alone", "same passes"
+    );
     for (label, at_random, near) in [
         ("kinds at random, any wire", true, u64::MAX),
         ("kinds at random, near wires", true, 200),
@@ -133,16 +152,17 @@ fn main() {
     ] {
         let gates = circuit(&cell, at_random, near, &mut numbers);
         let inputs: Vec<u8> = (0..INPUTS).map(|_| numbers.below(2) as u8).collect();
-        let mut wires = vec![vec![7; INPUTS + GATES]; 4];
-        let mut times = vec![vec![]; 4];
+        let mut wires = vec![vec![7; INPUTS + GATES]; 5];
+        let mut times = vec![vec![]; 5];
         for _ in 0..RUNS {
             times[0].push(timed(|| assert_eq!(proved(&gates, &inputs, &mut wires[0]), 0)));
             times[1].push(timed(|| same_loop(&gates, &inputs, &mut wires[1])));
             times[2].push(timed(|| gates_alone(&gates, &inputs, &mut wires[2])));
             times[3].push(timed(|| assert!(same_passes(&gates, &inputs, &mut wires[3]))));
+            times[4].push(timed(|| same_table(&gates, &inputs, &mut wires[4])));
         }
         assert!(wires.iter().all(|filled| filled == &wires[0]), "all fill the same wires");
-        let [p, l, g, s] = [0, 1, 2, 3].map(|k| median(times[k].clone()));
-        println!("{label:<30}{p:>5.0} us{:>11.2}{:>13.2}{:>13.2}", l / p, g / p, s / p);
+        let [p, l, g, s, t] = [0, 1, 2, 3, 4].map(|k| median(times[k].clone()));
+        println!("{label:<30}{p:>5.0} us{:>11.2}{:>12.2}{:>13.2}{:>13.2}", l / p, t / p, g / p, s / p);
     }
 }
