@@ -11,8 +11,9 @@ use Rattle.tables.specs.Sizes.{stateWires}
 use Rattle.state.specs.State.{State}
 use Rattle.state.specs.WellFormed.{wellFormedState}
 use Rattle.gates.specs.Gates.{Gate, wire, wiresOf}
-use Rattle.wires.specs.Layout.{upto, rowsBits, bitsIn, inOrder, stateBits}
-use Rattle.wires.specs.Reading.{stateAt}
+use Rattle.wires.specs.Layout.{upto, rowsBits, stateBits}
+use Rattle.wires.specs.Bits.{bitsIn, inOrder}
+use Rattle.wires.specs.Unpacking.{stateAt}
 use Rattle.wires.proofs.Series.{upto-more}
 use Rattle.wires.proofs.Addresses.{Same, same-trans, order-cong, positive-at, negative-at, rows-past, state-at, state-row}
 use Rattle.netlist.specs.Outputs.{outputBits}
@@ -41,7 +42,7 @@ module _ (n : ℕ) (rows : List Row) (s : State) (gates : List Gate) (at : ℕ) 
 
     -- rows, state, and the gates' wires behind them
     in-parts : list ≡ rowsBits n rows ++ (inOrder n (bitsIn s) ++ rest)
-    unfolding stateBits
+    unfolding stateBits inOrder
     in-parts = wires-behind inputs gates .1 ∙ append-assoc (rowsBits n rows) (stateBits n s) rest
 
     given : Inputs n rows s w

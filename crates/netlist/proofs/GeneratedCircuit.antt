@@ -14,7 +14,7 @@ use Rattle.state.specs.WellFormed.{wellFormedState}
 use Rattle.gates.specs.Gates.{wire, wiresOf}
 use Rattle.gates.proofs.Circuits.{ordered, wires-length}
 use Rattle.wires.specs.Layout.{rowsBits, stateBits}
-use Rattle.wires.specs.Reading.{stateAt}
+use Rattle.wires.specs.Unpacking.{stateAt}
 use Rattle.wires.proofs.Addresses.{Same}
 use Rattle.netlist.specs.declared.Addresses.{Addresses}
 use Rattle.netlist.specs.Outputs.{outputBits}

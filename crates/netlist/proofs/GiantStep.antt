@@ -26,7 +26,8 @@ use Rattle.state.specs.WellFormed.{wellFormedState}
 use Rattle.solver.proofs.RuleLaws.{Ruled, ruled, unit-settable, choice-settable}
 use Rattle.state.proofs.WellFormedLaws.{formed-e, chain-head}
 use Rattle.solver.proofs.StepLaws.{settable-depth}
-use Rattle.wires.specs.Layout.{bitsIn, isSatisfied, isRefuted, inOrder, stateBits}
+use Rattle.wires.specs.Layout.{isSatisfied, isRefuted, stateBits}
+use Rattle.wires.specs.Bits.{bitsIn, inOrder}
 use Rattle.wires.proofs.Addresses.{Same, order-cong}
 use Rattle.netlist.specs.Outputs.{outputBits}
 use Rattle.netlist.proofs.Interface.{Wires, Inputs, Cells, OnState}
@@ -100,7 +101,7 @@ module _ (n : ℕ) (rows : List Row) (s : State) (w : Wires) (formed : wellForme
   next-same = stepped n rows w (s .standing) (s .t) (s .f) (s .levels) (record { inputs = inputs; cells = cells; formed = formed-e n s formed })
 
   pub circuit-steps : inOrder n (w .next) ++ (w .closing ∷ []) ≡ outputBits n rows s
-  unfolding outputBits stateBits
+  unfolding outputBits stateBits inOrder
   circuit-steps =
       ap₂ (λ (bits : List Bool) (x : Bool). bits ++ (x ∷ []))
       (order-cong n _ _ next-same)

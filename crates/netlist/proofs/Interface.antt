@@ -11,7 +11,7 @@ use Rattle.words.specs.Sets.{bit}
 use Rattle.tables.specs.declared.Row.{Row}
 use Rattle.state.specs.State.{State}
 use Rattle.state.proofs.WellFormedLaws.{Formed}
-use Rattle.wires.specs.Layout.{Bits, bitsIn}
+use Rattle.wires.specs.Bits.{Bits, bitsIn}
 use Rattle.wires.proofs.Addresses.{Same, rowOf}
 use Rattle.netlist.proofs.Equations.{or, freeOf, freeHere, positiveHere, satisfiedHere, unitOf, conflictOf, firstOf, countsOf, openOf, doneOf, refuteOf, popOf, pushOf, negOf, posOf}
 

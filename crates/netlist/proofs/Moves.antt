@@ -16,7 +16,8 @@ use Rattle.state.specs.declared.Level.{Level}
 use Rattle.state.specs.declared.Standing.{Standing}
 use Rattle.state.specs.declared.Standing.the-variants.{Open}
 use Rattle.state.specs.State.{State}
-use Rattle.wires.specs.Layout.{Bits, onLevel, isSatisfied, isRefuted, bitsIn}
+use Rattle.wires.specs.Layout.{onLevel, isSatisfied, isRefuted}
+use Rattle.wires.specs.Bits.{Bits, bitsIn}
 use Rattle.wires.proofs.Addresses.{Same}
 use Rattle.netlist.proofs.Interface.{Signals}
 use Rattle.netlist.proofs.Chains.{xor-false, parity, parity-none, parity-at}

@@ -9,7 +9,7 @@ use Rattle.words.specs.Booleans.{_⊕_}
 use Rattle.words.proofs.Truth.{taut1, taut4, same, same-eq}
 use Rattle.gates.specs.Gates.{wiresOf}
 use Rattle.gates.proofs.Circuits.{ordered}
-use Rattle.wires.specs.Reading.{stateAt}
+use Rattle.wires.specs.Unpacking.{stateAt}
 use Rattle.netlist.specs.declared.Addresses.{Addresses}
 use Rattle.netlist.specs.Templates as Templates
 use Rattle.netlist.specs.Arrays.{none}

@@ -11,8 +11,9 @@ use Rattle.words.specs.Sets.{bit}
 use Rattle.tables.specs.declared.Row.{Row}
 use Rattle.tables.specs.Sizes.{stateWires}
 use Rattle.gates.specs.Gates.{wire}
-use Rattle.wires.specs.Layout.{upto, joined, rowBits, rowsBits, Bits, inOrder}
-use Rattle.wires.specs.Reading.{levelAt, stateAt}
+use Rattle.wires.specs.Layout.{upto, joined, rowBits, rowsBits}
+use Rattle.wires.specs.Bits.{Bits, inOrder}
+use Rattle.wires.specs.Unpacking.{levelAt, stateAt}
 use Rattle.wires.proofs.Series.{upto-at, upto-here, upto-past, upto-cong, upto-add, joined-cong, joined-at, joined-past, upto-mul}
 use Rattle.wires.proofs.Lengths.{row-length, group-length, width-is}
 

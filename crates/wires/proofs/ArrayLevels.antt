@@ -17,9 +17,9 @@ use Rattle.state.specs.declared.Level.{Level}
 use Rattle.state.specs.declared.Run.{Run}
 use Rattle.state.specs.State.{none, levelsOf, stateOf}
 use Rattle.state.proofs.HeldRun.{length-levels}
-use Rattle.wires.specs.Layout.{upto, onLevel, isSatisfied, isRefuted, inOrder, stateBits}
+use Rattle.wires.specs.Layout.{upto, onLevel, isSatisfied, isRefuted, stateBits}
 use Rattle.wires.specs.Levels.{levelBits, levelIn, levelsBits}
-use Rattle.wires.specs.Reading.{lastFirst}
+use Rattle.wires.specs.Unpacking.{lastFirst}
 use Rattle.wires.proofs.Series.{upto-cong, joined-cong}
 
 -- ---- written
@@ -66,7 +66,7 @@ pub state-parts : (n : ℕ) (run : Run)
     → upto (bit (run .t)) n ++ (upto (bit (run .f)) n ++ (upto (λ k. eqb k (run .depth)) (n + 1)
     ++ (levelsBits n (run .levels) (run .depth) n ++ (isSatisfied (run .standing) ∷ (isRefuted (run .standing) ∷ [])))))
     ≡ stateBits n (stateOf run)
-unfolding stateBits inOrder
+unfolding stateBits
 state-parts n run =
     ap₂ (λ (y x : List Bool). upto (bit (run .t)) n ++ (upto (bit (run .f)) n ++ (y ++ (x ++ (isSatisfied (run .standing) ∷ (isRefuted (run .standing) ∷ []))))))
     (ap₂ (λ (k m : ℕ). upto (λ i. eqb i k) m) (sym (length-levels (run .depth) (run .levels))) (add-one n))

@@ -27,7 +27,8 @@ use Rattle.gates.specs.Evaluation.{over}
 use Rattle.wires.specs.declared.Read.{Read}
 use Rattle.wires.specs.Packing.{inputBits, packChecks, packed}
 use Rattle.wires.specs.Layout.{stateBits}
-use Rattle.wires.specs.Reading.{same, runIn, holdsState, readBack}
+use Rattle.wires.specs.Unpacking.{same, runIn, holdsState}
+use Rattle.wires.specs.Reading.{readBack}
 
 module _ (d : Dimensions) (left right : List ℕ) (run : Run) (room : ℕ) where
   abbrev later : List Check

@@ -12,10 +12,11 @@ use Rattle.tables.specs.Rows.{rowsFrom, rowsOf}
 use Rattle.tables.specs.Sizes.{rowCount, stateWires, inputWires}
 use Rattle.state.specs.declared.Level.{Level}
 use Rattle.state.specs.State.{State}
-use Rattle.wires.specs.Layout.{Bits, upto, rowBits, rowsBits, bitsIn, inOrder, stateBits}
+use Rattle.wires.specs.Layout.{upto, rowBits, rowsBits, stateBits}
+use Rattle.wires.specs.Bits.{Bits, bitsIn, inOrder}
 use Rattle.wires.specs.Levels.{levelBits}
 use Rattle.wires.specs.Packing.{inputBits}
-use Rattle.wires.specs.Reading.{levelAt}
+use Rattle.wires.specs.Unpacking.{levelAt}
 use Rattle.wires.proofs.Series.{length-upto, length-joined}
 
 pub row-length : (n : ℕ) (r : Row) → length (rowBits n r) ≡ n + n
@@ -46,7 +47,7 @@ order-length n b =
     simp (length-append, length-upto) (ap (λ (k : ℕ). n + (n + (suc n + (k + 2)))) e)
 
 pub state-length : (n : ℕ) (s : State) → length (stateBits n s) ≡ stateWires n
-unfolding stateBits
+unfolding stateBits inOrder
 state-length n s = order-length n (bitsIn s) ∙ width-is n
 
 -- a state of at most 32 variables has at most 3171 wires

@@ -7,7 +7,7 @@ use mathlib.Core.List.{List, _++_, map-append, append-assoc}
 use Prim.Native.Nat.{ℕ, _+_, _*_, _≤_}
 use native.Mathlib.Omega.{arith}
 use lib.Dec.{eqb, ltb}
-use lib.ListN.{length, getD, take, drop, length-append, length-map, List·getD-map}
+use lib.ListN.{length, getD, take, drop, length-append, length-map, take-append-drop, List·getD-map}
 use lib.Seq.{take-at, drop-at}
 use borrow.Author.Tests.{le-ltb, ltb-false, not-false}
 use Rattle.refusals.specs.Checks.{outcome, given}
@@ -30,9 +30,11 @@ use Rattle.gates.specs.Memory.{bytesOf, bitsOf}
 use Rattle.gates.specs.Evaluation.{over}
 use Rattle.gates.proofs.InMemory.{bitsOf-bytesOf}
 use Rattle.wires.specs.declared.Read.{Read}
-use Rattle.wires.specs.Layout.{bitsIn, inOrder, rowsBits, stateBits}
+use Rattle.wires.specs.Layout.{rowsBits, stateBits}
+use Rattle.wires.specs.Bits.{bitsIn, inOrder}
 use Rattle.wires.specs.Packing.{inputBits, packChecks, packed}
-use Rattle.wires.specs.Reading.{wireIn, stateAt, unpacked, runIn, same, holdsState, readChecks, readBack}
+use Rattle.wires.specs.Unpacking.{wireIn, stateAt, unpacked, runIn, same, holdsState}
+use Rattle.wires.specs.Reading.{readChecks, readBack}
 use Rattle.wires.proofs.Lengths.{state-length, rows-length, both-length, twice, input-length}
 use Rattle.wires.proofs.Addresses.{state-at}
 use Rattle.wires.proofs.StateBack.{unpacked-is}
@@ -47,7 +49,7 @@ wires-back w rest k =
 
 module _ (n : ℕ) (s : State) (rest : List ℕ) (h : wellFormedState n s ≡ true) where
   run-back-in : runIn n (bytesOf (stateBits n s) ++ rest) ≡ runOf n s
-  unfolding runIn stateBits
+  unfolding runIn stateBits inOrder
   run-back-in =
       ap (λ (f : ℕ → Bool). runOf n (unpacked n (stateAt n f))) (fun-ext (wires-back (inOrder n (bitsIn s)) rest))
       ∙ ap (runOf n) (unpacked-is n s (stateAt n (λ k. wire (inOrder n (bitsIn s) ++ bitsOf rest) k)) h (state-at n (bitsIn s) (bitsOf rest)))
@@ -75,6 +77,13 @@ module _ (n : ℕ) (s : State) (rest : List ℕ) (h : wellFormedState n s ≡ tr
       where
         within : outside 32 n ≡ false
         within = rw (le-ltb n 1 a, le-ltb 32 n b)
+
+-- bytes that begin with those of a well-formed state are read back as its run: 12 is only where no well-formed state has such bytes
+pub read-front : (n : ℕ) (s : State) (bytes : List ℕ) → wellFormedState n s ≡ true → 1 ≤ n → n ≤ 32 → bytesOf (stateBits n s) ≡ take (stateWires n) bytes
+    → readBack n bytes ≡ record { outcome = Taken; run = runOf n s }
+read-front n s bytes h a b e =
+    ap (readBack n) (sym (ap (λ (l : List ℕ). l ++ drop (stateWires n) bytes) e ∙ take-append-drop (stateWires n) bytes))
+    ∙ read-packed n s (drop (stateWires n) bytes) h a b
 
 -- what is read back is a well-formed run of n, and its packed bytes are those that it was read from
 pub record Held (n : ℕ) (bytes : List ℕ) (run : Run) : Type 0 where

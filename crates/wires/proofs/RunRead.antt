@@ -15,7 +15,7 @@ use Rattle.state.specs.declared.Run.{Run}
 use Rattle.state.specs.declared.Standing.{Standing}
 use Rattle.state.specs.State.{none, runOf}
 use Rattle.wires.specs.Levels.{levelFrom, levelsFrom}
-use Rattle.wires.specs.Reading.{wireIn, levelAt, stateAt, standingOf, levelOf, lastFirst, runIn}
+use Rattle.wires.specs.Unpacking.{wireIn, levelAt, stateAt, standingOf, levelOf, lastFirst, runIn}
 use Rattle.wires.proofs.Lengths.{width-is}
 use Rattle.wires.proofs.ArrayLevels.{length-last, arrayOf}
 

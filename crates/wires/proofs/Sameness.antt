@@ -11,7 +11,7 @@ use lib.ListN.{length, getD, take, drop, drop-of-length-le}
 use lib.Seq.{drop-cons, getD-take, length-take-le}
 use borrow.Author.Tests.{eqb-true, eq-eqb}
 use Rattle.words.proofs.Truth.{and-l, and-r, and-i}
-use Rattle.wires.specs.Reading.{same}
+use Rattle.wires.specs.Unpacking.{same}
 
 pub same-eq : (a b : List ℕ) → same a b ≡ true → a ≡ b
 same-eq [] [] e = refl

@@ -18,8 +18,9 @@ use Rattle.state.specs.declared.Standing.the-variants.{Open, Satisfied, Refuted
 use Rattle.state.specs.State.{State}
 use Rattle.state.specs.WellFormed.{chain, wellFormedState}
 use Rattle.state.proofs.WellFormedLaws.{formed-e, chain-head, chain-tail}
-use Rattle.wires.specs.Layout.{Bits, onLevel, isSatisfied, isRefuted, bitsIn}
-use Rattle.wires.specs.Reading.{standingOf, levelOf, lastFirst, unpacked}
+use Rattle.wires.specs.Layout.{onLevel, isSatisfied, isRefuted}
+use Rattle.wires.specs.Bits.{Bits, bitsIn}
+use Rattle.wires.specs.Unpacking.{standingOf, levelOf, lastFirst, unpacked}
 use Rattle.wires.proofs.Addresses.{Same}
 
 -- a word below 2^n is the word of its bits

@@ -33,21 +33,16 @@ rowsBits n (r ∷ rs) = rowBits n r ++ rowsBits n rs
 
 -- ---- a state
 
--- what its wires hold: T and F of a variable; a depth; T, F and the choice of a level at a variable; satisfied, refuted
-pub record Bits : Type 0 where
-  pub T : ℕ → Bool
-  pub F : ℕ → Bool
-  pub D : ℕ → Bool
-  pub LT : ℕ → ℕ → Bool
-  pub LF : ℕ → ℕ → Bool
-  pub LV : ℕ → ℕ → Bool
-  pub SAT : Bool
-  pub REF : Bool
-
 -- what g says of the level, counted from the first, which the list has last; false at an unused level
 unfoldable pub onLevel : (Level → Bool) → List Level → ℕ → Bool
 onLevel g [] l = false
 onLevel g (x ∷ xs) l = cond (eqb l (length xs)) (g x) (onLevel g xs l)
+
+-- a level: T, F and the chosen variable (n each)
+abbrev pub levelWires : ℕ → List Level → ℕ → List Bool
+levelWires n levels l =
+    upto (λ i. onLevel (λ x. bit (x .t) i) levels l) n
+    ++ (upto (λ i. onLevel (λ x. bit (x .f) i) levels l) n ++ upto (λ i. onLevel (λ x. eqb i (x .chosen)) levels l) n)
 
 abbrev pub isSatisfied : Standing → Bool
 isSatisfied Open = false
@@ -59,23 +54,8 @@ isRefuted Open = false
 isRefuted Satisfied = false
 isRefuted Refuted = true
 
-abbrev pub bitsIn : State → Bits
-bitsIn s = record {
-  T = λ i. bit (s .t) i;
-  F = λ i. bit (s .f) i;
-  D = λ k. eqb k (length (s .levels));
-  LT = λ l i. onLevel (λ x. bit (x .t) i) (s .levels) l;
-  LF = λ l i. onLevel (λ x. bit (x .f) i) (s .levels) l;
-  LV = λ l i. onLevel (λ x. eqb i (x .chosen)) (s .levels) l;
-  SAT = isSatisfied (s .standing);
-  REF = isRefuted (s .standing);
-}
-
--- T (n), F (n), depth (n + 1, one set, depth 0 first), n levels of T, F and the chosen variable (n each), then satisfied, refuted
-unfoldable pub inOrder : ℕ → Bits → List Bool
-inOrder n b =
-    upto (b .T) n ++ (upto (b .F) n ++ (upto (b .D) (suc n)
-    ++ (joined (λ l. upto (b .LT l) n ++ (upto (b .LF l) n ++ upto (b .LV l) n)) n ++ (b .SAT ∷ (b .REF ∷ [])))))
-
+-- T (n), F (n), depth (n + 1, one set, depth 0 first), n levels, then satisfied, refuted
 unfoldable pub stateBits : ℕ → State → List Bool
-stateBits n s = inOrder n (bitsIn s)
+stateBits n s =
+    upto (bit (s .t)) n ++ (upto (bit (s .f)) n ++ (upto (λ k. eqb k (length (s .levels))) (suc n)
+    ++ (joined (levelWires n (s .levels)) n ++ (isSatisfied (s .standing) ∷ (isRefuted (s .standing) ∷ [])))))

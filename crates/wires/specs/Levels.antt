@@ -8,7 +8,7 @@ use Rattle.words.specs.Sets.{bit, lowest, wordOf}
 use Rattle.state.specs.declared.Level.{Level}
 use Rattle.state.specs.State.{none}
 use Rattle.wires.specs.Layout.{upto, joined}
-use Rattle.wires.specs.Reading.{wireIn, levelAt, lastFirst}
+use Rattle.wires.specs.Unpacking.{wireIn, levelAt, lastFirst}
 
 abbrev pub levelBits : ℕ → Level → List Bool
 levelBits n x = upto (bit (x .t)) n ++ (upto (bit (x .f)) n ++ upto (λ i. eqb i (x .chosen)) n)

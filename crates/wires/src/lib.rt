@@ -19,7 +19,7 @@ ghost use Rattle.state.specs.WellFormed.{wellFormed};
 ghost use Rattle.gates.specs.Memory.{bytesOf};
 ghost use Rattle.wires.specs.Layout.{stateBits};
 ghost use Rattle.wires.specs.Packing.{packChecks, packed};
-ghost use Rattle.wires.specs.Reading as Reading;
+ghost use Rattle.wires.specs.Unpacking as Unpacking;
 ghost use Rattle.wires.specs.Reading.{readBack};
 
 // The wires of a state of 32 variables.
@@ -65,7 +65,7 @@ pub fn pack(d: Dimensions, left: &[u32], right: &[u32], run: Run, bytes: &mut [u
 fn same(a: &[u8], b: &[u8], k: usize) -> bool
     requires { ⌜ k ≤ length (now a) ⌝ }
     requires { ⌜ k ≤ length (now b) ⌝ }
-    ensures { λ r. ⌜ r ≡ Reading.same (take k (now (a .entry))) (take k (now (b .entry))) ⌝ }
+    ensures { λ r. ⌜ r ≡ Unpacking.same (take k (now (a .entry))) (take k (now (b .entry))) ⌝ }
 {
     let mut i = 0;
     while i < k {
@@ -82,7 +82,7 @@ fn gives(d: Dimensions, run: Run, bytes: &[u8]) -> bool
     requires { ⌜ d .n ≤ 32 ⌝ }
     requires { ⌜ run .n ≡ d .n ⌝ }
     requires { ⌜ stateWires (d .n) ≤ length (now bytes) ⌝ }
-    ensures { λ r. ⌜ r ≡ wellFormed run && Reading.same (bytesOf (stateBits (d .n) (stateOf run))) (take (stateWires (d .n)) (now (bytes .entry))) ⌝ }
+    ensures { λ r. ⌜ r ≡ wellFormed run && Unpacking.same (bytesOf (stateBits (d .n) (stateOf run))) (take (stateWires (d .n)) (now (bytes .entry))) ⌝ }
 {
     match state::check_state(d, run) {
         Outcome::Taken => {}

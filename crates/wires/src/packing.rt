@@ -15,8 +15,7 @@ ghost use Rattle.tables.specs.Rows.{rowsFrom};
 ghost use Rattle.tables.specs.Sizes.{stateWires};
 ghost use Rattle.state.specs.State.{stateOf};
 ghost use Rattle.gates.specs.Memory.{bytesOf};
-ghost use Rattle.wires.specs.Layout as Layout;
-ghost use Rattle.wires.specs.Layout.{upto, rowBits, rowsBits, stateBits};
+ghost use Rattle.wires.specs.Layout.{upto, rowBits, rowsBits, isSatisfied, isRefuted, stateBits};
 ghost use Rattle.wires.specs.Levels.{levelBits, levelIn, levelsBits};
 
 // A wire's byte.
@@ -136,7 +135,7 @@ fn put_levels(n: usize, levels: [Level; 32], depth: usize, bytes: &mut [u8], at:
 }
 
 fn is_satisfied(standing: Standing) -> bool
-    ensures { λ r. ⌜ r ≡ Layout.isSatisfied standing ⌝ }
+    ensures { λ r. ⌜ r ≡ isSatisfied standing ⌝ }
 {
     match standing {
         Standing::Open => false,
@@ -146,7 +145,7 @@ fn is_satisfied(standing: Standing) -> bool
 }
 
 fn is_refuted(standing: Standing) -> bool
-    ensures { λ r. ⌜ r ≡ Layout.isRefuted standing ⌝ }
+    ensures { λ r. ⌜ r ≡ isRefuted standing ⌝ }
 {
     match standing {
         Standing::Open => false,
@@ -158,7 +157,7 @@ fn is_refuted(standing: Standing) -> bool
 // The two closing wires.
 fn put_standing(standing: Standing, bytes: &mut [u8], at: usize)
     requires { ⌜ at + 2 ≤ length (now bytes) ⌝ }
-    ensures { λ _. ⌜ now (bytes .exit) ≡ sets (now (bytes .entry)) at (bytesOf (Layout.isSatisfied standing ∷ (Layout.isRefuted standing ∷ []))) ⌝ }
+    ensures { λ _. ⌜ now (bytes .exit) ≡ sets (now (bytes .entry)) at (bytesOf (isSatisfied standing ∷ (isRefuted standing ∷ []))) ⌝ }
 {
     bytes[at] = byte(is_satisfied(standing));
     bytes[at + 1] = byte(is_refuted(standing));

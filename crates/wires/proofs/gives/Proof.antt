@@ -7,7 +7,7 @@ use lib.ListN.{length, take}
 use Rattle.state.specs.State.{stateOf}
 use Rattle.tables.specs.Sizes.{stateWires}
 use Rattle.wires.specs.Layout.{stateBits}
-use Rattle.wires.specs.Reading as Reading
+use Rattle.wires.specs.Unpacking as Unpacking
 use Rattle.wires.proofs.Lengths.{state-length, state-most}
 use Rattle.wires.proofs.Stores.{stored-take}
 use Rattle.wires.proofs.Checks.{state-formed, state-malformed}
@@ -53,7 +53,7 @@ returns-2 c = let s = c .before .before .before .before .before .before .before 
     let w = stateBits n (stateOf (s .args .run)) in
     let k : c .before .state-wires .result ≡ stateWires n = c .before .state-wires .ensures in
     rw (state-formed (s .args .d) (s .args .run) (sym (c .before .before .before .before .before .before .before .before .before .check-state .ensures) ∙ c .before .before .before .before .before .before .before .enum-told .given .1))
-    (c .same .ensures ∙ ap₂ Reading.same (stored-take _ w _ (k ∙ sym (state-length n (stateOf (s .args .run)))) (omega (arith, state-length n (stateOf (s .args .run)), state-most n (s .pre .0))) (c .before .before .before .before .put-state .ensures)) (ap (λ (j : ℕ). take j (s .args .bytes .now)) k))
+    (c .same .ensures ∙ ap₂ Unpacking.same (stored-take _ w _ (k ∙ sym (state-length n (stateOf (s .args .run)))) (omega (arith, state-length n (stateOf (s .args .run)), state-most n (s .pre .0))) (c .before .before .before .before .put-state .ensures)) (ap (λ (j : ℕ). take j (s .args .bytes .now)) k))
 
 pub gives-spec : {M : Type 1} → statement M
 gives-spec =

@@ -4,14 +4,14 @@ use mathlib.Core.Path.{_≡_, refl, sym, _∙_}
 use Prim.Native.Nat.{_≤_, _-_}
 use lib.ListN.{take, drop}
 use borrow.Author.Tests.{ne-eqb, eq-eqb}
-use Rattle.wires.specs.Reading as Reading
+use Rattle.wires.specs.Unpacking as Unpacking
 use Rattle.wires.proofs.Sameness.{same-turn, same-end}
 use borrow.Author.Needs.{needs}
 use Rattle.wires.proofs.same.Statement.{statement}
 use Rattle.wires.proofs.same.Tie as tie
 
 abbrev Inv-loop : tie.InvT-loop
-Inv-loop a b k i₀ i = (i ≤ k) × (Reading.same (drop i (take k a)) (drop i (take k b)) ≡ Reading.same (take k a) (take k b))
+Inv-loop a b k i₀ i = (i ≤ k) × (Unpacking.same (drop i (take k a)) (drop i (take k b)) ≡ Unpacking.same (take k a) (take k b))
 
 abbrev μ-loop : tie.MeasureT-loop
 μ-loop a b k i₀ i = k - i

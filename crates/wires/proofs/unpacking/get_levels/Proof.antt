@@ -6,7 +6,7 @@ use Prim.Native.Nat.{ℕ, _≤_, _+_, _*_, _-_}
 use native.Mathlib.Nat.{mul-zero, mul-suc, mul-le-mul-left}
 use native.Mathlib.Numerals.{add-one}
 use Rattle.state.specs.declared.Level.{Level}
-use Rattle.wires.specs.Reading.{levelAt}
+use Rattle.wires.specs.Unpacking.{levelAt}
 use Rattle.wires.specs.Levels.{levelFrom, levelsFrom}
 use Rattle.wires.proofs.ArrayLevels.{array-start, array-turn}
 use borrow.Author.Needs.{needs}

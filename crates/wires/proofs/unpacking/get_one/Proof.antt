@@ -7,7 +7,7 @@ use native.Mathlib.Omega.{arith}
 use borrow.Author.Count.{below-none, below-more}
 use borrow.Author.Tests.{eq-eqb, ne-eqb}
 use Rattle.words.proofs.Upto.{lowest-none}
-use Rattle.wires.specs.Reading.{wireIn}
+use Rattle.wires.specs.Unpacking.{wireIn}
 use Rattle.wires.proofs.Words.{lowest-first}
 use borrow.Author.Needs.{needs}
 use Rattle.wires.proofs.unpacking.get_one.Statement.{statement}

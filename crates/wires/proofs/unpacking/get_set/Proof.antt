@@ -6,7 +6,7 @@ use mathlib.Core.Bool.{Bool}
 use Prim.Native.Nat.{ℕ, _≤_, _+_, _*_, _-_}
 use Rattle.words.specs.Booleans.{digit}
 use Rattle.words.specs.Sets.{wordOf}
-use Rattle.wires.specs.Reading.{wireIn}
+use Rattle.wires.specs.Unpacking.{wireIn}
 use Rattle.wires.proofs.Words.{word-start, word-turn, word-room, word-end}
 use borrow.Author.Needs.{needs}
 use Rattle.wires.proofs.unpacking.get_set.Statement.{statement}

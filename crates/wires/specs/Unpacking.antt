@@ -1,0 +1,77 @@
+-- How bytes are unpacked into a run of n. What reading back gives is known by packing alone (`read-front`, `read-held`), so this need not be believed.
+use Prim.Native.Nat.{ℕ, zero, suc, _+_, _*_}
+use mathlib.Core.Bool.{Bool, true, false, _&&_}
+use mathlib.Core.List.{List, [], _∷_}
+use lib.Dec.{eqb}
+use lib.ListN.{getD, take}
+use Rattle.words.specs.Sets.{lowest, wordOf}
+use Rattle.tables.specs.Sizes.{stateWires}
+use Rattle.state.specs.declared.Level.{Level}
+use Rattle.state.specs.declared.Run.{Run}
+use Rattle.state.specs.declared.Standing.{Standing}
+use Rattle.state.specs.declared.Standing.the-variants as standing
+use Rattle.state.specs.State.{State, stateOf, runOf}
+use Rattle.state.specs.WellFormed.{wellFormed}
+use Rattle.gates.specs.Memory.{bytesOf}
+use Rattle.wires.specs.Layout.{stateBits}
+use Rattle.wires.specs.Bits.{Bits}
+
+-- wire k is set
+abbrev pub wireIn : List ℕ → ℕ → Bool
+wireIn bytes k = eqb (getD bytes k 0) 1
+
+-- where a level's wires begin, among the levels'
+abbrev pub levelAt : ℕ → ℕ → ℕ
+levelAt n l = (n + (n + n)) * l
+
+-- the bits of a state whose wire k holds f k
+abbrev pub stateAt : ℕ → (ℕ → Bool) → Bits
+stateAt n f = record {
+  T = λ i. f i;
+  F = λ i. f (n + i);
+  D = λ k. f (n + (n + k));
+  LT = λ l i. f (n + (n + (suc n + (levelAt n l + i))));
+  LF = λ l i. f (n + (n + (suc n + (levelAt n l + (n + i)))));
+  LV = λ l i. f (n + (n + (suc n + (levelAt n l + (n + (n + i))))));
+  SAT = f (n + (n + (suc n + (levelAt n n + 0))));
+  REF = f (n + (n + (suc n + (levelAt n n + 1))));
+}
+
+-- open where neither closing bit is set
+abbrev pub standingOf : Bool → Bool → Standing
+standingOf true refuted = standing.Satisfied
+standingOf false true = standing.Refuted
+standingOf false false = standing.Open
+
+abbrev pub levelOf : ℕ → Bits → ℕ → Level
+levelOf n b l = record { t = wordOf (b .LT l) n; f = wordOf (b .LF l) n; chosen = lowest (b .LV l) n }
+
+-- the first d of some levels, the last of them first
+unfoldable pub lastFirst : ℕ → (ℕ → Level) → List Level
+lastFirst zero a = []
+lastFirst (suc d) a = a d ∷ lastFirst d a
+
+-- the state of some bits: a set is its word, one set wire of several its number, depth n where no lower one is set
+abbrev pub unpacked : ℕ → Bits → State
+unpacked n b = record {
+  standing = standingOf (b .SAT) (b .REF);
+  t = wordOf (b .T) n;
+  f = wordOf (b .F) n;
+  levels = lastFirst (lowest (b .D) n) (levelOf n b);
+}
+
+-- the run of n that bytes would hold
+unfoldable pub runIn : ℕ → List ℕ → Run
+runIn n bytes = runOf n (unpacked n (stateAt n (λ k. wireIn bytes k)))
+
+-- the two lists are one
+abbrev pub same : List ℕ → List ℕ → Bool
+same [] [] = true
+same [] (y ∷ ys) = false
+same (x ∷ xs) [] = false
+same (x ∷ xs) (y ∷ ys) = eqb x y && same xs ys
+
+-- bytes of a well-formed state: the run in them is one, and packed again it gives them back.
+-- So a byte other than 0 or 1, no depth wire or two, both closing bits or an unused level that is not zero are no such bytes.
+unfoldable pub holdsState : ℕ → List ℕ → Bool
+holdsState n bytes = wellFormed (runIn n bytes) && same (bytesOf (stateBits n (stateOf (runIn n bytes)))) (take (stateWires n) bytes)
