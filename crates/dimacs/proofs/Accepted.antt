@@ -11,21 +11,21 @@ use lib.Pow.{pow-pos}
 use lib.ListN.{length, getD, replicate, length-append, length-replicate}
 use borrow.Author.Tests.{leb-true, eqb-true, eqb-false}
 use Rattle.words.proofs.Truth.{on, and-l, and-r, and-i}
-use Rattle.lexer.specs.Pieces.{Piece, linesFrom}
+use Rattle.lexer.specs.Pieces.{Piece, behind, linesFrom}
 use Rattle.lexer.specs.Numbers.{Number, number, malformed, numberOf}
 use Rattle.refusals.specs.declared.Refusal.{Refusal}
 use Rattle.refusals.specs.declared.Refusal.the-variants as R
 use Rattle.refusals.specs.declared.Outcome.{Outcome}
 use Rattle.refusals.specs.declared.Outcome.the-variants.{Taken, Refused}
 use Rattle.dimacs.specs.Rows.{Literal, wordsOf}
-use Rattle.dimacs.specs.Clauses.{Reading, clause, ended, unreadable, joined, before, clauses, rowsOf, counts}
-use Rattle.dimacs.specs.Header.{Header, header, noHeader, pastRemarks, headerOf}
-use Rattle.dimacs.specs.Text.{refused, bodyOf, within, valueOf, headed, tableOf}
+use Rattle.dimacs.specs.Clauses.{Reading, clause, ended, unreadable, joined, before, clauses, rowsOf, complete}
+use Rattle.dimacs.specs.Header.{Numbers, numbers, none, numbersOf, pastRemarks}
+use Rattle.dimacs.specs.Text.{refused, bodyOf, within, headed, fromHeader, tableOf}
 use Rattle.dimacs.specs.Pair.{pairOf, acceptedPair, refusedPair}
 use Rattle.dimacs.specs.declared.Table.{Table}
 use Rattle.dimacs.specs.declared.Pair.{Pair}
 use Rattle.dimacs.proofs.Literals.{below, row-lt}
-use Rattle.dimacs.proofs.Fill.{counts-length, words-length}
+use Rattle.dimacs.proofs.Fill.{words-length}
 use Rattle.dimacs.proofs.Pairs.{left-refused, right-refused, differ, agree}
 
 -- ---- every literal that is read is below n
@@ -83,15 +83,14 @@ Fine t = t .outcome ≡ Taken → Within (t .n) (t .rows) (t .words)
 refused-fine : (r : Refusal) → Fine (refused r)
 refused-fine r e = absurd (let z : _≡_ {A = ℕ} 0 1 = cc in omega arith)
 
-within-low : (most : ℕ) (x : Number) → within most x ≡ true → (1 ≤ valueOf x) × (valueOf x ≤ most)
-within-low most malformed e = absurd (false≢true e)
-within-low most (number true v) e = absurd (false≢true e)
-within-low most (number false v) e = (leb-true 1 v (and-l (leb 1 v) (leb v most) e), leb-true v most (and-r (leb 1 v) (leb v most) e))
+within-low : (most : ℕ) (s : Bool) (v : ℕ) → within most s v ≡ true → (1 ≤ v) × (v ≤ most)
+within-low most true v e = absurd (false≢true e)
+within-low most false v e = (leb-true 1 v (and-l (leb 1 v) (leb v most) e), leb-true v most (and-r (leb 1 v) (leb v most) e))
 
 body-fine : (n m : ℕ) (ts : List Piece) → (1 ≤ n) × (n ≤ 32) → (1 ≤ m) × (m ≤ 128) → Fine (bodyOf n m (clauses n ts))
 body-fine n m ts hn hm =
-    on (counts m (clauses n ts))
-    (λ c. let k : length (rowsOf (clauses n ts)) ≡ m = counts-length m (clauses n ts) c in
+    on (complete (clauses n ts) && eqb (length (rowsOf (clauses n ts))) m)
+    (λ c. let k : length (rowsOf (clauses n ts)) ≡ m = eqb-true _ m (and-r (complete (clauses n ts)) _ c) in
     rw c (λ e. record {
       variables-low = hn .0;
       variables-high = hn .1;
@@ -102,21 +101,27 @@ body-fine n m ts hn hm =
     }))
     (λ c. rw c (refused-fine R.Text))
 
-headed-fine : (text : List ℕ) (h : Header) → Fine (headed text h)
-headed-fine text noHeader = refused-fine R.Text
-headed-fine text (header n m end) =
-    on (within 32 n)
-    (λ a. on (within 128 m)
-    (λ b. rw (a, b) (body-fine (valueOf n) (valueOf m) _ (within-low 32 n a) (within-low 128 m b)))
+headed-fine : (text : List ℕ) (end : ℕ) (x : Numbers) → Fine (headed text end x)
+headed-fine text end none = refused-fine R.Text
+headed-fine text end (numbers malformed m) = refused-fine R.Text
+headed-fine text end (numbers (number s n) malformed) = refused-fine R.Text
+headed-fine text end (numbers (number s n) (number t m)) =
+    on (within 32 s n)
+    (λ a. on (within 128 t m)
+    (λ b. rw (a, b) (body-fine n m _ (within-low 32 s n a) (within-low 128 t m b)))
     (λ b. rw (a, b) (refused-fine R.RowCount)))
     (λ a. rw a (refused-fine R.Variables))
+
+lines-fine : (text : List ℕ) (lines : List Piece) → Fine (fromHeader text lines)
+lines-fine text [] = refused-fine R.Text
+lines-fine text (l ∷ ls) = headed-fine text (behind l) (numbersOf (l .bytes))
 
 pub accepted-text : (text : List ℕ) → tableOf text .outcome ≡ Taken → Within (tableOf text .n) (tableOf text .rows) (tableOf text .words)
 unfolding tableOf
 accepted-text text =
     on (ltb 65536 (length text))
     (λ e. rw e (refused-fine R.Text))
-    (λ e. rw e (headed-fine text (headerOf (pastRemarks (linesFrom text 0)))))
+    (λ e. rw e (lines-fine text (pastRemarks (linesFrom text 0))))
 
 -- ---- an accepted pair
 

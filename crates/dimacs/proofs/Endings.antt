@@ -1,8 +1,8 @@
 -- Every text ends in exactly one of accepted, 1, 2 and 5, and every pair of texts in one of these and 6. By the cases of the definitions.
 -- Assumes nothing.
 use mathlib.Core.Path.{_≡_, refl, sym, ap, _∙_}
-use mathlib.Core.Bool.{Bool, true, false, not}
-use mathlib.Core.List.{List}
+use mathlib.Core.Bool.{Bool, true, false, not, _&&_}
+use mathlib.Core.List.{List, [], _∷_}
 use Prim.Native.Nat.{ℕ, _+_}
 use native.Mathlib.Nat.{add-zero}
 use native.Mathlib.Omega.{arith}
@@ -11,15 +11,16 @@ use lib.ListN.{length}
 use borrow.Author.Tests.{eqb-true}
 use Rattle.words.specs.Booleans.{digit}
 use Rattle.words.proofs.Truth.{on}
-use Rattle.lexer.specs.Pieces.{linesFrom}
+use Rattle.lexer.specs.Pieces.{Piece, behind, linesFrom}
+use Rattle.lexer.specs.Numbers.{number, malformed}
 use Rattle.refusals.specs.Numbers.{numberOf}
 use Rattle.refusals.specs.Checks.{unless, given}
 use Rattle.refusals.specs.declared.Refusal.the-variants.{TextsDiffer}
 use Rattle.refusals.specs.declared.Outcome.{Outcome}
 use Rattle.refusals.specs.declared.Outcome.the-variants.{Taken, Refused}
-use Rattle.dimacs.specs.Clauses.{counts, clausesFrom}
-use Rattle.dimacs.specs.Header.{Header, header, noHeader, pastRemarks, headerOf}
-use Rattle.dimacs.specs.Text.{within, valueOf, headed, tableOf}
+use Rattle.dimacs.specs.Clauses.{clausesFrom, rowsOf, complete}
+use Rattle.dimacs.specs.Header.{Numbers, numbers, none, numbersOf, pastRemarks}
+use Rattle.dimacs.specs.Text.{within, headed, fromHeader, tableOf}
 use Rattle.dimacs.specs.Pair.{acceptedPair, refusedPair, pairOf}
 use Rattle.dimacs.specs.declared.Table.{Table}
 
@@ -32,21 +33,28 @@ ending (Refused r) = numberOf r
 abbrev pub oneOf : ℕ → ℕ
 oneOf k = digit (eqb k 0) + digit (eqb k 1) + digit (eqb k 2) + digit (eqb k 5)
 
-headed-ending : (text : List ℕ) (h : Header) → oneOf (ending (headed text h .outcome)) ≡ 1
-headed-ending text noHeader = refl
-headed-ending text (header n m end) =
-    on (within 32 n)
-    (λ a. on (within 128 m)
-    (λ b. on (counts (valueOf m) (clausesFrom (valueOf n) text end)) (λ c. rw (a, b, c)) (λ c. rw (a, b, c)))
+headed-ending : (text : List ℕ) (end : ℕ) (x : Numbers) → oneOf (ending (headed text end x .outcome)) ≡ 1
+headed-ending text end none = refl
+headed-ending text end (numbers malformed m) = refl
+headed-ending text end (numbers (number s n) malformed) = refl
+headed-ending text end (numbers (number s n) (number t m)) =
+    let x = clausesFrom n text end in
+    on (within 32 s n)
+    (λ a. on (within 128 t m)
+    (λ b. on (complete x && eqb (length (rowsOf x)) m) (λ c. rw (a, b, c)) (λ c. rw (a, b, c)))
     (λ b. rw (a, b)))
     (λ a. rw a)
+
+lines-ending : (text : List ℕ) (lines : List Piece) → oneOf (ending (fromHeader text lines .outcome)) ≡ 1
+lines-ending text [] = refl
+lines-ending text (l ∷ ls) = headed-ending text (behind l) (numbersOf (l .bytes))
 
 pub text-ending : (text : List ℕ) → oneOf (ending (tableOf text .outcome)) ≡ 1
 unfolding tableOf
 text-ending text =
     on (ltb 65536 (length text))
     (λ e. rw e)
-    (λ e. rw e (headed-ending text (headerOf (pastRemarks (linesFrom text 0)))))
+    (λ e. rw e (lines-ending text (pastRemarks (linesFrom text 0))))
 
 -- ---- two texts
 

@@ -7,9 +7,9 @@ use Prim.Native.String.{String}
 use lib.ListN.{take}
 use Rattle.words.specs.Sets.{put}
 use Rattle.lexer.specs.Spelling.{bytes}
-use Rattle.lexer.specs.Bytes.{trimmed, same}
+use Rattle.lexer.specs.Bytes.{run, trimmed, same}
 use Rattle.lexer.specs.Pieces.{cut, filled, partsFrom}
-use Rattle.lexer.specs.Numbers.{digitsAfter, leadingZero, decimalOf, numberOf}
+use Rattle.lexer.specs.Numbers.{digitsAfter, decimalOf, numberOf}
 use Rattle.dimacs.specs.Clauses.{clauses}
 use Rattle.dimacs.specs.Header.{pastRemarks}
 use Rattle.dimacs.specs.Text.{tableOf}
@@ -17,7 +17,7 @@ use Rattle.dimacs.proofs.Endings.{ending}
 
 -- the ending, n, the row count and the first four words
 meaning : String → List ℕ
-unfolding tableOf pastRemarks partsFrom cut filled trimmed same clauses numberOf decimalOf leadingZero digitsAfter put
+unfolding tableOf pastRemarks partsFrom cut filled run trimmed same clauses numberOf decimalOf digitsAfter put
 meaning s = let t = tableOf (bytes s) in ending (t .outcome) ∷ (t .n ∷ (t .rows ∷ take 4 (t .words)))
 
 abbrev table : ℕ → ℕ → ℕ → ℕ → ℕ → ℕ → List ℕ

@@ -1,11 +1,12 @@
 -- Rows filled into words, a clause at a time: the rows still to come fill the words as all rows fill empty ones.
 -- Assumes nothing.
 use mathlib.Core.Path.{_≡_, refl, sym, ap, ap₂, _∙_, subst}
-use mathlib.Core.Bool.{true, false, false≢true}
+use mathlib.Core.Bool.{true, false, false≢true, _&&_, and-false}
 use mathlib.Core.List.{List, [], _∷_, _++_}
 use mathlib.Core.Logic.{⊎-elim}
 use Prim.Native.Nat.{ℕ, zero, suc, _+_, _-_, _*_, _≤_, _<_}
 use native.Mathlib.Omega.{arith}
+use lib.Dec.{eqb, eqb·zero-suc, eqb·suc-zero, eqb·suc-suc}
 use lib.ListN.{length, drop, set, replicate, length-replicate, length-set}
 use lib.Seq.{sets, sets-eq}
 use types.Run.{OneOf}
@@ -13,9 +14,9 @@ use denote.Enum.Declared.{tagOf}
 use Rattle.refusals.specs.declared.Refusal.the-variants.{Text}
 use Rattle.refusals.specs.declared.Outcome.the-variants.{Taken}
 use Rattle.dimacs.specs.Rows.{wordsOf}
-use Rattle.dimacs.specs.Clauses.{Reading, clause, ended, unreadable, clausesFrom, rowsOf, counts}
+use Rattle.dimacs.specs.Clauses.{Reading, clause, ended, unreadable, clausesFrom, rowsOf, complete}
 use Rattle.dimacs.specs.Text.{refused, bodyOf}
-use Rattle.dimacs.specs.Answers.{first}
+use Rattle.dimacs.specs.Answers.{first, counts}
 use Rattle.dimacs.specs.declared.clauses.Row.{Row}
 use Rattle.dimacs.specs.declared.clauses.Clause.{Clause}
 use Rattle.dimacs.specs.declared.clauses.Clause.the-variants.{Read, End}
@@ -78,6 +79,15 @@ counts-length (suc m) (clause ls s e rest) h = ap suc (counts-length m rest h)
 counts-length (suc m) ended h = absurd (false≢true h)
 counts-length (suc m) unreadable h = absurd (false≢true h)
 
+-- counting the clauses one by one
+pub counts-is : (m : ℕ) (x : Reading) → complete x && eqb (length (rowsOf x)) m ≡ counts m x
+counts-is zero (clause ls s e rest) = rw eqb·suc-zero (and-false (complete rest))
+counts-is zero ended = refl
+counts-is zero unreadable = refl
+counts-is (suc m) (clause ls s e rest) = rw eqb·suc-suc (counts-is m rest)
+counts-is (suc m) ended = rw eqb·zero-suc
+counts-is (suc m) unreadable = refl
+
 -- ---- the loop
 
 -- k rows are filled in, and the clauses from `at` on give what those from `start` on give
@@ -112,7 +122,7 @@ module _ {n m : ℕ} {text : List ℕ} {start : ℕ} {words : List ℕ} {at k : 
   pub unread : (y : Clause) → k < m → y ≡ first (clausesFrom n text at) → Tagged (1 ∷ (2 ∷ [])) y → bodyOf n m (clausesFrom n text start) ≡ refused Text
   unread y h e q =
       let left : m - k ≡ suc (m - (k + 1)) = omega arith in
-      rw (sym (F .counted) ∙ ap (λ (i : ℕ). counts i (clausesFrom n text at)) left ∙ not-read (clausesFrom n text at) (m - (k + 1)) (subst (Tagged (1 ∷ (2 ∷ []))) e q))
+      rw (counts-is m (clausesFrom n text start) ∙ sym (F .counted) ∙ ap (λ (i : ℕ). counts i (clausesFrom n text at)) left ∙ not-read (clausesFrom n text at) (m - (k + 1)) (subst (Tagged (1 ∷ (2 ∷ []))) e q))
 
   module _ (h : m ≤ k) where
     none-left : counts 0 (clausesFrom n text at) ≡ counts m (clausesFrom n text start)
@@ -120,7 +130,7 @@ module _ {n m : ℕ} {text : List ℕ} {start : ℕ} {words : List ℕ} {at k : 
 
     -- a clause too many
     pub overfull : (y : Clause) → y ≡ first (clausesFrom n text at) → Tagged (0 ∷ (2 ∷ [])) y → bodyOf n m (clausesFrom n text start) ≡ refused Text
-    overfull y e q = rw (sym none-left ∙ not-ended (clausesFrom n text at) (subst (Tagged (0 ∷ (2 ∷ []))) e q))
+    overfull y e q = rw (counts-is m (clausesFrom n text start) ∙ sym none-left ∙ not-ended (clausesFrom n text at) (subst (Tagged (0 ∷ (2 ∷ []))) e q))
 
     pub full : m ≤ 128 → first (clausesFrom n text at) ≡ End
         → _≡_ {A = Table} (record { outcome = Taken; n = n; rows = m; words = words }) (bodyOf n m (clausesFrom n text start))
@@ -130,6 +140,6 @@ module _ {n m : ℕ} {text : List ℕ} {start : ℕ} {words : List ℕ} {at k : 
         let all : counts m x ≡ true = sym none-left ∙ ap (counts 0) last in
         let rows : length (rowsOf x) ≡ m = counts-length m x all in
         let fill : words ≡ sets (replicate 256 0) 0 (wordsOf (rowsOf x)) = sym (ap (λ (y : Reading). sets words (2 * k) (wordsOf (rowsOf y))) last) ∙ F .filled in
-        rw all
+        rw (counts-is m x ∙ all)
         (ap₂ (λ (i : ℕ) (l : List ℕ). record { outcome = Taken; n = n; rows = i; words = l }) (sym rows)
         (fill ∙ words-all 256 (rowsOf x) (omega arith)))

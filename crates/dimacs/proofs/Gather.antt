@@ -9,19 +9,21 @@ use lib.Dec.{ltb}
 use lib.ListN.{length}
 use borrow.Author.Tests.{lt-ltb, le-ltb}
 use Rattle.words.proofs.Truth.{on}
-use Rattle.lexer.specs.Bytes.{isSeparator, part}
+use Rattle.lexer.specs.Bytes.{isSeparator}
 use Rattle.lexer.specs.Pieces.{Piece, behind, tokensFrom}
 use Rattle.lexer.specs.Numbers.{Number, number, malformed, numberOf}
 use Rattle.lexer.specs.Answers.{numberHeld, firstOf}
+use Rattle.lexer.specs.Places.{part}
 use Rattle.lexer.specs.declared.numbers.Number.the-variants as L
 use Rattle.lexer.proofs.Decimals.{held-value, held-none}
 use Rattle.lexer.proofs.Cuts.{Found, found}
-use Rattle.dimacs.specs.Rows.{Literal, emptyRow, withLiteral, withLiterals, rowOf}
+use Rattle.dimacs.specs.Rows.{Literal, withLiteral, rowOf}
 use Rattle.dimacs.specs.Clauses.{Reading, clause, ended, unreadable, joined, before, clauses, clausesFrom}
-use Rattle.dimacs.specs.Answers.{first}
+use Rattle.dimacs.specs.Answers.{first, emptyRow, withLiterals}
 use Rattle.dimacs.specs.declared.clauses.Row.{Row}
 use Rattle.dimacs.specs.declared.clauses.Clause.{Clause}
 use Rattle.dimacs.specs.declared.clauses.Clause.the-variants.{Read, Unreadable}
+use Rattle.dimacs.proofs.Literals.{row-filled}
 
 -- a clause begun at a place, with a row so far, goes on with the first clause of a reading
 abbrev pub carried : Row → ℕ → Reading → Clause
@@ -35,7 +37,7 @@ carried-joined row start at l ended = refl
 carried-joined row start at l unreadable = refl
 
 first-joined : (start : ℕ) (l : Literal) (x : Reading) → first (joined l start x) ≡ carried emptyRow start (joined l start x)
-first-joined start l (clause ls from to rest) = refl
+first-joined start l (clause ls from to rest) = ap (λ (r : Row). Read r start to) (sym (row-filled (l ∷ ls)))
 first-joined start l ended = refl
 first-joined start l unreadable = refl
 

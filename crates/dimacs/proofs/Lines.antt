@@ -11,11 +11,14 @@ use lib.ListN.{length, drop, take, getD, drop-of-length-le, length-drop, length-
 use lib.Seq.{drop-cons, drop-drop}
 use borrow.Author.Tests.{eq-eqb, ne-eqb, eqb-true}
 use Rattle.words.proofs.Truth.{on}
-use Rattle.lexer.specs.Bytes.{isLineFeed, run, runEnd, part, trimmed}
+use Rattle.lexer.specs.Bytes.{isLineFeed, run, trimmed}
 use Rattle.lexer.specs.Pieces.{cut, filled, linesFrom, partsFrom}
+use Rattle.lexer.specs.Places.{runEnd, part}
+use Rattle.refusals.specs.declared.Refusal.the-variants.{Text}
 use Rattle.lexer.proofs.Runs.{end-le}
 use Rattle.lexer.proofs.Cuts.{later, cut-first}
-use Rattle.dimacs.specs.Header.{isRemark, pastRemarks, noHeader, headerOf, numbersOf, ending}
+use Rattle.dimacs.specs.Header.{isRemark, pastRemarks, numbersOf}
+use Rattle.dimacs.specs.Text.{refused, headed, fromHeader}
 
 abbrev inLine : ℕ → Bool
 inLine b = not (isLineFeed b)
@@ -65,16 +68,16 @@ module _ (text : List ℕ) (at : ℕ) where
   unfolding pastRemarks cut
   no-line h = rw (drop-of-length-le text h)
 
-  pub empty-line : length text ≤ at → headerOf (linesFrom text at) ≡ noHeader
-  unfolding cut trimmed partsFrom filled
+  pub empty-line : length text ≤ at → fromHeader text (linesFrom text at) ≡ refused Text
+  unfolding cut trimmed run partsFrom filled
   empty-line h = rw (drop-of-length-le text h)
 
   -- the header is read in its line
-  pub header-at : (end : ℕ) → end ≡ runEnd inLine text at → at ≤ length text → headerOf (linesFrom text at) ≡ ending (numbersOf (part at end text)) end
+  pub header-at : (end : ℕ) → end ≡ runEnd inLine text at → at ≤ length text → fromHeader text (linesFrom text at) ≡ headed text end (numbersOf (part at end text))
   unfolding runEnd
   header-at end e h =
       let k = run inLine (drop at text) in
       let bound : at + k ≤ length text = end-le inLine text at h in
       let width : k ≡ end - at = omega (arith, e) in
       let place : at + length (take k (drop at text)) ≡ end = simp (length-take, length-drop) (omega (arith, e, bound)) in
-      ap headerOf lines-first ∙ ap₂ (λ (i j : ℕ). ending (numbersOf (take i (drop at text))) j) width place
+      ap (fromHeader text) lines-first ∙ ap₂ (λ (i j : ℕ). headed text j (numbersOf (take i (drop at text)))) width place

@@ -2,7 +2,7 @@
 -- signs makes padding. By the bits of the two words, a literal at a time.
 -- Assumes nothing.
 use mathlib.Core.Path.{_≡_, refl, sym, ap, ap₂, _∙_}
-use mathlib.Core.Bool.{Bool, true, false, not, _&&_, _||_, false≢true, or-false, or-assoc}
+use mathlib.Core.Bool.{Bool, true, false, not, _&&_, _||_, false≢true, or-false, or-assoc, or-comm}
 use mathlib.Core.List.{List, [], _∷_}
 use Prim.Native.Nat.{ℕ, suc, _+_, _^_, _≤_, _<_}
 use native.Mathlib.Omega.{arith}
@@ -13,7 +13,8 @@ use Rattle.words.specs.Sets.{bit}
 use Rattle.words.proofs.Truth.{on, and-l, and-r, and-i}
 use Rattle.words.proofs.Bits.{bit-zero, bit-put, put-lt}
 use Rattle.words.proofs.Operations.{bit-ext}
-use Rattle.dimacs.specs.Rows.{Literal, emptyRow, withLiteral, withLiterals, rowOf}
+use Rattle.dimacs.specs.Rows.{Literal, withLiteral, rowOf}
+use Rattle.dimacs.specs.Answers.{emptyRow, withLiterals}
 use Rattle.dimacs.specs.declared.clauses.Row.{Row}
 
 -- the word of a sign
@@ -43,13 +44,17 @@ bits-with s i r (l ∷ ls) =
     ∙ ap (λ (x : Bool). x || holds s i ls) (bit-with s (l .minus) (l .bit) i r)
     ∙ or-assoc (bit (wordFor s r) i) (same s (l .minus) && eqb i (l .bit)) (holds s i ls)
 
+empty-holds : (s : Bool) (i : ℕ) → bit (wordFor s emptyRow) i ≡ false
+empty-holds true i = bit-zero i
+empty-holds false i = bit-zero i
+
 -- the row has exactly the clause's literals
 pub row-holds : (s : Bool) (i : ℕ) (ls : List Literal) → bit (wordFor s (rowOf ls)) i ≡ holds s i ls
-row-holds s i ls = bits-with s i emptyRow ls ∙ ap (λ (x : Bool). x || holds s i ls) (empty s)
-  where
-    empty : (s : Bool) → bit (wordFor s emptyRow) i ≡ false
-    empty true = bit-zero i
-    empty false = bit-zero i
+row-holds s i [] = empty-holds s i
+row-holds s i (l ∷ ls) =
+    bit-with s (l .minus) (l .bit) i (rowOf ls)
+    ∙ ap (λ (x : Bool). x || same s (l .minus) && eqb i (l .bit)) (row-holds s i ls)
+    ∙ or-comm (holds s i ls) (same s (l .minus) && eqb i (l .bit))
 
 -- ---- clauses whose variables are below n
 
@@ -69,13 +74,15 @@ withs-lt n s (l ∷ ls) r h k =
     withs-lt n s ls (withLiteral (l .minus) (l .bit) r) (and-r (ltb (l .bit) n) (below n ls) h)
     (with-lt n s (l .minus) (l .bit) r (ltb-true (l .bit) n (and-l (ltb (l .bit) n) (below n ls) h)) k)
 
+empty-lt : (n : ℕ) (s : Bool) → wordFor s emptyRow < 2 ^ n
+empty-lt n true = pow-pos n
+empty-lt n false = pow-pos n
+
 -- their row has no bit at or above n
 pub row-lt : (n : ℕ) (s : Bool) (ls : List Literal) → below n ls ≡ true → wordFor s (rowOf ls) < 2 ^ n
-row-lt n s ls h = withs-lt n s ls emptyRow h (empty s)
-  where
-    empty : (s : Bool) → wordFor s emptyRow < 2 ^ n
-    empty true = pow-pos n
-    empty false = pow-pos n
+row-lt n s [] h = empty-lt n s
+row-lt n s (l ∷ ls) h =
+    with-lt n s (l .minus) (l .bit) (rowOf ls) (ltb-true (l .bit) n (and-l (ltb (l .bit) n) (below n ls) h)) (row-lt n s ls (and-r (ltb (l .bit) n) (below n ls) h))
 
 -- ---- the same literals, the same row
 
@@ -103,6 +110,16 @@ same-row ls ks h = ap₂ (λ (p q : ℕ). record { positive = p; negative = q })
         (row-lt (width ls + width ks) s ls (below-more (width ls) (width ls + width ks) ls (omega arith) (below-width ls)))
         (row-lt (width ls + width ks) s ks (below-more (width ks) (width ls + width ks) ks (omega arith) (below-width ks)))
         (λ i k. row-holds s i ls ∙ h s i ∙ sym (row-holds s i ks))
+
+-- literals that are added from the first on give the row too
+pub row-filled : (ls : List Literal) → withLiterals emptyRow ls ≡ rowOf ls
+row-filled ls = ap₂ (λ (p q : ℕ). record { positive = p; negative = q }) (words false) (words true)
+  where
+    words : (s : Bool) → wordFor s (withLiterals emptyRow ls) ≡ wordFor s (rowOf ls)
+    words s =
+        bit-ext (width ls) (wordFor s (withLiterals emptyRow ls)) (wordFor s (rowOf ls))
+        (withs-lt (width ls) s ls emptyRow (below-width ls) (empty-lt (width ls) s)) (row-lt (width ls) s ls (below-width ls))
+        (λ i k. bits-with s i emptyRow ls ∙ ap (λ (x : Bool). x || holds s i ls) (empty-holds s i) ∙ sym (row-holds s i ls))
 
 -- a repeated literal counts once
 pub repeated : (l : Literal) (ls : List Literal) → holds (l .minus) (l .bit) ls ≡ true → rowOf (l ∷ ls) ≡ rowOf ls

@@ -8,15 +8,16 @@ use native.Mathlib.Omega.{arith}
 use lib.Dec.{eqb}
 use borrow.Author.Tests.{eq-eqb, ne-eqb}
 use Rattle.lexer.specs.Spelling.{bytes}
-use Rattle.lexer.specs.Bytes.{isBlank, part, same}
+use Rattle.lexer.specs.Bytes.{isBlank, same}
 use Rattle.lexer.specs.Pieces.{Piece, partsFrom}
 use Rattle.lexer.specs.Numbers.{Number, number, malformed, numberOf}
 use Rattle.lexer.specs.Answers.{numberHeld}
+use Rattle.lexer.specs.Places.{part}
 use Rattle.lexer.specs.declared.numbers.Number as LN
 use Rattle.lexer.specs.declared.numbers.Number.the-variants as L
 use Rattle.lexer.proofs.Cuts.{Found}
 use Rattle.lexer.proofs.Decimals.{held-none}
-use Rattle.dimacs.specs.Header.{none, wellFormed, twoNumbers, headerParts}
+use Rattle.dimacs.specs.Header.{numbers, none, twoNumbers, headerParts}
 use Rattle.dimacs.specs.Answers.{numbersHeld}
 use Rattle.dimacs.specs.declared.header.Numbers.the-variants.{Of, Malformed}
 
@@ -64,27 +65,27 @@ module _ (line : List ℕ) where
         pub three-sizes : (x xe : ℕ) → Found isBlank line me x xe → twoNumbers (partsAt at) ≡ none
         three-sizes x xe X = rw (N .pieces, M .pieces, X .pieces)
 
-        pub two-sizes : partsAt me ≡ [] → twoNumbers (partsAt at) ≡ wellFormed (numberOf (part n ne line)) (numberOf (part m me line))
+        pub two-sizes : partsAt me ≡ [] → twoNumbers (partsAt at) ≡ numbers (numberOf (part n ne line)) (numberOf (part m me line))
         two-sizes e = rw (N .pieces, M .pieces, e)
 
 -- ---- both numbers
 
 module _ (n m : List ℕ) where
-  pub no-n : numberHeld (numberOf n) ≡ L.Malformed → wellFormed (numberOf n) (numberOf m) ≡ none
+  pub no-n : numberHeld (numberOf n) ≡ L.Malformed → numbersHeld (numbers (numberOf n) (numberOf m)) ≡ Malformed
   no-n e = rw (held-none (numberOf n) e)
 
-  pub no-m : numberHeld (numberOf m) ≡ L.Malformed → wellFormed (numberOf n) (numberOf m) ≡ none
-  no-m e = ap (wellFormed (numberOf n)) (held-none (numberOf m) e) ∙ go (numberOf n)
+  pub no-m : numberHeld (numberOf m) ≡ L.Malformed → numbersHeld (numbers (numberOf n) (numberOf m)) ≡ Malformed
+  no-m e = ap (λ (x : Number). numbersHeld (numbers (numberOf n) x)) (held-none (numberOf m) e) ∙ go (numberOf n)
     where
-      go : (x : Number) → wellFormed x malformed ≡ none
+      go : (x : Number) → numbersHeld (numbers x malformed) ≡ Malformed
       go malformed = refl
       go (number s v) = refl
 
   pub both : (s t : Bool) (v w : ℕ) → numberHeld (numberOf n) ≡ L.Value s v → numberHeld (numberOf m) ≡ L.Value t w
-      → numbersHeld (wellFormed (numberOf n) (numberOf m)) ≡ Of (L.Value s v) (L.Value t w)
+      → numbersHeld (numbers (numberOf n) (numberOf m)) ≡ Of (L.Value s v) (L.Value t w)
   both s t v w e f = go (numberOf n) (numberOf m) e f
     where
-      go : (x y : Number) → numberHeld x ≡ L.Value s v → numberHeld y ≡ L.Value t w → numbersHeld (wellFormed x y) ≡ Of (L.Value s v) (L.Value t w)
+      go : (x y : Number) → numberHeld x ≡ L.Value s v → numberHeld y ≡ L.Value t w → numbersHeld (numbers x y) ≡ Of (L.Value s v) (L.Value t w)
       go malformed y e f = absurd (let z : _≡_ {A = ℕ} 0 1 = cc in omega arith)
       go (number a b) malformed e f = absurd (let z : _≡_ {A = ℕ} 0 1 = cc in omega arith)
       go (number a b) (number c d) e f = ap₂ (λ (p q : LN.Number). Of p q) e f

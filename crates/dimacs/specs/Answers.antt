@@ -1,13 +1,16 @@
 -- The code's answers against the definitions.
-use Prim.Native.Nat.{ℕ}
-use mathlib.Core.Bool.{true, false, cond}
+use Prim.Native.Nat.{ℕ, zero, suc}
+use mathlib.Core.Bool.{Bool, true, false, cond}
+use mathlib.Core.List.{List, [], _∷_}
 use lib.Dec.{leb}
+use Rattle.lexer.specs.Numbers.{number, malformed}
 use Rattle.lexer.specs.Answers.{numberHeld}
 use Rattle.lexer.specs.declared.numbers.Number as LN
 use Rattle.lexer.specs.declared.numbers.Number.the-variants as L
-use Rattle.dimacs.specs.Rows.{rowOf}
+use Rattle.dimacs.specs.Rows.{Literal, withLiteral, rowOf}
 use Rattle.dimacs.specs.Clauses.{Reading, clause, ended, unreadable}
 use Rattle.dimacs.specs.Header as H
+use Rattle.dimacs.specs.declared.clauses.Row.{Row}
 use Rattle.dimacs.specs.declared.clauses.Clause.{Clause}
 use Rattle.dimacs.specs.declared.clauses.Clause.the-variants.{Read, End, Unreadable}
 use Rattle.dimacs.specs.declared.header.Numbers.{Numbers}
@@ -19,10 +22,29 @@ first (clause ls from to rest) = Read (rowOf ls) from to
 first ended = End
 first unreadable = Unreadable
 
--- a header's numbers, held as the lexer holds them
+-- a row without literals, and a row with all literals of a list more
+abbrev pub emptyRow : Row
+emptyRow = record { positive = 0; negative = 0 }
+
+abbrev pub withLiterals : Row → List Literal → Row
+withLiterals r [] = r
+withLiterals r (l ∷ ls) = withLiterals (withLiteral (l .minus) (l .bit) r) ls
+
+-- m clauses, and then the end
+abbrev pub counts : ℕ → Reading → Bool
+counts zero (clause ls from to rest) = false
+counts zero ended = true
+counts zero unreadable = false
+counts (suc m) (clause ls from to rest) = counts m rest
+counts (suc m) ended = false
+counts (suc m) unreadable = false
+
+-- a well-formed header's numbers, held as the lexer holds them
 abbrev pub numbersHeld : H.Numbers → Numbers
-numbersHeld (H.numbers n m) = Of (numberHeld n) (numberHeld m)
 numbersHeld H.none = Malformed
+numbersHeld (H.numbers malformed m) = Malformed
+numbersHeld (H.numbers (number s n) malformed) = Malformed
+numbersHeld (H.numbers (number s n) (number t m)) = Of (numberHeld (number s n)) (numberHeld (number t m))
 
 -- a held number's value where it is from 1 to `most`, and else 0
 abbrev pub limitedOf : ℕ → LN.Number → ℕ

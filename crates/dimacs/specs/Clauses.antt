@@ -40,11 +40,8 @@ rowsOf (clause ls from to rest) = rowOf ls ∷ rowsOf rest
 rowsOf ended = []
 rowsOf unreadable = []
 
--- m clauses, and then the end
-abbrev pub counts : ℕ → Reading → Bool
-counts zero (clause ls from to rest) = false
-counts zero ended = true
-counts zero unreadable = false
-counts (suc m) (clause ls from to rest) = counts m rest
-counts (suc m) ended = false
-counts (suc m) unreadable = false
+-- all clauses could be read
+abbrev pub complete : Reading → Bool
+complete (clause ls from to rest) = complete rest
+complete ended = true
+complete unreadable = false

@@ -10,22 +10,15 @@ pub record Literal : Type 0 where
   pub minus : Bool
   pub bit : ℕ
 
-abbrev pub emptyRow : Row
-emptyRow = record { positive = 0; negative = 0 }
-
 -- a row with a literal more: its bit in the word of its sign, where a repeated literal's is already
 abbrev pub withLiteral : Bool → ℕ → Row → Row
 withLiteral false i r = record { positive = put (r .positive) i; negative = r .negative }
 withLiteral true i r = record { positive = r .positive; negative = put (r .negative) i }
 
--- a row with all literals of a list more
-abbrev pub withLiterals : Row → List Literal → Row
-withLiterals r [] = r
-withLiterals r (l ∷ ls) = withLiterals (withLiteral (l .minus) (l .bit) r) ls
-
 -- the row of a clause
 abbrev pub rowOf : List Literal → Row
-rowOf ls = withLiterals emptyRow ls
+rowOf [] = record { positive = 0; negative = 0 }
+rowOf (l ∷ ls) = withLiteral (l .minus) (l .bit) (rowOf ls)
 
 -- rows as words: positive, then negative
 abbrev pub wordsOf : List Row → List ℕ

@@ -8,7 +8,8 @@ ghost use lib.ListN.{length};
 ghost use Rattle.lexer.specs.Bytes.{isBlank};
 ghost use Rattle.lexer.specs.Pieces.{linesFrom, partsFrom};
 ghost use Rattle.lexer.specs.Numbers.{numberOf};
-ghost use Rattle.dimacs.specs.Header.{pastRemarks, headerOf, wellFormed, twoNumbers, headerParts, numbersOf};
+ghost use Rattle.dimacs.specs.Header.{pastRemarks, numbers, twoNumbers, headerParts, numbersOf};
+ghost use Rattle.dimacs.specs.Text.{fromHeader};
 ghost use Rattle.dimacs.specs.Answers.{numbersHeld};
 
 // A header's two numbers.
@@ -20,7 +21,7 @@ pub(crate) enum Numbers {
 // The place of the first line that is no remark, or the end.
 pub(crate) fn find_header(text: &[u8]) -> usize
     ensures { λ r. ⌜ r ≤ length (now (text .entry)) ⌝ }
-    ensures { λ r. ⌜ headerOf (linesFrom (now (text .entry)) r) ≡ headerOf (pastRemarks (linesFrom (now (text .entry)) 0)) ⌝ }
+    ensures { λ r. ⌜ fromHeader (now (text .entry)) (linesFrom (now (text .entry)) r) ≡ fromHeader (now (text .entry)) (pastRemarks (linesFrom (now (text .entry)) 0)) ⌝ }
 {
     let mut at = 0;
     while at < text.len() {
@@ -38,7 +39,7 @@ pub(crate) fn find_header(text: &[u8]) -> usize
 
 // Both numbers of a header, where both are well-formed.
 fn read_both(n: &[u8], m: &[u8]) -> Numbers
-    ensures { λ r. ⌜ r ≡ numbersHeld (wellFormed (numberOf (now (n .entry))) (numberOf (now (m .entry)))) ⌝ }
+    ensures { λ r. ⌜ r ≡ numbersHeld (numbers (numberOf (now (n .entry))) (numberOf (now (m .entry)))) ⌝ }
 {
     let Number::Value(s, v) = lexer::numbers::read_number(n) else {
         return Numbers::Malformed;

@@ -10,9 +10,10 @@ use lib.Dec.{ltb}
 use lib.ListN.{length, drop, take, getD, drop-of-length-le, length-drop, length-take}
 use lib.Seq.{drop-cons, drop-drop}
 use borrow.Author.Tests.{ltb-true, ltb-false}
-use Rattle.lexer.specs.Bytes.{run, runEnd, part}
+use Rattle.lexer.specs.Bytes.{run}
 use Rattle.lexer.specs.Pieces.{Piece, cut, filled, partsFrom}
 use Rattle.lexer.specs.Answers.{firstOf}
+use Rattle.lexer.specs.Places.{runEnd, part}
 use Rattle.lexer.specs.declared.pieces.Piece.the-variants.{At, Nothing}
 use Rattle.lexer.proofs.Cases.{on}
 use Rattle.lexer.proofs.Runs.{end-ge, end-le}

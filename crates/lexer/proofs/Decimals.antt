@@ -3,6 +3,7 @@
 use mathlib.Core.Path.{_≡_, refl, sym, ap, _∙_}
 use mathlib.Core.Bool.{Bool, true, false, true≢false}
 use mathlib.Core.List.{List, [], _∷_}
+use mathlib.Core.Option.{Option, none, some}
 use Prim.Native.Nat.{ℕ, zero, suc, _+_, _-_, _*_, _≤_, _<_}
 use native.Mathlib.Numerals.{add-one}
 use native.Mathlib.Omega.{arith}
@@ -10,10 +11,11 @@ use lib.Dec.{eqb, leb}
 use lib.ListN.{length, drop, getD, drop-of-length-le}
 use lib.Seq.{drop-cons, take-all}
 use borrow.Author.Tests.{leb-true, eq-eqb, ne-eqb}
-use Rattle.lexer.specs.Bytes.{isDigit, part}
-use Rattle.lexer.specs.Numbers.{Decimal, digitsAfter, decimalOf, leadingZero, positive, negative, numberOf}
+use Rattle.lexer.specs.Bytes.{isDigit}
+use Rattle.lexer.specs.Numbers.{digitsAfter, decimalOf, positive, negative, numberOf}
 use Rattle.lexer.specs.Numbers as N
-use Rattle.lexer.specs.Answers.{held, digitsHeld, numberHeld}
+use Rattle.lexer.specs.Answers.{leadingZero, held, digitsHeld, numberHeld}
+use Rattle.lexer.specs.Places.{part}
 use Rattle.lexer.specs.declared.numbers.Number.{Number}
 use Rattle.lexer.specs.declared.numbers.Number.the-variants.{Value, Malformed}
 use Rattle.lexer.specs.declared.numbers.Digits.the-variants as D
@@ -45,20 +47,22 @@ pub no-more : (word : List ℕ) (v i : ℕ) → v ≤ 1000 → length word ≤ i
 unfolding digitsAfter
 no-more word v i l h = rw (drop-of-length-le word h) (ap D.Value (omega arith))
 
-pub empty : (word : List ℕ) → length word ≡ 0 → decimalOf word ≡ N.none
+pub empty : (word : List ℕ) → length word ≡ 0 → decimalOf word ≡ none
 unfolding decimalOf
 empty [] e = refl
 empty (b ∷ bs) e = absurd (omega arith)
 
-pub leading : (word : List ℕ) → leadingZero word ≡ true → decimalOf word ≡ N.none
-unfolding decimalOf
+pub leading : (word : List ℕ) → leadingZero word ≡ true → decimalOf word ≡ none
+unfolding decimalOf leadingZero
 leading [] e = refl
-leading (b ∷ bs) e = rw e
+leading (b ∷ []) e = absurd (true≢false (sym e))
+leading (b ∷ (d ∷ ds)) e = rw e
 
 pub plain : (word : List ℕ) → (length word ≡ 0 → ⊥) → leadingZero word ≡ false → decimalOf word ≡ digitsAfter 0 word
-unfolding decimalOf
+unfolding decimalOf leadingZero
 plain [] h e = absurd (h refl)
-plain (b ∷ bs) h e = rw e
+plain (b ∷ []) h e = refl
+plain (b ∷ (d ∷ ds)) h e = rw e
 
 pub zero-short : (word : List ℕ) → length word < 2 → leadingZero word ≡ false
 unfolding leadingZero
@@ -79,11 +83,11 @@ unfolding numberOf
 number-empty [] e = refl
 number-empty (b ∷ bs) e = absurd (omega arith)
 
-module _ (word : List ℕ) (some : length word ≡ 0 → ⊥) where
+module _ (word : List ℕ) (bytes : length word ≡ 0 → ⊥) where
   module _ (h : getD word 0 0 ≡ 45 → ⊥) where
     plain-number : numberOf word ≡ positive (decimalOf word)
     unfolding numberOf
-    plain-number = go word some h
+    plain-number = go word bytes h
       where
         go : (word : List ℕ) → (length word ≡ 0 → ⊥) → (getD word 0 0 ≡ 45 → ⊥) → numberOf word ≡ positive (decimalOf word)
         go [] h e = absurd (h refl)
@@ -92,16 +96,16 @@ module _ (word : List ℕ) (some : length word ≡ 0 → ⊥) where
     pub plain-value : (v : ℕ) → digitsHeld (decimalOf word) ≡ D.Value v → numberHeld (numberOf word) ≡ Value false v
     plain-value v e = ap numberHeld plain-number ∙ go (decimalOf word) e
       where
-        go : (d : Decimal) → digitsHeld d ≡ D.Value v → numberHeld (positive d) ≡ Value false v
-        go (N.decimal x) e = ap (Value false) (let i : held x ≡ v = cc in i)
-        go N.none e = absurd (let z : _≡_ {A = ℕ} 0 1 = cc in omega arith)
+        go : (d : Option ℕ) → digitsHeld d ≡ D.Value v → numberHeld (positive d) ≡ Value false v
+        go (some x) e = ap (Value false) (let i : held x ≡ v = cc in i)
+        go none e = absurd (let z : _≡_ {A = ℕ} 0 1 = cc in omega arith)
 
     pub plain-none : digitsHeld (decimalOf word) ≡ D.Malformed → numberHeld (numberOf word) ≡ Malformed
     plain-none e = ap numberHeld plain-number ∙ go (decimalOf word) e
       where
-        go : (d : Decimal) → digitsHeld d ≡ D.Malformed → numberHeld (positive d) ≡ Malformed
-        go (N.decimal x) e = absurd (let z : _≡_ {A = ℕ} 0 1 = cc in omega arith)
-        go N.none e = refl
+        go : (d : Option ℕ) → digitsHeld d ≡ D.Malformed → numberHeld (positive d) ≡ Malformed
+        go (some x) e = absurd (let z : _≡_ {A = ℕ} 0 1 = cc in omega arith)
+        go none e = refl
 
   module _ (h : getD word 0 0 ≡ 45) where
     abbrev rest : List ℕ
@@ -109,7 +113,7 @@ module _ (word : List ℕ) (some : length word ≡ 0 → ⊥) where
 
     minus-number : numberOf word ≡ negative (decimalOf rest)
     unfolding numberOf
-    minus-number = go word some h
+    minus-number = go word bytes h
       where
         go : (word : List ℕ) → (length word ≡ 0 → ⊥) → getD word 0 0 ≡ 45 → numberOf word ≡ negative (decimalOf (part 1 (length word) word))
         go [] h e = absurd (h refl)
@@ -118,26 +122,26 @@ module _ (word : List ℕ) (some : length word ≡ 0 → ⊥) where
     pub minus-none : digitsHeld (decimalOf rest) ≡ D.Malformed → numberHeld (numberOf word) ≡ Malformed
     minus-none e = ap numberHeld minus-number ∙ go (decimalOf rest) e
       where
-        go : (d : Decimal) → digitsHeld d ≡ D.Malformed → numberHeld (negative d) ≡ Malformed
-        go (N.decimal x) e = absurd (let z : _≡_ {A = ℕ} 0 1 = cc in omega arith)
-        go N.none e = refl
+        go : (d : Option ℕ) → digitsHeld d ≡ D.Malformed → numberHeld (negative d) ≡ Malformed
+        go (some x) e = absurd (let z : _≡_ {A = ℕ} 0 1 = cc in omega arith)
+        go none e = refl
 
     module _ (v : ℕ) (e : digitsHeld (decimalOf rest) ≡ D.Value v) where
       pub minus-zero : v ≡ 0 → numberHeld (numberOf word) ≡ Malformed
       minus-zero z = ap numberHeld minus-number ∙ go (decimalOf rest) e
         where
-          go : (d : Decimal) → digitsHeld d ≡ D.Value v → numberHeld (negative d) ≡ Malformed
-          go (N.decimal zero) e = refl
-          go (N.decimal (suc x)) e = absurd (let i : held (suc x) ≡ v = cc in omega arith)
-          go N.none e = refl
+          go : (d : Option ℕ) → digitsHeld d ≡ D.Value v → numberHeld (negative d) ≡ Malformed
+          go (some zero) e = refl
+          go (some (suc x)) e = absurd (let i : held (suc x) ≡ v = cc in omega arith)
+          go none e = refl
 
       pub minus-value : (v ≡ 0 → ⊥) → numberHeld (numberOf word) ≡ Value true v
       minus-value z = ap numberHeld minus-number ∙ go (decimalOf rest) e
         where
-          go : (d : Decimal) → digitsHeld d ≡ D.Value v → numberHeld (negative d) ≡ Value true v
-          go (N.decimal zero) e = absurd (let i : held zero ≡ v = cc in z (sym i))
-          go (N.decimal (suc x)) e = ap (Value true) (let i : held (suc x) ≡ v = cc in i)
-          go N.none e = absurd (let q : _≡_ {A = ℕ} 0 1 = cc in omega arith)
+          go : (d : Option ℕ) → digitsHeld d ≡ D.Value v → numberHeld (negative d) ≡ Value true v
+          go (some zero) e = absurd (let i : held zero ≡ v = cc in z (sym i))
+          go (some (suc x)) e = ap (Value true) (let i : held (suc x) ≡ v = cc in i)
+          go none e = absurd (let q : _≡_ {A = ℕ} 0 1 = cc in omega arith)
 
 -- ---- what a held number stands for
 

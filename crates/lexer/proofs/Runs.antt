@@ -11,7 +11,8 @@ use lib.Dec.{eqb}
 use lib.ListN.{length, drop, getD, drop-of-length-le, length-drop}
 use lib.Seq.{drop-cons}
 use borrow.Author.Tests.{eq-eqb, ne-eqb}
-use Rattle.lexer.specs.Bytes.{run, runEnd, same}
+use Rattle.lexer.specs.Bytes.{run, same}
+use Rattle.lexer.specs.Places.{runEnd}
 
 -- past the end there is no run
 pub end-out : (p : ℕ → Bool) (text : List ℕ) (at : ℕ) → length text ≤ at → runEnd p text at ≡ at

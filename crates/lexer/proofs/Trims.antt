@@ -1,27 +1,35 @@
--- A text without the bytes at its end that pass, a byte at a time from the back.
+-- A text without the bytes at its end that pass, a byte at a time from the back: the text turned round has them in front.
 -- Assumes nothing.
 use mathlib.Core.Path.{_≡_, refl, sym, ap, _∙_}
 use mathlib.Core.Bool.{Bool, true, false}
-use mathlib.Core.List.{List, [], _∷_, _++_}
+use mathlib.Core.List.{List, [], _∷_, _++_, reverse, reverse-append, reverse-cons, reverse-reverse}
 use Prim.Native.Nat.{ℕ, suc, _-_, _≤_, _<_}
 use native.Mathlib.Omega.{arith}
-use lib.ListN.{length, take, getD}
-use lib.Seq.{take-suc, length-take-le}
-use Rattle.lexer.specs.Bytes.{kept, trimmed}
+use lib.ListN.{length, take, drop, getD, length-drop, length-reverse, take-append-drop}
+use lib.Seq.{take-suc, take-at, length-take-le}
+use Rattle.lexer.specs.Bytes.{run, trimmed}
+
+-- what is left of a text that is turned round
+abbrev back : (ℕ → Bool) → List ℕ → List ℕ
+back p bytes = reverse (drop (run p bytes) bytes)
+
+front-passes : (p : ℕ → Bool) (b : ℕ) (bs : List ℕ) → p b ≡ true → back p (b ∷ bs) ≡ back p bs
+unfolding run
+front-passes p b bs e = rw e
+
+front-stays : (p : ℕ → Bool) (b : ℕ) (bs : List ℕ) → p b ≡ false → back p (b ∷ bs) ≡ reverse (b ∷ bs)
+unfolding run
+front-stays p b bs e = rw e
 
 last-passes : (p : ℕ → Bool) (bs : List ℕ) (b : ℕ) → p b ≡ true → trimmed p (bs ++ b ∷ []) ≡ trimmed p bs
 unfolding trimmed
-last-passes p [] b e = rw e
-last-passes p (c ∷ cs) b e = ap (kept (p c) c) (last-passes p cs b e)
+last-passes p bs b e = ap (back p) (reverse-append bs (b ∷ [])) ∙ front-passes p b (reverse bs) e
 
 last-stays : (p : ℕ → Bool) (bs : List ℕ) (b : ℕ) → p b ≡ false → trimmed p (bs ++ b ∷ []) ≡ bs ++ b ∷ []
 unfolding trimmed
-last-stays p [] b e = rw e
-last-stays p (c ∷ cs) b e = ap (kept (p c) c) (last-stays p cs b e) ∙ go cs
-  where
-    go : (cs : List ℕ) → kept (p c) c (cs ++ b ∷ []) ≡ c ∷ (cs ++ b ∷ [])
-    go [] = refl
-    go (d ∷ ds) = refl
+last-stays p bs b e =
+    ap (back p) (reverse-append bs (b ∷ [])) ∙ front-stays p b (reverse bs) e
+    ∙ reverse-cons b (reverse bs) ∙ ap (λ (l : List ℕ). l ++ b ∷ []) (reverse-reverse bs)
 
 module _ (p : ℕ → Bool) (text : List ℕ) (end : ℕ) (some : 0 < end) (within : end ≤ length text) where
   last : take end text ≡ take (end - 1) text ++ getD text (end - 1) 0 ∷ []
@@ -40,20 +48,15 @@ module _ (p : ℕ → Bool) (text : List ℕ) (end : ℕ) (some : 0 < end) (with
 -- what is left is a front part
 pub trimmed-take : (p : ℕ → Bool) (bs : List ℕ) → take (length (trimmed p bs)) bs ≡ trimmed p bs
 unfolding trimmed
-trimmed-take p [] = refl
-trimmed-take p (b ∷ bs) = go (p b) (trimmed p bs) (trimmed-take p bs)
+trimmed-take p bs = ap (take (length (trimmed p bs))) (sym split) ∙ take-at (trimmed p bs) (reverse (take k (reverse bs))) (length (trimmed p bs)) refl
   where
-    go : (t : Bool) (cs : List ℕ) → take (length cs) bs ≡ cs → take (length (kept t b cs)) (b ∷ bs) ≡ kept t b cs
-    go true [] h = refl
-    go false [] h = refl
-    go t (c ∷ cs) h = ap (λ (l : List ℕ). b ∷ l) h
+    k : ℕ
+    k = run p (reverse bs)
+
+    split : reverse (drop k (reverse bs)) ++ reverse (take k (reverse bs)) ≡ bs
+    split = sym (reverse-append (take k (reverse bs)) (drop k (reverse bs))) ∙ ap reverse (take-append-drop k (reverse bs)) ∙ reverse-reverse bs
 
 pub trimmed-le : (p : ℕ → Bool) (bs : List ℕ) → length (trimmed p bs) ≤ length bs
 unfolding trimmed
-trimmed-le p [] = omega arith
-trimmed-le p (b ∷ bs) = go (p b) (trimmed p bs) (trimmed-le p bs)
-  where
-    go : (t : Bool) (cs : List ℕ) → length cs ≤ length bs → length (kept t b cs) ≤ suc (length bs)
-    go true [] h = omega arith
-    go false [] h = omega arith
-    go t (c ∷ cs) h = omega arith
+trimmed-le p bs =
+    omega (arith, length-reverse (drop (run p (reverse bs)) (reverse bs)), length-drop (run p (reverse bs)) (reverse bs), length-reverse bs)

@@ -1,7 +1,9 @@
 -- The code's answers against the definitions.
 use Prim.Native.Nat.{ℕ, min}
-use mathlib.Core.Bool.{Bool}
+use mathlib.Core.Bool.{Bool, false}
 use mathlib.Core.List.{List, [], _∷_}
+use mathlib.Core.Option.{Option, none, some}
+use lib.Dec.{eqb}
 use Rattle.lexer.specs.Bytes.{isBlank, isTail, isSeparator, isLineFeed}
 use Rattle.lexer.specs.Pieces as P
 use Rattle.lexer.specs.Numbers as N
@@ -26,13 +28,19 @@ abbrev pub firstOf : List P.Piece → Piece
 firstOf [] = Nothing
 firstOf (p ∷ ps) = At (p .at) (P.behind p)
 
+-- a 0 in front of other bytes
+unfoldable pub leadingZero : List ℕ → Bool
+leadingZero [] = false
+leadingZero (b ∷ []) = false
+leadingZero (b ∷ (d ∷ ds)) = eqb b 48
+
 -- values are held up to 1000, which stands for every greater one
 abbrev pub held : ℕ → ℕ
 held v = min v 1000
 
-abbrev pub digitsHeld : N.Decimal → Digits
-digitsHeld (N.decimal v) = D.Value (held v)
-digitsHeld N.none = D.Malformed
+abbrev pub digitsHeld : Option ℕ → Digits
+digitsHeld (some v) = D.Value (held v)
+digitsHeld none = D.Malformed
 
 abbrev pub numberHeld : N.Number → Number
 numberHeld (N.number s v) = Value s (held v)

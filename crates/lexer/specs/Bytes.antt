@@ -1,9 +1,9 @@
 -- Kinds of bytes, and runs of them in a text (document 01, "DIMACS").
-use Prim.Native.Nat.{ℕ, suc, _+_, _-_}
+use Prim.Native.Nat.{ℕ, suc}
 use mathlib.Core.Bool.{Bool, true, false, _&&_, _||_, cond}
-use mathlib.Core.List.{List, [], _∷_}
+use mathlib.Core.List.{List, [], _∷_, reverse}
 use lib.Dec.{eqb, leb}
-use lib.ListN.{take, drop}
+use lib.ListN.{drop}
 
 -- a space or a tab
 abbrev pub isBlank : ℕ → Bool
@@ -28,24 +28,9 @@ unfoldable pub run : (ℕ → Bool) → List ℕ → ℕ
 run p [] = 0
 run p (b ∷ bs) = cond (p b) (suc (run p bs)) 0
 
--- the first place from `at` on whose byte does not pass; the text's end if there is none
-unfoldable pub runEnd : (ℕ → Bool) → List ℕ → ℕ → ℕ
-runEnd p text at = at + run p (drop at text)
-
--- the bytes from one place up to another
-abbrev pub part : ℕ → ℕ → List ℕ → List ℕ
-part from to text = take (to - from) (drop from text)
-
--- a byte in front of what is kept; where nothing is, a byte that passes goes too
-abbrev pub kept : Bool → ℕ → List ℕ → List ℕ
-kept true b [] = []
-kept false b [] = b ∷ []
-kept passed b (c ∷ cs) = b ∷ (c ∷ cs)
-
 -- a text without the bytes that pass at its end
 unfoldable pub trimmed : (ℕ → Bool) → List ℕ → List ℕ
-trimmed p [] = []
-trimmed p (b ∷ bs) = kept (p b) b (trimmed p bs)
+trimmed p text = reverse (drop (run p (reverse text)) (reverse text))
 
 -- whether two texts are the same bytes
 unfoldable pub same : List ℕ → List ℕ → Bool

@@ -2,43 +2,34 @@
 use Prim.Native.Nat.{ℕ, zero, suc, _+_, _-_, _*_}
 use mathlib.Core.Bool.{Bool, true, false, cond}
 use mathlib.Core.List.{List, [], _∷_}
+use mathlib.Core.Option.{Option, none, some}
 use lib.Dec.{eqb}
 use Rattle.lexer.specs.Bytes.{isDigit}
-
--- digits as a number, however many, or none where some byte is no digit
-pub data Decimal : Type 0 where
-  decimal : ℕ → Decimal
-  none : Decimal
 
 -- whether it has a minus, and its value
 pub data Number : Type 0 where
   number : Bool → ℕ → Number
   malformed : Number
 
--- digits that follow a value read so far
-unfoldable pub digitsAfter : ℕ → List ℕ → Decimal
-digitsAfter v [] = decimal v
+-- digits that follow a value read so far, however many; none where some byte is no digit
+unfoldable pub digitsAfter : ℕ → List ℕ → Option ℕ
+digitsAfter v [] = some v
 digitsAfter v (b ∷ bs) = cond (isDigit b) (digitsAfter (v * 10 + (b - 48)) bs) none
 
--- a 0 in front of other bytes
-unfoldable pub leadingZero : List ℕ → Bool
-leadingZero [] = false
-leadingZero (b ∷ []) = false
-leadingZero (b ∷ (d ∷ ds)) = eqb b 48
-
 -- one or more digits, with no leading zero
-unfoldable pub decimalOf : List ℕ → Decimal
+unfoldable pub decimalOf : List ℕ → Option ℕ
 decimalOf [] = none
-decimalOf (b ∷ bs) = cond (leadingZero (b ∷ bs)) none (digitsAfter 0 (b ∷ bs))
+decimalOf (b ∷ []) = digitsAfter 0 (b ∷ [])
+decimalOf (b ∷ (d ∷ ds)) = cond (eqb b 48) none (digitsAfter 0 (b ∷ (d ∷ ds)))
 
-abbrev pub positive : Decimal → Number
-positive (decimal v) = number false v
+abbrev pub positive : Option ℕ → Number
+positive (some v) = number false v
 positive none = malformed
 
 -- -0 is malformed
-abbrev pub negative : Decimal → Number
-negative (decimal zero) = malformed
-negative (decimal (suc v)) = number true (suc v)
+abbrev pub negative : Option ℕ → Number
+negative (some zero) = malformed
+negative (some (suc v)) = number true (suc v)
 negative none = malformed
 
 -- an optional minus, then digits

@@ -28,11 +28,7 @@ cut p at (b ∷ bs) = joined (p b) at b (cut p (suc at) bs)
 -- the pieces that are not empty
 unfoldable pub filled : List Piece → List Piece
 filled [] = []
-filled (p ∷ ps) = keep (p .bytes) p (filled ps)
-  where
-    keep : List ℕ → Piece → List Piece → List Piece
-    keep [] p ps = ps
-    keep (b ∷ bs) p ps = p ∷ ps
+filled (p ∷ ps) = elim (p .bytes) [ [] ↦ filled ps | b ∷ bs ↦ p ∷ filled ps ]
 
 -- the lines of a text from a place on
 abbrev pub linesFrom : List ℕ → ℕ → List Piece

@@ -2,8 +2,9 @@
 ghost use mathlib.Core.Path.{_≡_};
 ghost use mathlib.Core.Bool.{not};
 ghost use lib.ListN.{length};
-ghost use Rattle.lexer.specs.Bytes.{isBlank, isTail, isSeparator, runEnd, trimmed, same};
+ghost use Rattle.lexer.specs.Bytes.{isBlank, isTail, isSeparator, trimmed, same};
 ghost use Rattle.lexer.specs.Answers.{passes};
+ghost use Rattle.lexer.specs.Places.{runEnd};
 
 // Space and tab; these and CR; these and LF; LF alone.
 pub enum Kind {

@@ -2,8 +2,8 @@
 ghost use mathlib.Core.Path.{_≡_};
 ghost use Prim.Native.Nat.{_+_, _*_, _-_, _≤_};
 ghost use Rattle.lexer.specs.Bytes.{isDigit};
-ghost use Rattle.lexer.specs.Numbers.{leadingZero, decimalOf, numberOf};
-ghost use Rattle.lexer.specs.Answers.{held, digitsHeld, numberHeld};
+ghost use Rattle.lexer.specs.Numbers.{decimalOf, numberOf};
+ghost use Rattle.lexer.specs.Answers.{leadingZero, held, digitsHeld, numberHeld};
 
 // Whether the number has a minus, and its value; 1000 stands for every greater one.
 pub enum Number {

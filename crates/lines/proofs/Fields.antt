@@ -3,6 +3,7 @@
 use mathlib.Core.Path.{_≡_, refl, sym, ap, _∙_}
 use mathlib.Core.Bool.{Bool, true, false, _&&_, cond}
 use mathlib.Core.List.{List, [], _∷_}
+use mathlib.Core.Option.{some}
 use Prim.Native.Nat.{ℕ, _+_, _-_, _*_, _^_, _≤_, _<_}
 use native.Mathlib.Numerals.{add-one}
 use native.Mathlib.Omega.{arith}
@@ -12,7 +13,7 @@ use lib.Seq.{drop-cons}
 use borrow.Author.Tests.{le-ltb, lt-ltb}
 use Rattle.words.proofs.Truth.{on}
 use Rattle.lexer.specs.Bytes.{isDigit, run}
-use Rattle.lexer.specs.Numbers.{decimal, digitsAfter}
+use Rattle.lexer.specs.Numbers.{digitsAfter}
 use Rattle.lines.specs.declared.numbers.Place.the-variants.{Behind, Malformed}
 use Rattle.lines.specs.Numbers.{Field, field, malformed, bounded, closed, fieldOf}
 use Rattle.lines.specs.Places.{placeOf, placeAt}
@@ -59,7 +60,7 @@ field-digit v seen closing b bs e = rw (e, run) (go seen (take (run isDigit bs) 
     go false ds rest = one false ds rest
 
 -- a byte that is no digit closes the field or spoils it
-pub field-closed : (v closing b : ℕ) (bs : List ℕ) → isDigit b ≡ false → fieldAfter v true closing (b ∷ bs) ≡ cond (eqb b closing) (bounded (decimal v) bs) malformed
+pub field-closed : (v closing b : ℕ) (bs : List ℕ) → isDigit b ≡ false → fieldAfter v true closing (b ∷ bs) ≡ cond (eqb b closing) (bounded (some v) bs) malformed
 unfolding fieldAfter run digitsAfter
 field-closed v closing b bs e = rw (e, run)
 
@@ -101,10 +102,10 @@ module _ (line : List ℕ) (at closing i v : ℕ) (low : i < length line)
       go true k =
           on (eqb (getD line i 0) closing)
           (λ q.
-          let taken : cond (eqb (getD line i 0) closing) (bounded (decimal v) (drop (i + 1) line)) malformed ≡ field v (drop (i + 1) line) = rw q (rw (lt-ltb v (2 ^ 64) h)) in
+          let taken : cond (eqb (getD line i 0) closing) (bounded (some v) (drop (i + 1) line)) malformed ≡ field v (drop (i + 1) line) = rw q (rw (lt-ltb v (2 ^ 64) h)) in
           rw q (sym (place-behind line v i low) ∙ ap (placeOf line) (sym (field-closed v closing (getD line i 0) (drop (i + 1) line) e ∙ taken) ∙ k)))
           (λ q.
-          let spoilt : cond (eqb (getD line i 0) closing) (bounded (decimal v) (drop (i + 1) line)) malformed ≡ malformed = rw q in
+          let spoilt : cond (eqb (getD line i 0) closing) (bounded (some v) (drop (i + 1) line)) malformed ≡ malformed = rw q in
           rw q (ap (placeOf line) (sym (field-closed v closing (getD line i 0) (drop (i + 1) line) e ∙ spoilt) ∙ k)))
 
   -- a digit

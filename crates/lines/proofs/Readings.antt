@@ -3,6 +3,7 @@
 use mathlib.Core.Path.{_≡_, refl, sym, ap, _∙_}
 use mathlib.Core.Bool.{cond}
 use mathlib.Core.List.{List, [], _∷_}
+use mathlib.Core.Option.{Option, none, some}
 use Prim.Native.Nat.{ℕ, _+_, _-_, _^_, _≤_, _<_}
 use native.Mathlib.Omega.{arith}
 use lib.Dec.{eqb, ltb, leb}
@@ -11,17 +12,17 @@ use lib.Seq.{drop-drop}
 use borrow.Author.Tests.{ltb-true, ltb-false}
 use Rattle.words.proofs.Truth.{on}
 use Rattle.lexer.specs.Bytes.{isDigit, run}
-use Rattle.lexer.specs.Numbers.{Decimal, decimal, none, digitsAfter}
+use Rattle.lexer.specs.Numbers.{digitsAfter}
 use Rattle.refusals.specs.declared.Refusal.the-variants.{NumberLine}
 use Rattle.lines.specs.declared.Budget.the-variants as budget
 use Rattle.lines.specs.declared.Size.the-variants as size
 use Rattle.lines.specs.declared.numbers.Place.the-variants.{Behind, Malformed}
-use Rattle.lines.specs.Numbers.{Field, field, malformed, bounded, closed, fieldOf, short, budgetFrom, budgetOf, firstFrom, secondFrom, thirdFrom, sizeOf}
-use Rattle.lines.specs.Places.{placeOf, placeAt}
+use Rattle.lines.specs.Numbers.{Field, field, malformed, bounded, closed, fieldOf, short, budgetOf, sizeOf}
+use Rattle.lines.specs.Places.{placeOf, placeAt, budgetFrom, firstFrom, secondFrom, thirdFrom}
 
-bounded-rest : (d : Decimal) (text rest : List ℕ) (v : ℕ) → bounded d text ≡ field v rest → text ≡ rest
+bounded-rest : (d : Option ℕ) (text rest : List ℕ) (v : ℕ) → bounded d text ≡ field v rest → text ≡ rest
 bounded-rest none text rest v e = cc
-bounded-rest (decimal w) text rest v e = on (ltb w (2 ^ 64)) (λ q. let f = rw q at e in cc) (λ q. let f = rw q at e in cc)
+bounded-rest (some w) text rest v e = on (ltb w (2 ^ 64)) (λ q. let f = rw q at e in cc) (λ q. let f = rw q at e in cc)
 
 -- a field's rest starts behind the closing byte
 closed-rest : (closing : ℕ) (ds text rest : List ℕ) (v : ℕ) → closed closing ds text ≡ field v rest → drop 1 text ≡ rest
@@ -30,9 +31,9 @@ closed-rest closing (d ∷ ds) [] rest v e = cc
 closed-rest closing (d ∷ ds) (b ∷ bs) rest v e =
     on (eqb b closing) (λ q. bounded-rest (digitsAfter 0 (d ∷ ds)) bs rest v (rw q at e)) (λ q. let f = rw q at e in cc)
 
-bounded-below : (d : Decimal) (text rest : List ℕ) (v : ℕ) → bounded d text ≡ field v rest → v < 2 ^ 64
+bounded-below : (d : Option ℕ) (text rest : List ℕ) (v : ℕ) → bounded d text ≡ field v rest → v < 2 ^ 64
 bounded-below none text rest v e = let z : _≡_ {A = ℕ} 0 1 = cc in omega arith
-bounded-below (decimal w) text rest v e =
+bounded-below (some w) text rest v e =
     on (ltb w (2 ^ 64))
     (λ q. let f = rw q at e in let same : w ≡ v = cc in omega (arith, ltb-true w (2 ^ 64) q))
     (λ q. let f = rw q at e in let z : _≡_ {A = ℕ} 0 1 = cc in omega arith)

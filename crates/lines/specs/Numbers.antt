@@ -2,11 +2,12 @@
 use Prim.Native.Nat.{ℕ, _-_, _^_}
 use mathlib.Core.Bool.{Bool, cond}
 use mathlib.Core.List.{List, [], _∷_}
+use mathlib.Core.Option.{Option, none, some}
 use lib.Dec.{eqb, ltb, leb}
 use lib.ListN.{length, take, drop}
 use Rattle.refusals.specs.declared.Refusal.the-variants.{NumberLine}
 use Rattle.lexer.specs.Bytes.{isDigit, run}
-use Rattle.lexer.specs.Numbers.{Decimal, decimal, none, digitsAfter}
+use Rattle.lexer.specs.Numbers.{digitsAfter}
 use Rattle.lines.specs.declared.Budget.{Budget}
 use Rattle.lines.specs.declared.Budget.the-variants as budget
 use Rattle.lines.specs.declared.Size.{Size}
@@ -18,8 +19,8 @@ pub data Field : Type 0 where
   malformed : Field
 
 -- a value of 64 bits
-abbrev pub bounded : Decimal → List ℕ → Field
-bounded (decimal v) rest = cond (ltb v (2 ^ 64)) (field v rest) malformed
+abbrev pub bounded : Option ℕ → List ℕ → Field
+bounded (some v) rest = cond (ltb v (2 ^ 64)) (field v rest) malformed
 bounded none rest = malformed
 
 -- digits, and the text behind them, which is to start with the closing byte
@@ -36,26 +37,21 @@ fieldOf closing text = closed closing (take (run isDigit text) text) (drop (run 
 abbrev pub short : List ℕ → List ℕ → Bool
 short input rest = leb (length input - length rest) 100
 
-abbrev pub budgetFrom : List ℕ → Field → Budget
-budgetFrom input (field v rest) = cond (short input rest) (budget.Of v) (budget.Refused NumberLine)
-budgetFrom input malformed = budget.Refused NumberLine
+-- what a field leads to, with the text behind it
+abbrev pub onField {ℓ} : {A : Type ℓ} → Field → A → (ℕ → List ℕ → A) → A
+onField malformed a f = a
+onField (field v rest) a f = f v rest
 
 -- the budget line: digits and LF
 abbrev pub budgetOf : List ℕ → Budget
-budgetOf input = budgetFrom input (fieldOf 10 input)
-
-abbrev pub thirdFrom : List ℕ → ℕ → ℕ → Field → Size
-thirdFrom input n left (field right rest) = cond (short input rest) (size.Of n left right) (size.Refused NumberLine)
-thirdFrom input n left malformed = size.Refused NumberLine
-
-abbrev pub secondFrom : List ℕ → ℕ → Field → Size
-secondFrom input n (field left rest) = thirdFrom input n left (fieldOf 10 rest)
-secondFrom input n malformed = size.Refused NumberLine
-
-abbrev pub firstFrom : List ℕ → Field → Size
-firstFrom input (field n rest) = secondFrom input n (fieldOf 32 rest)
-firstFrom input malformed = size.Refused NumberLine
+budgetOf input =
+    let refused = budget.Refused NumberLine in
+    onField (fieldOf 10 input) refused (λ v rest. cond (short input rest) (budget.Of v) refused)
 
 -- the dimension line: n, left and right with single spaces and LF
 abbrev pub sizeOf : List ℕ → Size
-sizeOf input = firstFrom input (fieldOf 32 input)
+sizeOf input =
+    let refused = size.Refused NumberLine in
+    onField (fieldOf 32 input) refused (λ n second.
+    onField (fieldOf 32 second) refused (λ left third.
+    onField (fieldOf 10 third) refused (λ right rest. cond (short input rest) (size.Of n left right) refused)))

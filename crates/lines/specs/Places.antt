@@ -1,8 +1,14 @@
--- Places in a line. The crate's own functions go by them; no public contract cites this file.
+-- Places in a line, and a line a field at a time. The crate's own functions go by them; no public contract cites this file.
 use Prim.Native.Nat.{ℕ, _-_}
+use mathlib.Core.Bool.{cond}
 use mathlib.Core.List.{List}
 use lib.ListN.{length, drop}
-use Rattle.lines.specs.Numbers.{Field, field, malformed, fieldOf}
+use Rattle.lines.specs.Numbers.{Field, field, malformed, fieldOf, short, onField}
+use Rattle.refusals.specs.declared.Refusal.the-variants.{NumberLine}
+use Rattle.lines.specs.declared.Budget.{Budget}
+use Rattle.lines.specs.declared.Budget.the-variants as budget
+use Rattle.lines.specs.declared.Size.{Size}
+use Rattle.lines.specs.declared.Size.the-variants as size
 use Rattle.lines.specs.declared.numbers.Place.{Place}
 use Rattle.lines.specs.declared.numbers.Place.the-variants.{Behind, Malformed}
 
@@ -14,3 +20,16 @@ placeOf line malformed = Malformed
 -- the field from a place on
 abbrev pub placeAt : List ℕ → ℕ → ℕ → Place
 placeAt line at closing = placeOf line (fieldOf closing (drop at line))
+
+-- what a line's fields lead to, one at a time
+abbrev pub budgetFrom : List ℕ → Field → Budget
+budgetFrom input f = onField f (budget.Refused NumberLine) (λ v rest. cond (short input rest) (budget.Of v) (budget.Refused NumberLine))
+
+abbrev pub thirdFrom : List ℕ → ℕ → ℕ → Field → Size
+thirdFrom input n left f = onField f (size.Refused NumberLine) (λ right rest. cond (short input rest) (size.Of n left right) (size.Refused NumberLine))
+
+abbrev pub secondFrom : List ℕ → ℕ → Field → Size
+secondFrom input n f = onField f (size.Refused NumberLine) (λ left rest. thirdFrom input n left (fieldOf 10 rest))
+
+abbrev pub firstFrom : List ℕ → Field → Size
+firstFrom input f = onField f (size.Refused NumberLine) (λ n rest. secondFrom input n (fieldOf 32 rest))

@@ -8,7 +8,7 @@ use Rattle.words.specs.Sets.{bit, put, any, count, lowest}
 use Rattle.lexer.specs.Spelling.{bytes}
 use Rattle.lexer.specs.Bytes.{run, trimmed, same}
 use Rattle.lexer.specs.Pieces.{cut, filled, partsFrom}
-use Rattle.lexer.specs.Numbers.{digitsAfter, leadingZero, decimalOf, numberOf}
+use Rattle.lexer.specs.Numbers.{digitsAfter, decimalOf, numberOf}
 use Rattle.text.specs.Decimal.{decimal}
 use Rattle.tables.specs.Rows.{padding, satisfied, freeLiterals}
 use Rattle.tables.specs.Acceptance.{allBelow}
@@ -21,7 +21,7 @@ use Rattle.lines.specs.Answers.{literals, answerText, refusalText}
 use Rattle.reply.specs.Reply.{replyText}
 
 printed : String → String → String → List ℕ
-unfolding replyText solved answerOf tableOf pastRemarks partsFrom cut filled trimmed same clauses numberOf decimalOf leadingZero digitsAfter run fieldOf put bit any count lowest padding satisfied freeLiterals allBelow literals answerText refusalText decimal
+unfolding replyText solved answerOf tableOf pastRemarks partsFrom cut filled trimmed same clauses numberOf decimalOf digitsAfter run fieldOf put bit any count lowest padding satisfied freeLiterals allBelow literals answerText refusalText decimal
 printed left right line = replyText (bytes left) (bytes right) (bytes line)
 
 example : printed "p cnf 2 1\n1 2 0\n" "p cnf 2 1\n-1 0\n" "9\n" ≡ bytes "c steps 3\ns SATISFIABLE\nv -1 2 0\n"

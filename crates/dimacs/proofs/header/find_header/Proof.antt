@@ -8,13 +8,14 @@ use borrow.Author.Needs.{needs}
 use Rattle.lexer.specs.Bytes.{isLineFeed}
 use Rattle.lexer.specs.Pieces.{linesFrom}
 use Rattle.lexer.proofs.Runs.{end-ge, end-le}
-use Rattle.dimacs.specs.Header.{pastRemarks, headerOf}
+use Rattle.dimacs.specs.Header.{pastRemarks}
+use Rattle.dimacs.specs.Text.{fromHeader}
 use Rattle.dimacs.proofs.Lines.{other-line, last-line, remark-line, no-line, empty-line}
 use Rattle.dimacs.proofs.header.find_header.Statement.{statement}
 use Rattle.dimacs.proofs.header.find_header.Tie as tie
 
 abbrev Inv-loop : tie.InvT-loop
-Inv-loop text at₀ at = (at ≤ length text) × (headerOf (pastRemarks (linesFrom text at)) ≡ headerOf (pastRemarks (linesFrom text 0)))
+Inv-loop text at₀ at = (at ≤ length text) × (fromHeader text (pastRemarks (linesFrom text at)) ≡ fromHeader text (pastRemarks (linesFrom text 0)))
 
 abbrev μ-loop : tie.MeasureT-loop
 μ-loop text at₀ at = length text - at
@@ -28,7 +29,7 @@ shared-slice-read-if1 c = search needs
 returns : tie.Need-returns Inv-loop μ-loop
 returns c =
     let l = c .before .before .before in
-    (l .loop .inv .0, sym (ap headerOf (other-line _ _ (c .before .before .loop-test .taken) (c .if1 .taken))) ∙ l .loop .inv .1)
+    (l .loop .inv .0, sym (ap (fromHeader _) (other-line _ _ (c .before .before .loop-test .taken) (c .if1 .taken))) ∙ l .loop .inv .1)
 
 find-requires : tie.Need-find-requires Inv-loop μ-loop
 find-requires c κs = search needs
@@ -39,7 +40,7 @@ returns-2 c =
     let end = c .before .find in (
       omega (arith, end .ensures, end-le (λ b. not (isLineFeed b)) (l .before .before .args .text .now) (l .loop .at) (l .loop .inv .0)),
       empty-line _ _ (c .if2 .taken)
-          ∙ sym (ap headerOf (last-line _ _ (c .before .before .before .before .loop-test .taken) (c .before .before .if1 .left) (rw (end .ensures) at (c .if2 .taken)))) ∙ l .loop .inv .1,
+          ∙ sym (ap (fromHeader _) (last-line _ _ (c .before .before .before .before .loop-test .taken) (c .before .before .if1 .left) (rw (end .ensures) at (c .if2 .taken)))) ∙ l .loop .inv .1,
     )
 
 add-at : tie.Need-add-at Inv-loop μ-loop
@@ -55,14 +56,14 @@ loop-again c =
     let l = c .before .before .before .before .before in (
       omega arith,
       rw (c .before .find .ensures)
-          (sym (ap headerOf (remark-line _ _ (c .before .before .before .before .loop-test .taken) (c .before .before .if1 .left) (rw (c .before .find .ensures) at (c .if2 .left))))
+          (sym (ap (fromHeader _) (remark-line _ _ (c .before .before .before .before .loop-test .taken) (c .before .before .if1 .left) (rw (c .before .find .ensures) at (c .if2 .left))))
           ∙ l .loop .inv .1),
     )
 
 returns-3 : tie.Need-returns-3 Inv-loop μ-loop
 returns-3 c =
     let l = c .before in
-    (l .loop .inv .0, sym (ap headerOf (no-line _ _ (c .loop-test .left))) ∙ l .loop .inv .1)
+    (l .loop .inv .0, sym (ap (fromHeader _) (no-line _ _ (c .loop-test .left))) ∙ l .loop .inv .1)
 
 pub find-header-spec : {M : Type 1} → statement M
 find-header-spec =

@@ -1,7 +1,6 @@
 -- `read_both` meets its contract: each number is held as it is read. Assumes nothing.
-use mathlib.Core.Path.{sym, ap, _∙_}
+use mathlib.Core.Path.{sym, _∙_}
 use borrow.Author.Needs.{needs}
-use Rattle.dimacs.specs.Answers.{numbersHeld}
 use Rattle.dimacs.proofs.Parts.{no-n, no-m, both}
 use Rattle.dimacs.proofs.header.read_both.Statement.{statement}
 use Rattle.dimacs.proofs.header.read_both.Tie as tie
@@ -16,7 +15,7 @@ enum-told : tie.Need-enum-told
 enum-told c = search needs
 
 returns : tie.Need-returns
-returns c = sym (ap numbersHeld (no-n _ _ (sym (c .before .before .read-number .ensures) ∙ c .enum-told .given .1)))
+returns c = sym (no-n _ _ (sym (c .before .before .read-number .ensures) ∙ c .enum-told .given .1))
 
 read-number-requires-2 : tie.Need-read-number-requires-2
 read-number-requires-2 c κs = search needs
@@ -28,7 +27,7 @@ enum-told-2 : tie.Need-enum-told-2
 enum-told-2 c = search needs
 
 returns-2 : tie.Need-returns-2
-returns-2 c = sym (ap numbersHeld (no-m _ _ (sym (c .before .before .read-number2 .ensures) ∙ c .enum-told2 .given .1)))
+returns-2 c = sym (no-m _ _ (sym (c .before .before .read-number2 .ensures) ∙ c .enum-told2 .given .1))
 
 returns-3 : tie.Need-returns-3
 returns-3 c =

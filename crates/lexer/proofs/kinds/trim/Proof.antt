@@ -6,7 +6,7 @@ use lib.ListN.{length, take}
 use lib.Seq.{take-length}
 use borrow.Author.Needs.{needs}
 use borrow.Author.Tests.{not-true, not-false}
-use Rattle.lexer.specs.Bytes.{trimmed}
+use Rattle.lexer.specs.Bytes.{run, trimmed}
 use Rattle.lexer.specs.Answers.{passes}
 use Rattle.lexer.proofs.Trims.{trim-less, trim-stop}
 use Rattle.lexer.proofs.kinds.trim.Statement.{statement}
@@ -51,7 +51,7 @@ loop-again c =
     )
 
 returns-2 : tie.Need-returns-2 Inv-loop μ-loop
-unfolding trimmed
+unfolding trimmed run
 returns-2 c =
     let z : c .before .loop .end ≡ 0 = omega arith in
     z ∙ sym (ap (λ (i : ℕ). length (trimmed (passes (c .before .before .before .args .kind)) (take i (c .before .before .before .args .text .now)))) z) ∙ ap length (c .before .loop .inv .1)

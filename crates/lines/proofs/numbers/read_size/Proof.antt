@@ -9,7 +9,8 @@ use lib.ListN.{drop}
 use borrow.Author.Tests.{lt-leb, le-leb}
 use Rattle.refusals.specs.declared.Refusal.the-variants.{NumberLine}
 use Rattle.lines.specs.declared.Size.the-variants.{Of, Refused}
-use Rattle.lines.specs.Numbers.{fieldOf, sizeOf, secondFrom, thirdFrom}
+use Rattle.lines.specs.Numbers.{fieldOf, sizeOf}
+use Rattle.lines.specs.Places.{secondFrom, thirdFrom}
 use Rattle.lines.proofs.Readings.{lost, no-first, one-first, one-second, one-third}
 use borrow.Author.Needs.{needs}
 use Rattle.lines.proofs.numbers.read_size.Statement.{statement}

@@ -1,0 +1,14 @@
+-- Places in a text. Functions that read texts go by them; no entry's contract rests on this file.
+use Prim.Native.Nat.{ℕ, _+_, _-_}
+use mathlib.Core.Bool.{Bool}
+use mathlib.Core.List.{List}
+use lib.ListN.{take, drop}
+use Rattle.lexer.specs.Bytes.{run}
+
+-- the first place from `at` on whose byte does not pass; the text's end if there is none
+unfoldable pub runEnd : (ℕ → Bool) → List ℕ → ℕ → ℕ
+runEnd p text at = at + run p (drop at text)
+
+-- the bytes from one place up to another
+abbrev pub part : ℕ → ℕ → List ℕ → List ℕ
+part from to text = take (to - from) (drop from text)
