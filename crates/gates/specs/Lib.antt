@@ -1,3 +1,4 @@
 pub mod Gates
 pub mod Memory
 pub mod Evaluation
+pub mod Words

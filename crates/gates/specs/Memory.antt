@@ -1,21 +1,12 @@
 -- Gates and wires in memory: a gate is three words, kind (0 XOR, 1 AND, 2 INV), first wire and second wire (0 for INV); a wire is a byte, 0 or 1.
 use mathlib.Core.Bool.{Bool, true, false, _&&_, cond}
-use mathlib.Core.List.{List, [], _∷_, _++_, map}
+use mathlib.Core.List.{List, [], _∷_, map}
 use Prim.Native.Nat.{ℕ, zero, suc}
 use lib.Dec.{eqb, ltb}
 use Rattle.words.specs.Booleans.{digit}
 use Rattle.gates.specs.Gates.{Gate}
 use Rattle.gates.specs.Gates.Gate.{XOR, AND, INV}
-
--- a gate's words
-abbrev pub gateWords : Gate → List ℕ
-gateWords (XOR a b) = 0 ∷ (a ∷ (b ∷ []))
-gateWords (AND a b) = 1 ∷ (a ∷ (b ∷ []))
-gateWords (INV a) = 2 ∷ (a ∷ (0 ∷ []))
-
-unfoldable pub wordsOf : List Gate → List ℕ
-wordsOf [] = []
-wordsOf (g ∷ gs) = gateWords g ++ wordsOf gs
+unfoldable pub use Rattle.gates.specs.Words.{gateWords, wordsOf}
 
 -- the gate of three words
 abbrev pub gateOf : ℕ → ℕ → ℕ → Gate
