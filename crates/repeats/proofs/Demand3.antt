@@ -8,6 +8,7 @@ use native.Mathlib.Omega.{arith}
 use lib.Dec.{ltb}
 use lib.ListN.{length, getD}
 use borrow.Author.Tests.{eq-eqb, ne-eqb, ltb-true, ltb-false}
+use Rattle.words.specs.Sets.{any}
 use Rattle.words.proofs.Truth.{on, or-true}
 use Rattle.tables.specs.declared.Dimensions.{Dimensions}
 use Rattle.tables.specs.declared.Row.{Row}
@@ -29,20 +30,23 @@ use Rattle.wires.proofs.Series.{length-upto, upto-at, upto-cong}
 use Rattle.netlist.specs.Outputs.{closed}
 use Rattle.bristol.specs.Lines.{circuitText}
 use Rattle.lines.specs.Answers.{answerText}
-use Rattle.repeats.specs.Repeats.{Attempt, History, circuitWords, anyMark, ended, longOnes}
+use Rattle.repeats.specs.Repeats.{Attempt, History, circuitWords, ended, longOnes}
 use Rattle.repeats.specs.Demand3.{Accepts, historyOf, Follows, answerFor, Ends, seen, Demand3}
 use Rattle.repeats.proofs.Applying.{every}
 use Rattle.repeats.proofs.Histories.{closed-open, open-closed, repeated, number, repeats-are}
 
 -- ---- marks
 
+abbrev anyMark : List Bool → Bool
+anyMark marks = any (λ i. getD marks i false) (length marks)
+
 no-mark : (f : ℕ → Bool) (k : ℕ) → ((i : ℕ) → i < k → f i ≡ false) → anyMark (upto f k) ≡ false
-unfolding upto
+unfolding upto any
 no-mark f zero h = refl
 no-mark f (suc k) h = rw (h 0 (omega arith)) (no-mark (λ i. f (suc i)) k (λ i b. h (suc i) (omega arith)))
 
 some-mark : (f : ℕ → Bool) (k i : ℕ) → i < k → f i ≡ true → anyMark (upto f k) ≡ true
-unfolding upto
+unfolding upto any
 some-mark f zero i b e = absurd (omega arith)
 some-mark f (suc k) zero b e = rw e
 some-mark f (suc k) (suc i) b e = rw (some-mark (λ j. f (suc j)) k i (omega arith) e) (or-true (f 0))
@@ -166,7 +170,7 @@ same-seen : (d : Dimensions) (left right left′ right′ : List ℕ) → Accept
     → ended budget (historyOf d left right budget attempts .marks) ≡ true → ended budget (historyOf d left′ right′ budget attempts′ .marks) ≡ true
     → seen d left right budget attempts ≡ seen d left′ right′ budget attempts′
 same-seen d left right left′ right′ acc acc′ budget attempts attempts′ q e e′ =
-    ap₂ (λ (m : List Bool) (a : Answer). record { text = circuitText d (gatesOf (circuitWords d)); number = length m; marks = m; printed = answerText (min (d .n) 32) a })
+    ap₂ (λ (m : List Bool) (a : Answer). (circuitText d (gatesOf (circuitWords d)), length m, m, answerText (min (d .n) 32) a))
     (marks-by d left right acc budget attempts e ∙ ap (λ (a : Answer). upto (markBy a) (a .count)) q
     ∙ sym (marks-by d left′ right′ acc′ budget attempts′ e′))
     q

@@ -57,19 +57,10 @@ pub record Ends (d : Dimensions) (left right : List ℕ) (budget : ℕ) (h : His
 -- ---- secrecy
 
 -- what is seen of the repeats over two tables: circuit text, number of repeats, marks and printed answer
-pub record Seen : Type 0 where
-  pub text : List ℕ
-  pub number : ℕ
-  pub marks : List Bool
-  pub printed : List ℕ
-
-abbrev pub seen : Dimensions → List ℕ → List ℕ → ℕ → List Attempt → Seen
-seen d left right budget attempts = record {
-  text = circuitText d (gatesOf (circuitWords d));
-  number = length (historyOf d left right budget attempts .marks);
-  marks = historyOf d left right budget attempts .marks;
-  printed = answerText (min (d .n) 32) (answerFor d left right budget);
-}
+abbrev pub seen : Dimensions → List ℕ → List ℕ → ℕ → List Attempt → List ℕ × ℕ × List Bool × List ℕ
+seen d left right budget attempts =
+    let marks = historyOf d left right budget attempts .marks in
+    (circuitText d (gatesOf (circuitWords d)), length marks, marks, answerText (min (d .n) 32) (answerFor d left right budget))
 
 -- ---- the demand
 

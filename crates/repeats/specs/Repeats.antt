@@ -3,8 +3,9 @@ use Prim.Native.Nat.{ℕ, zero, suc, _+_}
 use mathlib.Core.Bool.{Bool, false, _||_, _&&_, cond}
 use mathlib.Core.List.{List, [], _∷_}
 use lib.Dec.{eqb, leb}
-use lib.ListN.{length}
+use lib.ListN.{length, getD}
 use Rattle.refusals.specs.Checks.{given}
+use Rattle.words.specs.Sets.{any}
 use Rattle.tables.specs.declared.Dimensions.{Dimensions}
 use Rattle.tables.specs.Sizes.{inputWires}
 use Rattle.state.specs.declared.Run.{Run}
@@ -46,19 +47,13 @@ comesOf r rest later =
 unfoldable pub repeats : Dimensions → List ℕ → List ℕ → ℕ → Run → List Attempt → History
 unfolding applied circuitWords
 repeats d left right budget run [] = noRepeat run
-repeats d left right budget run (a ∷ later) =
-    elim budget [
-      | zero ↦ noRepeat run
-      | suc rest ↦ comesOf (applied d left right (circuitWords d) run (a .bytes) (a .wires)) rest (λ k next. repeats d left right k next later)
-    ]
+repeats d left right zero run (a ∷ later) = noRepeat run
+repeats d left right (suc rest) run (a ∷ later) =
+    comesOf (applied d left right (circuitWords d) run (a .bytes) (a .wires)) rest (λ k next. repeats d left right k next later)
 
 -- repeats end with a mark that is 1, or when they are as many as the budget
-abbrev pub anyMark : List Bool → Bool
-anyMark [] = false
-anyMark (mark ∷ marks) = mark || anyMark marks
-
 abbrev pub ended : ℕ → List Bool → Bool
-ended budget marks = anyMark marks || eqb (length marks) budget
+ended budget marks = any (λ i. getD marks i false) (length marks) || eqb (length marks) budget
 
 -- buffers with room for the inputs and for all wires
 abbrev pub longEnough : Dimensions → Attempt → Bool
