@@ -18,7 +18,8 @@ use Rattle.refusals.specs.Checks.{unless, given}
 use Rattle.refusals.specs.declared.Refusal.the-variants.{TextsDiffer}
 use Rattle.refusals.specs.declared.Outcome.{Outcome}
 use Rattle.refusals.specs.declared.Outcome.the-variants.{Taken, Refused}
-use Rattle.dimacs.specs.Clauses.{clausesFrom, rowsOf, complete}
+use Rattle.dimacs.specs.Clauses.{rowsOf, complete}
+use Rattle.dimacs.specs.Answers.{clausesFrom}
 use Rattle.dimacs.specs.Header.{Numbers, numbers, none, numbersOf, pastRemarks}
 use Rattle.dimacs.specs.Text.{within, headed, fromHeader, tableOf}
 use Rattle.dimacs.specs.Pair.{acceptedPair, refusedPair, pairOf}

@@ -14,9 +14,9 @@ use denote.Enum.Declared.{tagOf}
 use Rattle.refusals.specs.declared.Refusal.the-variants.{Text}
 use Rattle.refusals.specs.declared.Outcome.the-variants.{Taken}
 use Rattle.dimacs.specs.Rows.{wordsOf}
-use Rattle.dimacs.specs.Clauses.{Reading, clause, ended, unreadable, clausesFrom, rowsOf, complete}
+use Rattle.dimacs.specs.Clauses.{Reading, clause, ended, unreadable, rowsOf, complete}
 use Rattle.dimacs.specs.Text.{refused, bodyOf}
-use Rattle.dimacs.specs.Answers.{first, counts}
+use Rattle.dimacs.specs.Answers.{clausesFrom, first, counts}
 use Rattle.dimacs.specs.declared.clauses.Row.{Row}
 use Rattle.dimacs.specs.declared.clauses.Clause.{Clause}
 use Rattle.dimacs.specs.declared.clauses.Clause.the-variants.{Read, End}

@@ -18,8 +18,8 @@ use Rattle.lexer.specs.declared.numbers.Number.the-variants as L
 use Rattle.lexer.proofs.Decimals.{held-value, held-none}
 use Rattle.lexer.proofs.Cuts.{Found, found}
 use Rattle.dimacs.specs.Rows.{Literal, withLiteral, rowOf}
-use Rattle.dimacs.specs.Clauses.{Reading, clause, ended, unreadable, joined, before, clauses, clausesFrom}
-use Rattle.dimacs.specs.Answers.{first, emptyRow, withLiterals}
+use Rattle.dimacs.specs.Clauses.{Reading, clause, ended, unreadable, joined, before, clauses}
+use Rattle.dimacs.specs.Answers.{clausesFrom, first, emptyRow, withLiterals}
 use Rattle.dimacs.specs.declared.clauses.Row.{Row}
 use Rattle.dimacs.specs.declared.clauses.Clause.{Clause}
 use Rattle.dimacs.specs.declared.clauses.Clause.the-variants.{Read, Unreadable}

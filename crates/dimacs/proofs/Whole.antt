@@ -18,10 +18,9 @@ use Rattle.lexer.specs.declared.numbers.Number as LN
 use Rattle.lexer.specs.declared.numbers.Number.the-variants as L
 use Rattle.refusals.specs.declared.Refusal.the-variants as R
 use Rattle.lexer.proofs.Runs.{end-ge, end-le}
-use Rattle.dimacs.specs.Clauses.{clausesFrom}
 use Rattle.dimacs.specs.Header.{Numbers, numbers, none, numbersOf, pastRemarks}
 use Rattle.dimacs.specs.Text.{refused, bodyOf, within, headed, fromHeader, tableOf}
-use Rattle.dimacs.specs.Answers.{numbersHeld, limitedOf}
+use Rattle.dimacs.specs.Answers.{clausesFrom, numbersHeld, limitedOf}
 use Rattle.dimacs.specs.declared.header.Numbers as DN
 use Rattle.dimacs.specs.declared.header.Numbers.the-variants as D
 use Rattle.dimacs.proofs.Lines.{header-at}

@@ -3,18 +3,23 @@ use Prim.Native.Nat.{ℕ, zero, suc}
 use mathlib.Core.Bool.{Bool, true, false, cond}
 use mathlib.Core.List.{List, [], _∷_}
 use lib.Dec.{leb}
+use Rattle.lexer.specs.Pieces.{tokensFrom}
 use Rattle.lexer.specs.Numbers.{number, malformed}
 use Rattle.lexer.specs.Answers.{numberHeld}
 use Rattle.lexer.specs.declared.numbers.Number as LN
 use Rattle.lexer.specs.declared.numbers.Number.the-variants as L
 use Rattle.dimacs.specs.Rows.{Literal, withLiteral, rowOf}
-use Rattle.dimacs.specs.Clauses.{Reading, clause, ended, unreadable}
+use Rattle.dimacs.specs.Clauses.{Reading, clause, ended, unreadable, clauses}
 use Rattle.dimacs.specs.Header as H
 use Rattle.dimacs.specs.declared.clauses.Row.{Row}
 use Rattle.dimacs.specs.declared.clauses.Clause.{Clause}
 use Rattle.dimacs.specs.declared.clauses.Clause.the-variants.{Read, End, Unreadable}
 use Rattle.dimacs.specs.declared.header.Numbers.{Numbers}
 use Rattle.dimacs.specs.declared.header.Numbers.the-variants.{Of, Malformed}
+
+-- the clauses of a text from a place on
+abbrev pub clausesFrom : ℕ → List ℕ → ℕ → Reading
+clausesFrom n text at = clauses n (tokensFrom text at)
 
 -- the first clause of a reading
 abbrev pub first : Reading → Clause

@@ -3,7 +3,7 @@ use Prim.Native.Nat.{ℕ, zero, suc}
 use mathlib.Core.Bool.{Bool, true, false, cond}
 use mathlib.Core.List.{List, [], _∷_}
 use lib.Dec.{ltb}
-use Rattle.lexer.specs.Pieces.{Piece, behind, tokensFrom}
+use Rattle.lexer.specs.Pieces.{Piece, behind}
 use Rattle.lexer.specs.Numbers.{Number, number, malformed, numberOf}
 use Rattle.dimacs.specs.Rows.{Literal, rowOf}
 use Rattle.dimacs.specs.declared.clauses.Row.{Row}
@@ -30,10 +30,6 @@ before n t (number s (suc i)) rest = cond (ltb i n) (joined (record { minus = s;
 unfoldable pub clauses : ℕ → List Piece → Reading
 clauses n [] = ended
 clauses n (t ∷ ts) = before n t (numberOf (t .bytes)) (clauses n ts)
-
--- the clauses of a text from a place on
-abbrev pub clausesFrom : ℕ → List ℕ → ℕ → Reading
-clausesFrom n text at = clauses n (tokensFrom text at)
 
 abbrev pub rowsOf : Reading → List Row
 rowsOf (clause ls from to rest) = rowOf ls ∷ rowsOf rest

@@ -1,8 +1,9 @@
 -- The header of a text: `c` lines may stand before it, and nothing else (document 01, "DIMACS").
 use Prim.Native.Nat.{ℕ}
-use mathlib.Core.Bool.{Bool, false, _&&_, cond}
+use mathlib.Core.Bool.{Bool, _&&_, cond}
 use mathlib.Core.List.{List, [], _∷_}
 use lib.Dec.{eqb}
+use lib.ListN.{getD}
 use Rattle.lexer.specs.Spelling.{bytes}
 use Rattle.lexer.specs.Bytes.{isBlank, isTail, trimmed, same}
 use Rattle.lexer.specs.Pieces.{Piece, partsFrom}
@@ -10,15 +11,14 @@ use Rattle.lexer.specs.Numbers.{Number, numberOf}
 
 -- a line whose first byte is `c`
 abbrev pub isRemark : List ℕ → Bool
-isRemark [] = false
-isRemark (b ∷ bs) = eqb b 99
+isRemark line = eqb (getD line 0 0) 99
 
 -- the lines from the first that is no remark on
 unfoldable pub pastRemarks : List Piece → List Piece
 pastRemarks [] = []
 pastRemarks (l ∷ ls) = cond (isRemark (l .bytes)) (pastRemarks ls) (l ∷ ls)
 
--- n and m, or no header
+-- n and m, each well-formed or not, or no header
 pub data Numbers : Type 0 where
   numbers : Number → Number → Numbers
   none : Numbers

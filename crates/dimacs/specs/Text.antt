@@ -4,13 +4,13 @@ use mathlib.Core.Bool.{Bool, not, _&&_, cond}
 use mathlib.Core.List.{List, [], _∷_, _++_}
 use lib.Dec.{eqb, ltb, leb}
 use lib.ListN.{length, replicate}
-use Rattle.lexer.specs.Pieces.{Piece, behind, linesFrom}
+use Rattle.lexer.specs.Pieces.{Piece, behind, linesFrom, tokensFrom}
 use Rattle.lexer.specs.Numbers.{number, malformed}
 use Rattle.refusals.specs.declared.Refusal.{Refusal}
 use Rattle.refusals.specs.declared.Refusal.the-variants.{Variables, RowCount, Text}
 use Rattle.refusals.specs.declared.Outcome.the-variants.{Taken, Refused}
 use Rattle.dimacs.specs.Rows.{wordsOf}
-use Rattle.dimacs.specs.Clauses.{Reading, clausesFrom, rowsOf, complete}
+use Rattle.dimacs.specs.Clauses.{Reading, clauses, rowsOf, complete}
 use Rattle.dimacs.specs.Header.{Numbers, numbers, none, pastRemarks, numbersOf}
 use Rattle.dimacs.specs.declared.clauses.Row.{Row}
 use Rattle.dimacs.specs.declared.Table.{Table}
@@ -31,14 +31,14 @@ bodyOf n m reading = cond (complete reading && eqb (length (rowsOf reading)) m) 
 abbrev pub within : ℕ → Bool → ℕ → Bool
 within most minus v = not minus && (leb 1 v && leb v most)
 
--- both numbers of a header must be well-formed; n is judged first, then its m, then what follows its line
+-- both numbers of a header must be well-formed; n is judged first, then m, then what follows the line
 abbrev pub headed : List ℕ → ℕ → Numbers → Table
 headed text end none = refused Text
 headed text end (numbers malformed m) = refused Text
 headed text end (numbers (number s n) malformed) = refused Text
 headed text end (numbers (number s n) (number t m)) =
     cond (within 32 s n)
-    (cond (within 128 t m) (bodyOf n m (clausesFrom n text end)) (refused RowCount))
+    (cond (within 128 t m) (bodyOf n m (clauses n (tokensFrom text end))) (refused RowCount))
     (refused Variables)
 
 -- the header is the first line that is no remark

@@ -4,8 +4,7 @@ use lexer::pieces::Piece;
 ghost use mathlib.Core.Path.{_≡_};
 ghost use Prim.Native.Nat.{_≤_, _<_};
 ghost use Rattle.dimacs.specs.Rows.{withLiteral};
-ghost use Rattle.dimacs.specs.Clauses.{clausesFrom};
-ghost use Rattle.dimacs.specs.Answers.{first};
+ghost use Rattle.dimacs.specs.Answers.{clausesFrom, first};
 
 // A row: bit i - 1 of each word stands for variable i.
 pub(crate) struct Row {

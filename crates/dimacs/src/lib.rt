@@ -10,10 +10,9 @@ use refusals::Outcome;
 use refusals::Refusal;
 ghost use mathlib.Core.Path.{_≡_};
 ghost use Prim.Native.Nat.{_≤_};
-ghost use Rattle.dimacs.specs.Clauses.{clausesFrom};
 ghost use Rattle.dimacs.specs.Text.{tableOf, bodyOf, refused};
 ghost use Rattle.dimacs.specs.Pair.{pairOf, refusedPair};
-ghost use Rattle.dimacs.specs.Answers.{limitedOf};
+ghost use Rattle.dimacs.specs.Answers.{clausesFrom, limitedOf};
 
 // A station's table: n, its row count and its row words, positive before negative; the words past the rows are zero. A refused text has none.
 pub struct Table {
