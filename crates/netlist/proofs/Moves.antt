@@ -15,8 +15,8 @@ use Rattle.words.proofs.Bits.{bit-put}
 use Rattle.state.specs.declared.Level.{Level}
 use Rattle.state.specs.declared.Standing.{Standing}
 use Rattle.state.specs.declared.Standing.the-variants.{Open}
-use Rattle.state.specs.State.{State}
-use Rattle.wires.specs.Layout.{onLevel, isSatisfied, isRefuted}
+use Rattle.state.specs.State.{State, isSatisfied}
+use Rattle.wires.specs.Layout.{onLevel, isRefuted}
 use Rattle.wires.specs.Bits.{Bits, bitsIn}
 use Rattle.wires.proofs.Addresses.{Same}
 use Rattle.netlist.proofs.Interface.{Signals}

@@ -12,8 +12,8 @@ use borrow.Author.Tests.{ltb-true, ltb-false, ne-eqb}
 use Rattle.words.specs.Booleans.{_⊕_}
 use Rattle.words.proofs.Truth.{on, and-false, taut3, taut4, same, same-eq}
 use Rattle.tables.specs.declared.Row.{Row}
-use Rattle.state.specs.State.{State}
-use Rattle.wires.specs.Layout.{isSatisfied, isRefuted}
+use Rattle.state.specs.State.{State, isSatisfied}
+use Rattle.wires.specs.Layout.{isRefuted}
 use Rattle.wires.specs.Bits.{Bits, bitsIn}
 use Rattle.wires.proofs.Addresses.{Same, same-trans}
 use Rattle.netlist.proofs.Equations.{openOf, doneOf, refuteOf, popOf, pushOf, negOf, posOf}

@@ -23,9 +23,9 @@ use Rattle.solver.specs.declared.Solved.the-variants as solved′
 use Rattle.state.specs.declared.Standing.{Standing}
 use Rattle.state.specs.declared.Standing.the-variants.{Open, Satisfied, Refuted}
 use Rattle.solver.specs.declared.Stepped.{Stepped}
-use Rattle.state.specs.State.{stateOf, runOf}
+use Rattle.state.specs.State.{stateOf, runOf, isSatisfied}
 use Rattle.solver.specs.Step.{step}
-use Rattle.solver.specs.Answers.{answerOf, stepped, solved, isSatisfied, modelOf}
+use Rattle.solver.specs.Answers.{answerOf, stepped, solved, modelOf}
 use Rattle.state.specs.WellFormed.{wellFormed, stateChecks}
 
 -- ---- the checks of tables and run

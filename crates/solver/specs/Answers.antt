@@ -1,6 +1,6 @@
 -- The budgeted run's answer, and what each entry gives: document 01, "Giant step" and "Turned back".
 use Prim.Native.Nat.{ℕ, zero, suc}
-use mathlib.Core.Bool.{Bool, true, false, not}
+use mathlib.Core.Bool.{not}
 use mathlib.Core.List.{List, [], _∷_, _++_}
 use Rattle.refusals.specs.Checks.{check, outcome, given}
 use Rattle.refusals.specs.declared.Outcome.the-variants.{Taken}
@@ -22,7 +22,7 @@ use Rattle.state.specs.declared.Standing.the-variants.{Open, Satisfied, Refuted
 use Rattle.solver.specs.declared.Stepped.{Stepped}
 use Rattle.solver.specs.declared.Verdict.{Verdict}
 use Rattle.solver.specs.declared.Verdict.the-variants.{Satisfiable, Unsatisfiable, Unknown}
-use Rattle.state.specs.State.{State, fresh, stateOf, runOf}
+use Rattle.state.specs.State.{State, fresh, stateOf, runOf, isSatisfied}
 use Rattle.solver.specs.Step.{step}
 use Rattle.state.specs.WellFormed.{wellFormed, stateChecks}
 
@@ -70,11 +70,6 @@ stepped d left right run =
 unfoldable pub solved : Dimensions → List ℕ → List ℕ → ℕ → Solved
 unfolding answerOf
 solved d left right budget = given (outcome (tableChecks d left right)) (solved′.Of (answerOf (d .n) (rowsOf d left right) budget)) solved′.Refused
-
-abbrev pub isSatisfied : Standing → Bool
-isSatisfied Open = false
-isSatisfied Satisfied = true
-isSatisfied Refuted = false
 
 -- the model of a run: 12, 14
 unfoldable pub modelOf : Run → Modelled

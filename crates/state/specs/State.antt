@@ -1,11 +1,12 @@
 -- States, and the run struct that holds one: document 01, "Giant step".
 use Prim.Native.Nat.{ℕ, zero, suc, _-_}
+use mathlib.Core.Bool.{Bool, true, false}
 use mathlib.Core.List.{List, [], _∷_, _++_, reverse}
 use lib.ListN.{length, getD, replicate}
 use Rattle.state.specs.declared.Level.{Level}
 use Rattle.state.specs.declared.Run.{Run}
 use Rattle.state.specs.declared.Standing.{Standing}
-use Rattle.state.specs.declared.Standing.the-variants.{Open}
+use Rattle.state.specs.declared.Standing.the-variants.{Open, Satisfied, Refuted}
 
 -- the used levels, the last one first
 pub record State : Type 0 where
@@ -16,6 +17,11 @@ pub record State : Type 0 where
 
 abbrev pub fresh : State
 fresh = record { standing = Open; t = 0; f = 0; levels = [] }
+
+abbrev pub isSatisfied : Standing → Bool
+isSatisfied Open = false
+isSatisfied Satisfied = true
+isSatisfied Refuted = false
 
 -- an unused level
 abbrev pub none : Level

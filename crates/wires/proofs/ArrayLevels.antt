@@ -15,9 +15,9 @@ use Rattle.words.proofs.Truth.{on}
 use Rattle.words.proofs.Bits.{bit-zero}
 use Rattle.state.specs.declared.Level.{Level}
 use Rattle.state.specs.declared.Run.{Run}
-use Rattle.state.specs.State.{none, levelsOf, stateOf}
+use Rattle.state.specs.State.{none, levelsOf, stateOf, isSatisfied}
 use Rattle.state.proofs.HeldRun.{length-levels}
-use Rattle.wires.specs.Layout.{upto, onLevel, isSatisfied, isRefuted, stateBits}
+use Rattle.wires.specs.Layout.{upto, onLevel, isRefuted, stateBits}
 use Rattle.wires.specs.Levels.{levelBits, levelIn, levelsBits}
 use Rattle.wires.specs.Unpacking.{lastFirst}
 use Rattle.wires.proofs.Series.{upto-cong, joined-cong}

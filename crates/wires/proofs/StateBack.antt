@@ -15,10 +15,10 @@ use Rattle.words.proofs.WordOf.{wordOf-cong, wordOf-bit}
 use Rattle.state.specs.declared.Level.{Level}
 use Rattle.state.specs.declared.Standing.{Standing}
 use Rattle.state.specs.declared.Standing.the-variants.{Open, Satisfied, Refuted}
-use Rattle.state.specs.State.{State}
+use Rattle.state.specs.State.{State, isSatisfied}
 use Rattle.state.specs.WellFormed.{chain, wellFormedState}
 use Rattle.state.proofs.WellFormedLaws.{formed-e, chain-head, chain-tail}
-use Rattle.wires.specs.Layout.{onLevel, isSatisfied, isRefuted}
+use Rattle.wires.specs.Layout.{onLevel, isRefuted}
 use Rattle.wires.specs.Bits.{Bits, bitsIn}
 use Rattle.wires.specs.Unpacking.{standingOf, levelOf, lastFirst, unpacked}
 use Rattle.wires.proofs.Addresses.{Same}

@@ -5,8 +5,8 @@ use mathlib.Core.List.{List, [], _∷_, _++_}
 use lib.Dec.{eqb}
 use lib.ListN.{length}
 use Rattle.words.specs.Sets.{bit}
-use Rattle.state.specs.State.{State}
-use Rattle.wires.specs.Layout.{upto, joined, onLevel, isSatisfied, isRefuted}
+use Rattle.state.specs.State.{State, isSatisfied}
+use Rattle.wires.specs.Layout.{upto, joined, onLevel, isRefuted}
 
 -- T and F of a variable; a depth; T, F and the choice of a level at a variable; satisfied, refuted
 pub record Bits : Type 0 where

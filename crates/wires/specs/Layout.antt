@@ -9,7 +9,7 @@ use Rattle.tables.specs.declared.Row.{Row}
 use Rattle.state.specs.declared.Level.{Level}
 use Rattle.state.specs.declared.Standing.{Standing}
 use Rattle.state.specs.declared.Standing.the-variants.{Open, Satisfied, Refuted}
-use Rattle.state.specs.State.{State}
+use Rattle.state.specs.State.{State, isSatisfied}
 
 -- f 0, .. , f (n - 1)
 unfoldable pub upto : (ℕ → Bool) → ℕ → List Bool
@@ -43,11 +43,6 @@ abbrev pub levelWires : ℕ → List Level → ℕ → List Bool
 levelWires n levels l =
     upto (λ i. onLevel (λ x. bit (x .t) i) levels l) n
     ++ (upto (λ i. onLevel (λ x. bit (x .f) i) levels l) n ++ upto (λ i. onLevel (λ x. eqb i (x .chosen)) levels l) n)
-
-abbrev pub isSatisfied : Standing → Bool
-isSatisfied Open = false
-isSatisfied Satisfied = true
-isSatisfied Refuted = false
 
 abbrev pub isRefuted : Standing → Bool
 isRefuted Open = false

@@ -13,9 +13,9 @@ ghost use Rattle.words.specs.Booleans.{digit};
 ghost use Rattle.words.specs.Sets.{bit};
 ghost use Rattle.tables.specs.Rows.{rowsFrom};
 ghost use Rattle.tables.specs.Sizes.{stateWires};
-ghost use Rattle.state.specs.State.{stateOf};
+ghost use Rattle.state.specs.State.{stateOf, isSatisfied};
 ghost use Rattle.gates.specs.Memory.{bytesOf};
-ghost use Rattle.wires.specs.Layout.{upto, rowBits, rowsBits, isSatisfied, isRefuted, stateBits};
+ghost use Rattle.wires.specs.Layout.{upto, rowBits, rowsBits, isRefuted, stateBits};
 ghost use Rattle.wires.specs.Levels.{levelBits, levelIn, levelsBits};
 
 // A wire's byte.

@@ -4,7 +4,8 @@ use mathlib.Core.Path.{ap, _∙_}
 use native.Mathlib.Omega.{arith}
 use lib.ListN.{length-set}
 use Rattle.words.specs.Booleans.{digit}
-use Rattle.wires.specs.Layout.{isSatisfied, isRefuted}
+use Rattle.state.specs.State.{isSatisfied}
+use Rattle.wires.specs.Layout.{isRefuted}
 use Rattle.wires.proofs.Stores.{stored-two}
 use borrow.Author.Needs.{needs}
 use Rattle.wires.proofs.packing.put_standing.Statement.{statement}
