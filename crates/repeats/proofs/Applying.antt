@@ -15,7 +15,7 @@ use Rattle.refusals.specs.declared.Outcome.{Outcome}
 use Rattle.refusals.specs.declared.Outcome.the-variants.{Taken, Refused}
 use Rattle.refusals.specs.declared.Refusal.the-variants.{Wires}
 use Rattle.words.specs.Booleans.{digit}
-use Rattle.words.proofs.Truth.{and-l, and-r, on}
+use Rattle.words.proofs.Truth.{on}
 use Rattle.tables.specs.declared.Dimensions.{Dimensions}
 use Rattle.tables.specs.Sizes.{stateWires, inputWires}
 use Rattle.tables.specs.Rows.{rowsOf}
@@ -39,12 +39,12 @@ use Rattle.wires.proofs.Lengths.{state-length}
 use Rattle.wires.proofs.Checks.{Passed, passed, state-decides, refuse-room}
 use Rattle.wires.proofs.RoundTrip.{read-packed}
 use Rattle.netlist.specs.Netlist.{gatesOn}
-use Rattle.netlist.specs.Outputs.{closed, outputBits}
+use Rattle.netlist.specs.Outputs.{closed, outputBits, outputsIn}
 use Rattle.netlist.proofs.EveryState.{gates-accepted, outputs-filled}
 use Rattle.repeats.specs.declared.Applied.{Applied}
-use Rattle.repeats.specs.Application.{turnedBack, nextRun, outputsIn, judged, wiresAfter, applied}
+use Rattle.repeats.specs.Application.{turnedBack, nextRun, judged, wiresAfter, applied}
 use Rattle.repeats.specs.Repeats.{Attempt, circuitWords, longEnough}
-use Rattle.repeats.specs.Demand3.{Accepts, EveryState}
+use Rattle.repeats.specs.Demand3.{Accepts}
 use Rattle.repeats.proofs.Judging.{refused, refuse-packing, refuse-wires, take-all, wires-then}
 
 digit-bit : (b : Bool) → eqb (digit b) 1 ≡ b
@@ -132,15 +132,9 @@ module _ (d : Dimensions) (left right : List ℕ) (acc : Accepts d left right) (
           ∙ ap (nextRun (d .n) run) (outputs-are ∙ e)
           ∙ ap₂ (λ (x : Read) (b : Bool). given (x .outcome) (record { outcome = Taken; run = x .run; mark = b }) (turnedBack run)) r m
 
--- ---- every state, and one attempt at a state
+-- ---- one attempt at a state
 
 module _ (d : Dimensions) (left right : List ℕ) (acc : Accepts d left right) where
-  pub every : EveryState d left right
-  every run ok a e =
-      let room = leb-true (inputWires d) (length (a .bytes)) (and-l _ _ e) in
-      let space = leb-true (inputWires d + length (gatesOn d)) (length (a .wires)) (and-r (leb (inputWires d) (length (a .bytes))) _ e) in
-      (all-taken d left right acc run ok (a .bytes) (a .wires) room space, outputs-are d left right acc run ok (a .bytes) (a .wires) room space)
-
   abbrev pub attempted : State → Bool → Applied
   attempted s true =
       let next = step (d .n) (rowsOf d left right) s in

@@ -28,11 +28,11 @@ use Rattle.gates.specs.Memory.{gatesOf}
 use Rattle.wires.specs.Layout.{upto}
 use Rattle.wires.proofs.Series.{length-upto, upto-at, upto-cong}
 use Rattle.netlist.specs.Outputs.{closed}
+use Rattle.netlist.proofs.EveryState.{gates-carry-out}
 use Rattle.bristol.specs.Lines.{circuitText}
 use Rattle.lines.specs.Answers.{answerText}
 use Rattle.repeats.specs.Repeats.{Attempt, History, circuitWords, ended, longOnes}
 use Rattle.repeats.specs.Demand3.{Accepts, historyOf, Follows, answerFor, Ends, seen, Demand3}
-use Rattle.repeats.proofs.Applying.{every}
 use Rattle.repeats.proofs.Histories.{closed-open, open-closed, repeated, number, repeats-are}
 
 -- ---- marks
@@ -176,8 +176,9 @@ same-seen d left right left′ right′ acc acc′ budget attempts attempts′ q
     q
 
 pub demand3 : (d : Dimensions) → Demand3 d
+unfolding circuitWords
 demand3 d = record {
-  every-state = λ left right acc. every d left right acc;
+  every-state = gates-carry-out d;
   history = λ left right acc budget attempts. follows d left right acc budget attempts;
   end = λ left right acc budget attempts. (ends d left right acc budget attempts, reached d left right acc budget attempts);
   secrecy = λ left right left′ right′ acc acc′ budget attempts attempts′. same-seen d left right left′ right′ acc acc′ budget attempts attempts′;

@@ -31,8 +31,9 @@ use Rattle.wires.specs.Packing.{inputBits, packChecks, packed}
 use Rattle.wires.specs.Reading.{readBack}
 use Rattle.wires.proofs.Lengths.{input-length}
 use Rattle.wires.proofs.RoundTrip.{packed-front}
+use Rattle.netlist.specs.Outputs.{outputsIn}
 use Rattle.repeats.specs.declared.Applied.{Applied}
-use Rattle.repeats.specs.Application.{turnedBack, nextRun, outputsIn, inputs, judged, bytesAfter, wiresAfter, applied}
+use Rattle.repeats.specs.Application.{turnedBack, nextRun, inputs, judged, bytesAfter, wiresAfter, applied}
 
 -- behind a state's wires there is room for the closing one: a row of each station has two wires at least
 pub outputs-fit : (d : Dimensions) (left right : List ℕ) → Accepted d left right → stateWires (d .n) + 4 ≤ inputWires d

@@ -1,9 +1,9 @@
 -- One application of a circuit to a run: document 01, "Circuit". Turned back by packing, 1, 2, 4, 3, 10, 12, 13, by evaluation, 9, 10, or by reading back, 12.
-use Prim.Native.Nat.{ℕ, _+_, _-_, _/_}
+use Prim.Native.Nat.{ℕ}
 use mathlib.Core.Bool.{false}
 use mathlib.Core.List.{List, _++_}
 use lib.Dec.{eqb}
-use lib.ListN.{length, getD, take, drop}
+use lib.ListN.{length, getD, take}
 use Rattle.refusals.specs.Checks.{outcome, given}
 use Rattle.refusals.specs.declared.Outcome.{Outcome}
 use Rattle.refusals.specs.declared.Outcome.the-variants.{Taken, Refused}
@@ -14,6 +14,7 @@ use Rattle.state.specs.declared.Run.{Run}
 use Rattle.gates.specs.Evaluation.{checks, filled}
 use Rattle.wires.specs.Packing.{packChecks, packed}
 use Rattle.wires.specs.Reading.{readBack}
+use Rattle.netlist.specs.Outputs.{outputsIn}
 use Rattle.repeats.specs.declared.Applied.{Applied}
 
 -- a refusal leaves the run as it was and has no mark
@@ -25,10 +26,6 @@ unfoldable pub nextRun : ℕ → Run → List ℕ → Applied
 nextRun n run outputs =
     let read = readBack n outputs in
     given (read .outcome) (record { outcome = Taken; run = read .run; mark = eqb (getD outputs (stateWires n) 0) 1 }) (turnedBack run)
-
--- the last 3n² + 3n + 4 wires that the evaluator fills
-abbrev pub outputsIn : Dimensions → List ℕ → List ℕ → List ℕ
-outputsIn d gates wires = take (stateWires (d .n) + 1) (drop (inputWires d + length gates / 3 - (stateWires (d .n) + 1)) wires)
 
 -- the packed bytes, the evaluator's inputs
 abbrev pub inputs : Dimensions → List ℕ → List ℕ → Run → List ℕ → List ℕ

@@ -10,27 +10,14 @@ use Rattle.tables.specs.declared.Dimensions.{Dimensions}
 use Rattle.tables.specs.Rows.{rowsOf}
 use Rattle.tables.specs.Acceptance.{tableChecks}
 use Rattle.solver.specs.declared.Answer.{Answer}
-use Rattle.state.specs.declared.Run.{Run}
-use Rattle.state.specs.State.{fresh, stateOf, runOf}
+use Rattle.state.specs.State.{fresh, runOf}
 use Rattle.solver.specs.Step.{after}
-use Rattle.state.specs.WellFormed.{stateChecks}
 use Rattle.solver.specs.Answers.{verdictOf, answerOf}
-use Rattle.gates.specs.Memory.{gatesOf, bytesOf}
-use Rattle.netlist.specs.Outputs.{closed, outputBits}
+use Rattle.gates.specs.Memory.{gatesOf}
+use Rattle.netlist.specs.Outputs.{closed, CarriesOut}
 use Rattle.bristol.specs.Lines.{circuitText}
 use Rattle.lines.specs.Answers.{answerText}
-use Rattle.repeats.specs.Application.{judged, wiresAfter, outputsIn}
-use Rattle.repeats.specs.Repeats.{Attempt, History, circuitWords, repeats, ended, longEnough, longOnes}
-
--- ---- every state
-
--- any run that is a well-formed state of n, any lent buffers that are long enough: the last wires that are filled are the packed bytes
--- of the state after one giant step, then 1 if that state is closed and else 0
-abbrev pub EveryState : Dimensions → List ℕ → List ℕ → Type 0
-EveryState d left right =
-    (run : Run) → outcome (stateChecks d run) ≡ Taken → (a : Attempt) → longEnough d a ≡ true
-    → (judged d left right (circuitWords d) run (a .bytes) (a .wires) ≡ Taken)
-    × (outputsIn d (circuitWords d) (wiresAfter d left right (circuitWords d) run (a .bytes) (a .wires)) ≡ bytesOf (outputBits (d .n) (rowsOf d left right) (stateOf run)))
+use Rattle.repeats.specs.Repeats.{Attempt, History, circuitWords, repeats, ended, longOnes}
 
 -- ---- history
 
@@ -68,7 +55,8 @@ abbrev pub Accepts : Dimensions → List ℕ → List ℕ → Type 0
 Accepts d left right = outcome (tableChecks d left right) ≡ Taken
 
 pub record Demand3 (d : Dimensions) : Type 0 where
-  pub every-state : (left right : List ℕ) → Accepts d left right → EveryState d left right
+  -- on the packed bytes of any tables and any well-formed state the evaluator leaves those of the state after one giant step
+  pub every-state : CarriesOut d (circuitWords d)
   -- every list of attempts, so every prefix of one
   pub history : (left right : List ℕ) → Accepts d left right → (budget : ℕ) (attempts : List Attempt)
       → Follows d left right budget (historyOf d left right budget attempts)
