@@ -1,0 +1,155 @@
+/*
+ * Forkhemit for hosts in C and C++: two stations' clause tables, the giant step, its circuit and the texts.
+ * Every function is proved to meet its contract, which stands in crates/interface/src.
+ *
+ * Rules for every call
+ * - A buffer is lent as a pointer and then its length, counted in elements. Give a pointer that is not null and is aligned for its
+ *   type, with length 0 too. A buffer that a call writes may overlap no other buffer of the same call.
+ * - The function returns 0 where the call was taken, else one number of forkhemit_refusal_number. On a refusal nothing is written
+ *   (one exception: forkhemit_apply).
+ * - Each call fills the front of a buffer and leaves the rest as it was. Numbers (sizes, answer, count, ..) are written as far as the
+ *   buffer has room for them, from the front: a shorter buffer is no refusal.
+ * - No function keeps a pointer, allocates memory or has a state of its own: calls in several threads over different buffers are safe.
+ *
+ * Tables: n variables, 1 to 32; each station has 1 to 128 rows. A row is two words, the variables that it holds positive and those that
+ * it holds negative; bit i - 1 stands for variable i. A table of r rows is 2 * r words; words past them are not looked at.
+ */
+#ifndef FORKHEMIT_H
+#define FORKHEMIT_H
+
+#include <stddef.h>
+#include <stdint.h>
+
+#ifdef __cplusplus
+extern "C" {
+#endif
+
+/* Why a call was turned back. The lowest that applies is returned, except that 4 comes before 3, and as each function says. */
+enum forkhemit_refusal_number {
+    FORKHEMIT_TAKEN = 0,            /* not turned back */
+    FORKHEMIT_VARIABLES = 1,        /* n outside 1 to 32 */
+    FORKHEMIT_ROW_COUNT = 2,        /* a station's row count outside 1 to 128 */
+    FORKHEMIT_ROW_BIT = 3,          /* a row bit at or above n */
+    FORKHEMIT_ROW_BUFFER = 4,       /* a row buffer shorter than 2 * rows words */
+    FORKHEMIT_TEXT = 5,             /* malformed or overlong DIMACS text */
+    FORKHEMIT_TEXTS_DIFFER = 6,     /* the two texts differ in n */
+    FORKHEMIT_GATE_BUFFER = 7,      /* gate buffer below three words for each gate of the ceiling */
+    FORKHEMIT_NUMBER_LINE = 8,      /* malformed budget or dimension line: the programs alone */
+    FORKHEMIT_GATES = 9,            /* words that are no gates */
+    FORKHEMIT_WIRES = 10,           /* wire buffer too short, or an input byte that is not 0 or 1 */
+    FORKHEMIT_LINE_BUFFER = 11,     /* text longer than the lent bytes */
+    FORKHEMIT_STATE = 12,           /* state not well-formed, or words that can hold no run */
+    FORKHEMIT_OTHER_VARIABLES = 13, /* state made for another n */
+    FORKHEMIT_NO_MODEL = 14         /* model wanted while open or refuted */
+};
+
+/*
+ * A run in memory: FORKHEMIT_RUN_WORDS words of 32 bits.
+ *   word 0              n
+ *   word 1              standing: one of forkhemit_standing
+ *   word 2, word 3      T, the variables set true, and F, those set false
+ *   word 4              depth: how many levels are used
+ *   word 5 + 3 * level  T and F from before the level's choice, and the chosen variable, from 0; level from 0 to 31, unused ones zero
+ * Words past these are neither read nor changed.
+ */
+#define FORKHEMIT_RUN_WORDS 101
+
+enum forkhemit_standing {
+    FORKHEMIT_OPEN = 0,
+    FORKHEMIT_SATISFIED = 1,
+    FORKHEMIT_REFUTED = 2
+};
+
+/* The verdict's numbers are those of the standing that it follows from. */
+enum forkhemit_verdict {
+    FORKHEMIT_UNKNOWN = 0,
+    FORKHEMIT_SATISFIABLE = 1,
+    FORKHEMIT_UNSATISFIABLE = 2
+};
+
+/* ---- tables */
+
+/* sizes: the gate ceiling, the words that forkhemit_generate wants (three a gate of the ceiling), input wires, state wires. 1, 2. */
+uint8_t forkhemit_sizes(uint64_t n, uint64_t left_rows, uint64_t right_rows, uint64_t *sizes, size_t sizes_length);
+
+/* Reads two DIMACS texts into tables. sizes: n, left rows, right rows. 512 words, 256 for each table, are enough for any texts.
+ * The left text's 1, 2 or 5, then the right's, then 6, then 4 where a table has too few words for its rows. */
+uint8_t forkhemit_read_pair(const uint8_t *left_text, size_t left_text_length, const uint8_t *right_text, size_t right_text_length,
+                            uint32_t *left, size_t left_length, uint32_t *right, size_t right_length,
+                            uint64_t *sizes, size_t sizes_length);
+
+/* Whether the two tables are accepted: 1, 2, 4, 3. */
+uint8_t forkhemit_accept(uint64_t n, uint64_t left_rows, uint64_t right_rows,
+                         const uint32_t *left, size_t left_length, const uint32_t *right, size_t right_length);
+
+/* ---- runs */
+
+/* run: the fresh run of n variables. 1, then 12 where run has too few words. */
+uint8_t forkhemit_fresh(uint64_t n, uint32_t *run, size_t run_length);
+
+/* run: after one giant step, in place. 1, 2, 4, 3, 12, 13. */
+uint8_t forkhemit_step(uint64_t n, uint64_t left_rows, uint64_t right_rows,
+                       const uint32_t *left, size_t left_length, const uint32_t *right, size_t right_length,
+                       uint32_t *run, size_t run_length);
+
+/* A fresh run until it closes or the budget is spent. answer: steps taken, verdict (forkhemit_verdict), model as a word, 0 without one.
+ * 1, 2, 4, 3. */
+uint8_t forkhemit_solve(uint64_t n, uint64_t left_rows, uint64_t right_rows,
+                        const uint32_t *left, size_t left_length, const uint32_t *right, size_t right_length,
+                        uint64_t budget, uint64_t *answer, size_t answer_length);
+
+/* model: the variables that a satisfied run makes true, as a word. 12, 14. */
+uint8_t forkhemit_model(const uint32_t *run, size_t run_length, uint64_t *model, size_t model_length);
+
+/* ---- the circuit */
+
+/* gates: the giant step's circuit, three words a gate: kind (0 XOR, 1 AND, 2 INV), first wire, second wire (0 for INV).
+ * count: how many gates. 1, 2, 7. */
+uint8_t forkhemit_generate(uint64_t n, uint64_t left_rows, uint64_t right_rows,
+                           uint32_t *gates, size_t gates_length, uint64_t *count, size_t count_length);
+
+/* bytes: left rows, right rows and run, a byte a wire: the circuit's inputs. 1, 2, 4, 3, 10, 12, 13. */
+uint8_t forkhemit_pack(uint64_t n, uint64_t left_rows, uint64_t right_rows,
+                       const uint32_t *left, size_t left_length, const uint32_t *right, size_t right_length,
+                       const uint32_t *run, size_t run_length, uint8_t *bytes, size_t bytes_length);
+
+/* wires: the inputs, then each gate's value. gates_length is three times the number of gates, inputs_length the number of inputs. 9, 10. */
+uint8_t forkhemit_evaluate(const uint32_t *gates, size_t gates_length, const uint8_t *inputs, size_t inputs_length,
+                           uint8_t *wires, size_t wires_length);
+
+/* run: the state of n variables that the front of the bytes holds, a byte a wire. 1, 10, 12 (also where run has too few words). */
+uint8_t forkhemit_read_back(uint64_t n, const uint8_t *bytes, size_t bytes_length, uint32_t *run, size_t run_length);
+
+/* One repeat: rows and run are packed into bytes, the gates evaluated into wires, the next run read back from the last wires, in place.
+ * mark: 1 if that run is closed, else 0. 1, 2, 4, 3, 10, 12, 13 in packing, 9, 10 in evaluation, 12 in reading back.
+ * Only where the read-back refuses, which the generated circuit never brings about, are bytes and wires filled all the same;
+ * run and mark stay as they were on every refusal. */
+uint8_t forkhemit_apply(uint64_t n, uint64_t left_rows, uint64_t right_rows,
+                        const uint32_t *left, size_t left_length, const uint32_t *right, size_t right_length,
+                        const uint32_t *gates, size_t gates_length, uint32_t *run, size_t run_length,
+                        uint8_t *bytes, size_t bytes_length, uint8_t *wires, size_t wires_length,
+                        uint64_t *mark, size_t mark_length);
+
+/* ---- texts */
+
+/* bytes: the circuit text's line of a number, from 0, with its LF. length: its bytes; 0 past the last line. 1, 2, 9, 11. */
+uint8_t forkhemit_write_line(uint64_t n, uint64_t left_rows, uint64_t right_rows,
+                             const uint32_t *gates, size_t gates_length, uint64_t line,
+                             uint8_t *bytes, size_t bytes_length, uint64_t *length, size_t length_length);
+
+/* bytes: as many whole lines as fit, from that line on. written: lines, then bytes; 0 and 0 past the last line.
+ * 1, 2, 9, 11 where not even one line fits. */
+uint8_t forkhemit_write_lines(uint64_t n, uint64_t left_rows, uint64_t right_rows,
+                              const uint32_t *gates, size_t gates_length, uint64_t line,
+                              uint8_t *bytes, size_t bytes_length, uint64_t *written, size_t written_length);
+
+/* bytes: the answer as the pair program prints it. length: its bytes, at most 256. A verdict that is no forkhemit_verdict is unknown; with satisfiable,
+ * the first n variables of the model are printed, 32 at most. 11. */
+uint8_t forkhemit_answer(uint64_t n, uint64_t count, uint64_t verdict, uint64_t model,
+                         uint8_t *bytes, size_t bytes_length, uint64_t *length, size_t length_length);
+
+#ifdef __cplusplus
+}
+#endif
+
+#endif
