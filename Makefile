@@ -1,5 +1,6 @@
-# make test: proves and tests everything. make run: solves the example. make bench: compares with other solvers and with plain Rust.
-.PHONY: test run bench fmt
+# make test: proves and tests everything. make run: solves the example. make lib: the library for hosts, target/lib/libforkhemit.a.
+# make bench: compares with other solvers and with plain Rust.
+.PHONY: test run lib bench fmt
 
 test:
 	.ci/run
@@ -10,6 +11,12 @@ target/bin/pair: crates.txt $(shell find crates -name '*.rt' -o -name '*.antt')
 
 run: target/bin/pair
 	cd examples/harbour && ../../target/bin/pair <budget
+
+# declared in include/forkhemit.h
+lib:
+	rt staticlib interface
+	mkdir -p target/lib
+	cp target/staticlib/libinterface.a target/lib/libforkhemit.a
 
 bench: target/bin/pair
 	cargo build --quiet --release --bins --examples --offline --locked --manifest-path tests/Cargo.toml

@@ -1,10 +1,10 @@
--- `interface::forkhemit_evaluate` meets its contract: it is the evaluator's, with the outcome as a number.
+-- `forkhemit_evaluate` meets its contract: it is the evaluator's, with the outcome as a number.
 -- Assumes nothing.
 use mathlib.Core.Path.{ap, _∙_}
 use Rattle.interface.specs.Codes.{codeOf}
 use borrow.Author.Needs.{needs}
-use Rattle.interface.proofs.forkhemit_evaluate.Statement.{statement}
-use Rattle.interface.proofs.forkhemit_evaluate.Tie as tie
+use Rattle.interface.proofs.circuits.forkhemit_evaluate.Statement.{statement}
+use Rattle.interface.proofs.circuits.forkhemit_evaluate.Tie as tie
 
 evaluate-requires : tie.Need-evaluate-requires
 evaluate-requires c κs = search needs

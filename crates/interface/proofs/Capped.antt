@@ -1,0 +1,71 @@
+-- Numbers held at 255 serve as well as the numbers themselves: where these are within the limits they are the same, and where not, both are refused alike.
+-- Assumes nothing.
+use mathlib.Core.Path.{_≡_, refl, sym, ap, _∙_}
+use mathlib.Core.Bool.{Bool, true, false, _||_}
+use mathlib.Core.List.{List, [], _∷_}
+use Prim.Native.Nat.{ℕ, _≤_, _<_, min}
+use native.Mathlib.Omega.{arith}
+use lib.Dec.{ltb}
+use borrow.Author.Tests.{ltb-true, ltb-false, lt-ltb, le-ltb}
+use Rattle.words.proofs.Truth.{on, or-l, or-r, or-true}
+use Rattle.refusals.specs.Checks.{Check, check, outcome}
+use Rattle.refusals.specs.declared.Refusal.{Refusal}
+use Rattle.refusals.specs.declared.Refusal.the-variants.{Variables, RowCount}
+use Rattle.refusals.specs.declared.Outcome.{Outcome}
+use Rattle.refusals.specs.declared.Outcome.the-variants.{Taken, Refused}
+use Rattle.refusals.proofs.Outcomes.{unless-passed, unless-taken}
+use Rattle.tables.specs.declared.Dimensions.{Dimensions}
+use Rattle.tables.specs.Sizes.{outside, sizeChecks}
+use Rattle.tables.proofs.Limits.{most}
+use Rattle.interface.specs.Lent.{dimensions}
+
+-- ---- a limit
+
+pub below : (limit k : ℕ) → k < 1 → outside limit k ≡ true
+below limit k h = rw (lt-ltb k 1 h)
+
+pub above : (limit k : ℕ) → limit < k → outside limit k ≡ true
+above limit k h = rw (lt-ltb limit k h) (or-true (ltb k 1))
+
+pub inside : (limit k : ℕ) → 1 ≤ k → k ≤ limit → outside limit k ≡ false
+inside limit k h l = rw (le-ltb k 1 h, le-ltb limit k l)
+
+-- ---- a number held at 255
+
+held : (k : ℕ) → ltb 255 k ≡ false → min k 255 ≡ k
+held k e = omega (arith, ltb-false 255 k e)
+
+pub outside-held : (limit k : ℕ) → limit < 255 → outside limit (min k 255) ≡ outside limit k
+outside-held limit k h =
+    on (ltb 255 k)
+    (λ e. let m : min k 255 ≡ 255 = omega (arith, ltb-true 255 k e) in
+    rw m (above limit 255 h) ∙ sym (above limit k (omega (arith, ltb-true 255 k e))))
+    (λ e. ap (outside limit) (held k e))
+
+pub inside-held : (limit k : ℕ) → limit < 255 → outside limit k ≡ false → min k 255 ≡ k
+inside-held limit k h e = omega (arith, most limit k e)
+
+module _ (n left right : ℕ) where
+  abbrev pub capped : Dimensions
+  capped = dimensions (min n 255) (min left 255) (min right 255)
+
+  sizes-held : outcome (sizeChecks (min n 255) (min left 255) (min right 255)) ≡ outcome (sizeChecks n left right)
+  sizes-held = rw (outside-held 32 n (omega arith), outside-held 128 left (omega arith), outside-held 128 right (omega arith))
+
+  pub taken-held : outcome (sizeChecks n left right) ≡ Taken → capped ≡ dimensions n left right
+  taken-held e =
+      let rows : outside 128 left || outside 128 right ≡ false = unless-passed _ RowCount Taken (unless-taken (outside 32 n) Variables _ e) in
+      λ i. record {
+        n = inside-held 32 n (omega arith) (unless-passed (outside 32 n) Variables _ e) i;
+        left = inside-held 128 left (omega arith) (or-l (outside 128 left) _ rows) i;
+        right = inside-held 128 right (omega arith) (or-r (outside 128 left) _ rows) i;
+      }
+
+  -- what is refused alike for all refused sizes is the same for both
+  pub same : {A : Type 0} (f : Dimensions → A) (x : Refusal → A)
+      → ((d : Dimensions) (q : Refusal) → outcome (sizeChecks (d .n) (d .left) (d .right)) ≡ Refused q → f d ≡ x q) → f capped ≡ f (dimensions n left right)
+  same f x refused = go (outcome (sizeChecks n left right)) refl
+    where
+      go : (o : Outcome) → outcome (sizeChecks n left right) ≡ o → f capped ≡ f (dimensions n left right)
+      go Taken e = ap f (taken-held e)
+      go (Refused q) e = refused capped q (sizes-held ∙ e) ∙ sym (refused (dimensions n left right) q e)

@@ -1,0 +1,5 @@
+pub mod Fronts
+pub mod Refused
+pub mod Capped
+pub mod Entries
+pub mod Rooms

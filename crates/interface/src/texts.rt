@@ -1,0 +1,102 @@
+// Texts: the circuit's, one line or as many as fit, and the composed answer.
+use crate::lent;
+use bristol::Written;
+use bristol::WrittenLines;
+use solver::Answer;
+use solver::Verdict;
+ghost use mathlib.Core.Path.{_≡_};
+ghost use Prim.Native.Nat.{min};
+ghost use lib.ListN as ListN;
+ghost use Rattle.bristol.specs.Writing as Writing;
+ghost use Rattle.lines.specs.Answers.{answerText};
+ghost use Rattle.interface.specs.Codes.{codeOf, lineCode, lineNumbers, linesCode, linesNumbers, verdictFrom, answerFrom};
+ghost use Rattle.interface.specs.Lent.{dimensions, front, textOutcome, textWritten, lengthWritten};
+
+// Writes the line of a number, from 0, over the front of the bytes, and its length, 0 past the last line; 1, 2, 9 or 11 where it is turned back.
+#[no_mangle]
+pub extern "C" fn forkhemit_write_line(
+    n: u64,
+    left_rows: u64,
+    right_rows: u64,
+    gates: &[u32],
+    line: u64,
+    bytes: &mut [u8],
+    length: &mut [u64],
+) -> u8
+    ensures { λ r. ⌜ r ≡ lineCode (Writing.written (dimensions n «left_rows» «right_rows») (now (gates .entry)) line (now (bytes .entry))) ⌝ }
+    ensures { λ _. ⌜ now (bytes .exit) ≡ Writing.filled (dimensions n «left_rows» «right_rows») (now (gates .entry)) line (now (bytes .entry)) ⌝ }
+    ensures { λ _. ⌜ now (length .exit) ≡ front (lineNumbers (Writing.written (dimensions n «left_rows» «right_rows») (now (gates .entry)) line (now (bytes .entry)))) (now (length .entry)) ⌝ }
+{
+    let d = lent::dimensions(n, left_rows, right_rows);
+    match bristol::write_line(d, gates, line as usize, bytes) {
+        Written::Line(k) => {
+            let numbers = [k as u64];
+            lent::put(&numbers, length);
+            return 0;
+        }
+        Written::Past => {
+            let numbers = [0u64];
+            lent::put(&numbers, length);
+            return 0;
+        }
+        Written::Refused(refusal) => return refusals::number(refusal),
+    }
+}
+
+// Writes the lines from a number on, as many as fit, over the front of the bytes, and how many lines and bytes they are; 1, 2, 9 or 11 where it is turned back.
+#[no_mangle]
+pub extern "C" fn forkhemit_write_lines(
+    n: u64,
+    left_rows: u64,
+    right_rows: u64,
+    gates: &[u32],
+    line: u64,
+    bytes: &mut [u8],
+    written: &mut [u64],
+) -> u8
+    ensures { λ r. ⌜ r ≡ linesCode (Writing.writtenLines (dimensions n «left_rows» «right_rows») (now (gates .entry)) line (now (bytes .entry))) ⌝ }
+    ensures { λ _. ⌜ now (bytes .exit) ≡ Writing.filledLines (dimensions n «left_rows» «right_rows») (now (gates .entry)) line (now (bytes .entry)) ⌝ }
+    ensures { λ _. ⌜ now (written .exit) ≡ front (linesNumbers (Writing.writtenLines (dimensions n «left_rows» «right_rows») (now (gates .entry)) line (now (bytes .entry)))) (now (written .entry)) ⌝ }
+{
+    let d = lent::dimensions(n, left_rows, right_rows);
+    match bristol::write_lines(d, gates, line as usize, bytes) {
+        WrittenLines::Lines(count, size) => {
+            let numbers = [count as u64, size as u64];
+            lent::put(&numbers, written);
+            return 0;
+        }
+        WrittenLines::Refused(refusal) => return refusals::number(refusal),
+    }
+}
+
+// The verdict of a number, with a model as a word.
+fn verdict_from(number: u64, model: u64) -> Verdict
+    ensures { λ r. ⌜ r ≡ verdictFrom number model ⌝ }
+{
+    match number {
+        1 => Verdict::Satisfiable((model & 0xffff_ffff) as u32),
+        2 => Verdict::Unsatisfiable,
+        _ => Verdict::Unknown,
+    }
+}
+
+// Writes the answer as the pair program prints it, and its length; 11 where it is longer than the bytes. A model's first n variables are printed, 32 at most.
+#[no_mangle]
+pub extern "C" fn forkhemit_answer(
+    n: u64,
+    count: u64,
+    verdict: u64,
+    model: u64,
+    bytes: &mut [u8],
+    length: &mut [u64],
+) -> u8
+    ensures { λ r. ⌜ r ≡ codeOf (textOutcome (ListN.length (answerText (min n 32) (answerFrom count verdict model))) (now (bytes .entry))) ⌝ }
+    ensures { λ _. ⌜ now (bytes .exit) ≡ textWritten (answerText (min n 32) (answerFrom count verdict model)) (now (bytes .entry)) ⌝ }
+    ensures { λ _. ⌜ now (length .exit) ≡ lengthWritten (answerText (min n 32) (answerFrom count verdict model)) (now (bytes .entry)) (now (length .entry)) ⌝ }
+{
+    let answer = Answer {
+        count,
+        verdict: verdict_from(verdict, model),
+    };
+    lent::put_text(lines::answer_text(lent::byte(n), answer), bytes, length)
+}

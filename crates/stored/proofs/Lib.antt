@@ -1,0 +1,4 @@
+pub mod Levels
+pub mod Holding
+pub mod Storing
+pub mod RoundTrip

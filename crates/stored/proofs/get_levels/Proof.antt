@@ -1,0 +1,98 @@
+-- `stored::get_levels` meets its contract. The loop's invariant: the levels read so far, with those left, are those of the whole.
+-- The measure is how many levels are left. Assumes nothing.
+use mathlib.Core.Path.{_≡_, refl, sym, _∙_}
+use native.Mathlib.Omega.{arith}
+use Prim.Native.Nat.{_≤_, _-_}
+use lib.ListN.{length, drop, length-set}
+use Rattle.stored.specs.Words.{levelsIn}
+use Rattle.stored.proofs.Levels.{allLevels, read-turn, read-end}
+use borrow.Author.Needs.{needs}
+use Rattle.stored.proofs.get_levels.Statement.{statement}
+use Rattle.stored.proofs.get_levels.Tie as tie
+
+abbrev Inv-loop : tie.InvT-loop
+Inv-loop words levels₀ l₀ levels l = (l ≤ 32) × (length levels ≡ 32) × (allLevels words levels l ≡ levelsIn 32 (drop 5 words))
+
+abbrev μ-loop : tie.MeasureT-loop
+μ-loop words levels₀ l₀ levels l = 32 - l
+
+loop-holds : tie.Need-loop-holds Inv-loop μ-loop
+unfolding allLevels
+loop-holds c = (search needs, refl, refl)
+
+mul-at : tie.Need-mul-at Inv-loop μ-loop
+mul-at c = search needs
+
+add-at : tie.Need-add-at Inv-loop μ-loop
+add-at c = search needs
+
+mul-t7 : tie.Need-mul-t7 Inv-loop μ-loop
+mul-t7 c = search needs
+
+shared-slice-read-t9 : tie.Need-shared-slice-read-t9 Inv-loop μ-loop
+shared-slice-read-t9 c = search needs
+
+add-t10 : tie.Need-add-t10 Inv-loop μ-loop
+add-t10 c = search needs
+
+mul-t11 : tie.Need-mul-t11 Inv-loop μ-loop
+mul-t11 c = search needs
+
+shared-slice-read-t13 : tie.Need-shared-slice-read-t13 Inv-loop μ-loop
+shared-slice-read-t13 c = search needs
+
+add-t14 : tie.Need-add-t14 Inv-loop μ-loop
+add-t14 c = search needs
+
+mul-t15 : tie.Need-mul-t15 Inv-loop μ-loop
+mul-t15 c = search needs
+
+shared-slice-read-t17 : tie.Need-shared-slice-read-t17 Inv-loop μ-loop
+shared-slice-read-t17 c = search needs
+
+mul-levels : tie.Need-mul-levels Inv-loop μ-loop
+mul-levels c = search needs
+
+array-set-from-levels : tie.Need-array-set-from-levels Inv-loop μ-loop
+array-set-from-levels c = search needs
+
+add-l : tie.Need-add-l Inv-loop μ-loop
+add-l c = search needs
+
+loop-less : tie.Need-loop-less Inv-loop μ-loop
+loop-less c = search needs
+
+loop-again : tie.Need-loop-again Inv-loop μ-loop
+loop-again c = let l = c .before .before .before .before in
+    let s = l .before in
+    (search needs, simp length-set (l .loop .inv .1), read-turn (s .args .words .now) (l .loop .levels) (l .loop .l) (l .loop .inv .1) (c .before .before .before .loop-test .taken) ∙ l .loop .inv .2)
+
+returns : tie.Need-returns Inv-loop μ-loop
+returns c = let l = c .before in
+    let s = l .before in
+    let e : l .loop .l ≡ 32 = omega arith in
+    sym (read-end (s .args .words .now) (l .loop .levels) (l .loop .l) (l .loop .inv .1) e) ∙ l .loop .inv .2
+
+pub get-levels-spec : {M : Type 1} → statement M
+get-levels-spec =
+    tie.close
+    (tie.spec
+    Inv-loop
+    μ-loop
+    loop-holds
+    mul-at
+    add-at
+    mul-t7
+    shared-slice-read-t9
+    add-t10
+    mul-t11
+    shared-slice-read-t13
+    add-t14
+    mul-t15
+    shared-slice-read-t17
+    mul-levels
+    array-set-from-levels
+    add-l
+    loop-less
+    loop-again
+    returns)
