@@ -1,6 +1,6 @@
 # make test: proves and tests everything. make run: solves the example. make lib: the library for hosts, target/lib/libforkhemit.a.
-# make bench: compares with other solvers and with plain Rust.
-.PHONY: test run lib bench fmt
+# make bench: compares with other solvers and with plain Rust. make pictures: draws docs/pictures anew.
+.PHONY: test run lib bench pictures fmt
 
 test:
 	.ci/run
@@ -24,6 +24,10 @@ bench: target/bin/pair
 	rt staticlib interface
 	rustc -O --edition 2021 tests/bench/evaluator.rs -L native=target/staticlib -l static=interface -o target/bench-evaluator
 	target/bench-evaluator
+
+pictures:
+	cargo build --quiet --release --bin pictures --offline --locked --manifest-path tests/Cargo.toml
+	tests/target/release/pictures .
 
 fmt:
 	rt fmt

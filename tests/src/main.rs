@@ -3,7 +3,7 @@
 //! `pair` or `circuit`. The last line is `N passed, M failed`, and the status 0 where M is 0.
 
 use forkhemit_tests::report::{self, Tally};
-use forkhemit_tests::{cases, circuits, contracts, damage, public, tables};
+use forkhemit_tests::{cases, circuits, contracts, damage, pictures, public, tables};
 use std::path::Path;
 use std::process::{Command, ExitCode, Stdio};
 
@@ -42,6 +42,7 @@ fn all(arguments: &[String]) -> std::io::Result<Tally> {
     let usage = || std::io::Error::new(std::io::ErrorKind::InvalidInput, "use: check CRATES [PROGRAM..]");
     let (crates, programs) = arguments.split_first().ok_or_else(usage)?;
     let mut total = contracts::run(Path::new(crates))?;
+    total.add(pictures::run(&Path::new(env!("CARGO_MANIFEST_DIR")).join(".."))?);
     for program in programs {
         total.add(program_tests(Path::new(program))?);
     }
