@@ -21,6 +21,7 @@ lib:
 bench: target/bin/pair
 	cargo build --quiet --release --bins --examples --offline --locked --manifest-path tests/Cargo.toml
 	tests/target/release/bench target/bin/pair
+	tests/target/release/bench-tables target/bin/pair
 	rt staticlib interface
 	rustc -O --edition 2021 tests/bench/evaluator.rs -L native=target/staticlib -l static=interface -o target/bench-evaluator
 	target/bench-evaluator
