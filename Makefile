@@ -1,6 +1,7 @@
 # make test: proves and tests everything. make run: solves the example. make lib: the library for hosts, target/lib/libforkhemit.a.
-# make bench: compares with other solvers and with plain Rust. make pictures: draws docs/pictures anew.
-.PHONY: test run lib bench pictures fmt
+# make bench: compares with other solvers and with plain Rust. make checktime: how long each crate's check takes, from nothing.
+# make pictures: draws docs/pictures anew.
+.PHONY: test run lib bench checktime pictures fmt
 
 test:
 	.ci/run
@@ -25,6 +26,9 @@ bench: target/bin/pair
 	rt staticlib interface
 	rustc -O --edition 2021 tests/bench/evaluator.rs -L native=target/staticlib -l static=interface -o target/bench-evaluator
 	target/bench-evaluator
+
+checktime:
+	tests/checktime.sh
 
 pictures:
 	cargo build --quiet --release --bin pictures --offline --locked --manifest-path tests/Cargo.toml
