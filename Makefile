@@ -14,12 +14,14 @@ run: target/bin/pair
 	cd examples/harbour && ../../target/bin/pair <budget
 
 # declared in include/forkhemit.h
-lib:
+lib: target/lib/libforkhemit.a
+
+target/lib/libforkhemit.a: crates.txt $(shell find crates -name '*.rt' -o -name '*.antt')
 	rt staticlib interface
 	mkdir -p target/lib
-	cp target/staticlib/libinterface.a target/lib/libforkhemit.a
+	cp target/staticlib/libinterface.a $@
 
-bench: target/bin/pair
+bench: target/bin/pair target/lib/libforkhemit.a
 	cargo build --quiet --release --bins --examples --offline --locked --manifest-path tests/Cargo.toml
 	tests/target/release/bench target/bin/pair
 	tests/target/release/bench-tables target/bin/pair

@@ -92,7 +92,7 @@ fn unlike_step(rows: &[Row], before: &Run, after: &Run, outputs: &[bool]) -> Opt
 }
 
 /// Holds the circuit to the model on each of these tables with a state; counts the rules that applied.
-fn steps(circuit: &Circuit, cases: &[(Vec<Row>, Run)], ledger: &Ledger) -> Option<String> {
+pub fn steps(circuit: &Circuit, cases: &[(Vec<Row>, Run)], ledger: &Ledger) -> Option<String> {
     let input = |(rows, run): &(Vec<Row>, Run)| [wires::rows(run.values.len(), rows), wires::state(run)].concat();
     let inputs: Vec<Vec<bool>> = cases.iter().map(input).collect();
     let mut rules = BTreeMap::<&str, usize>::new();

@@ -7,6 +7,7 @@ pub mod circuits;
 pub mod contracts;
 pub mod damage;
 pub mod layout;
+pub mod memory;
 pub mod model;
 pub mod pictures;
 pub mod process;

@@ -1,0 +1,226 @@
+//! Calls of the library as data: the function, its numbers and the memory that it is lent; and how one is made.
+
+use std::fmt;
+
+#[rustfmt::skip]
+mod library {
+    #[link(name = "forkhemit", kind = "static")]
+    extern "C" {
+        pub fn forkhemit_sizes(n: u64, left_rows: u64, right_rows: u64, sizes: *mut u64, length: usize) -> u8;
+        pub fn forkhemit_read_pair(left_text: *const u8, left_text_length: usize, right_text: *const u8, right_text_length: usize,
+            left: *mut u32, left_length: usize, right: *mut u32, right_length: usize, sizes: *mut u64, length: usize) -> u8;
+        pub fn forkhemit_accept(n: u64, left_rows: u64, right_rows: u64, left: *const u32, left_length: usize,
+            right: *const u32, right_length: usize) -> u8;
+        pub fn forkhemit_fresh(n: u64, run: *mut u32, length: usize) -> u8;
+        pub fn forkhemit_step(n: u64, left_rows: u64, right_rows: u64, left: *const u32, left_length: usize,
+            right: *const u32, right_length: usize, run: *mut u32, length: usize) -> u8;
+        pub fn forkhemit_solve(n: u64, left_rows: u64, right_rows: u64, left: *const u32, left_length: usize,
+            right: *const u32, right_length: usize, budget: u64, answer: *mut u64, length: usize) -> u8;
+        pub fn forkhemit_model(run: *const u32, run_length: usize, model: *mut u64, length: usize) -> u8;
+        pub fn forkhemit_generate(n: u64, left_rows: u64, right_rows: u64, gates: *mut u32, gates_length: usize,
+            count: *mut u64, length: usize) -> u8;
+        pub fn forkhemit_pack(n: u64, left_rows: u64, right_rows: u64, left: *const u32, left_length: usize,
+            right: *const u32, right_length: usize, run: *const u32, run_length: usize, bytes: *mut u8, length: usize) -> u8;
+        pub fn forkhemit_evaluate(gates: *const u32, gates_length: usize, inputs: *const u8, inputs_length: usize,
+            wires: *mut u8, length: usize) -> u8;
+        pub fn forkhemit_read_back(n: u64, bytes: *const u8, bytes_length: usize, run: *mut u32, length: usize) -> u8;
+        pub fn forkhemit_apply(n: u64, left_rows: u64, right_rows: u64, left: *const u32, left_length: usize,
+            right: *const u32, right_length: usize, gates: *const u32, gates_length: usize, run: *mut u32, run_length: usize,
+            bytes: *mut u8, bytes_length: usize, wires: *mut u8, wires_length: usize, mark: *mut u64, length: usize) -> u8;
+        pub fn forkhemit_write_line(n: u64, left_rows: u64, right_rows: u64, gates: *const u32, gates_length: usize, line: u64,
+            bytes: *mut u8, bytes_length: usize, written: *mut u64, length: usize) -> u8;
+        pub fn forkhemit_write_lines(n: u64, left_rows: u64, right_rows: u64, gates: *const u32, gates_length: usize, line: u64,
+            bytes: *mut u8, bytes_length: usize, written: *mut u64, length: usize) -> u8;
+        pub fn forkhemit_answer(n: u64, count: u64, verdict: u64, model: u64, bytes: *mut u8, bytes_length: usize,
+            written: *mut u64, length: usize) -> u8;
+    }
+}
+
+#[derive(Clone, Copy, Debug, PartialEq)]
+pub enum Function {
+    Sizes,
+    ReadPair,
+    Accept,
+    Fresh,
+    Step,
+    Solve,
+    Model,
+    Generate,
+    Pack,
+    Evaluate,
+    ReadBack,
+    Apply,
+    WriteLine,
+    WriteLines,
+    Answer,
+}
+
+pub const ALL: [Function; 15] = [
+    Function::Sizes,
+    Function::ReadPair,
+    Function::Accept,
+    Function::Fresh,
+    Function::Step,
+    Function::Solve,
+    Function::Model,
+    Function::Generate,
+    Function::Pack,
+    Function::Evaluate,
+    Function::ReadBack,
+    Function::Apply,
+    Function::WriteLine,
+    Function::WriteLines,
+    Function::Answer,
+];
+
+/// A lent buffer.
+#[derive(Clone, PartialEq)]
+pub enum Lent {
+    Bytes(Vec<u8>),
+    Words(Vec<u32>),
+    Numbers(Vec<u64>),
+}
+
+impl fmt::Debug for Lent {
+    fn fmt(&self, f: &mut fmt::Formatter) -> fmt::Result {
+        match self {
+            Lent::Bytes(bytes) if bytes.iter().all(|&byte| byte < 2) => write!(f, "{} bytes {bytes:?}", bytes.len()),
+            Lent::Bytes(bytes) => write!(f, "{} bytes b\"{}\"", bytes.len(), bytes.escape_ascii()),
+            Lent::Words(words) => write!(f, "{} words {words:?}", words.len()),
+            Lent::Numbers(numbers) => write!(f, "{} numbers {numbers:?}", numbers.len()),
+        }
+    }
+}
+
+impl Lent {
+    pub fn bytes(&self) -> &[u8] {
+        match self {
+            Lent::Bytes(bytes) => bytes,
+            _ => panic!("the buffer holds no bytes"),
+        }
+    }
+
+    pub fn words(&self) -> &[u32] {
+        match self {
+            Lent::Words(words) => words,
+            _ => panic!("the buffer holds no words"),
+        }
+    }
+}
+
+/// A call: its numbers and its buffers, each in the order of the header.
+#[derive(Clone, Debug)]
+pub struct Call {
+    pub function: Function,
+    pub numbers: Vec<u64>,
+    pub lent: Vec<Lent>,
+}
+
+/// What a call gave: 0 or the refusal's number, and every lent buffer afterwards.
+#[derive(Debug, PartialEq)]
+pub struct Given {
+    pub number: u8,
+    pub lent: Vec<Lent>,
+}
+
+/// A buffer on the heap, in an allocation of its own: exactly as long, so that a memory checker sees the first byte read or
+/// written beside it; or between guards, which are compared afterwards.
+struct Held<T> {
+    memory: Box<[T]>,
+    guard: usize,
+}
+
+impl<T: Copy + PartialEq> Held<T> {
+    fn new(data: &[T], guard: usize, sign: T) -> Held<T> {
+        let guards = vec![sign; guard];
+        Held { memory: [&guards, data, &guards].concat().into_boxed_slice(), guard }
+    }
+
+    fn pointer(&mut self) -> *mut T {
+        self.memory[self.guard..].as_mut_ptr()
+    }
+
+    fn back(self, sign: T) -> Result<Vec<T>, String> {
+        let end = self.memory.len() - self.guard;
+        let guards = self.memory[..self.guard].iter().chain(&self.memory[end..]);
+        match guards.into_iter().all(|&guard| guard == sign) {
+            true => Ok(self.memory[self.guard..end].to_vec()),
+            false => Err("the bytes beside a buffer are changed".into()),
+        }
+    }
+}
+
+const SIGN: u8 = 0xa5;
+
+enum Room {
+    Bytes(Held<u8>),
+    Words(Held<u32>),
+    Numbers(Held<u64>),
+}
+
+impl Room {
+    fn new(lent: &Lent, guard: usize) -> Room {
+        match lent {
+            Lent::Bytes(bytes) => Room::Bytes(Held::new(bytes, guard, SIGN)),
+            Lent::Words(words) => Room::Words(Held::new(words, guard, u32::from(SIGN))),
+            Lent::Numbers(numbers) => Room::Numbers(Held::new(numbers, guard, u64::from(SIGN))),
+        }
+    }
+
+    fn back(self) -> Result<Lent, String> {
+        Ok(match self {
+            Room::Bytes(held) => Lent::Bytes(held.back(SIGN)?),
+            Room::Words(held) => Lent::Words(held.back(u32::from(SIGN))?),
+            Room::Numbers(held) => Lent::Numbers(held.back(u64::from(SIGN))?),
+        })
+    }
+}
+
+impl Call {
+    /// Makes the call, each buffer between guards of so many elements or, with 0, in an allocation of its length.
+    pub fn make(&self, guard: usize) -> Result<Given, String> {
+        let mut rooms: Vec<Room> = self.lent.iter().map(|lent| Room::new(lent, guard)).collect();
+        let number = self.pass(&mut rooms);
+        Ok(Given { number, lent: rooms.into_iter().map(Room::back).collect::<Result<_, _>>()? })
+    }
+
+    #[rustfmt::skip]
+    fn pass(&self, rooms: &mut [Room]) -> u8 {
+        use library::*;
+        let x = |k: usize| self.numbers[k];
+        let l = |k: usize| match &self.lent[k] {
+            Lent::Bytes(bytes) => bytes.len(),
+            Lent::Words(words) => words.len(),
+            Lent::Numbers(numbers) => numbers.len(),
+        };
+        let pointers: Vec<*mut u8> = rooms.iter_mut().map(|room| match room {
+            Room::Bytes(held) => held.pointer(),
+            Room::Words(held) => held.pointer().cast(),
+            Room::Numbers(held) => held.pointer().cast(),
+        }).collect();
+        let b = |k: usize| pointers[k];
+        let w = |k: usize| pointers[k].cast::<u32>();
+        let n = |k: usize| pointers[k].cast::<u64>();
+        // Each pointer is that of a buffer of this kind and length, which lives until the call is over.
+        unsafe {
+            match self.function {
+                Function::Sizes => forkhemit_sizes(x(0), x(1), x(2), n(0), l(0)),
+                Function::ReadPair => forkhemit_read_pair(b(0), l(0), b(1), l(1), w(2), l(2), w(3), l(3), n(4), l(4)),
+                Function::Accept => forkhemit_accept(x(0), x(1), x(2), w(0), l(0), w(1), l(1)),
+                Function::Fresh => forkhemit_fresh(x(0), w(0), l(0)),
+                Function::Step => forkhemit_step(x(0), x(1), x(2), w(0), l(0), w(1), l(1), w(2), l(2)),
+                Function::Solve => forkhemit_solve(x(0), x(1), x(2), w(0), l(0), w(1), l(1), x(3), n(2), l(2)),
+                Function::Model => forkhemit_model(w(0), l(0), n(1), l(1)),
+                Function::Generate => forkhemit_generate(x(0), x(1), x(2), w(0), l(0), n(1), l(1)),
+                Function::Pack => forkhemit_pack(x(0), x(1), x(2), w(0), l(0), w(1), l(1), w(2), l(2), b(3), l(3)),
+                Function::Evaluate => forkhemit_evaluate(w(0), l(0), b(1), l(1), b(2), l(2)),
+                Function::ReadBack => forkhemit_read_back(x(0), b(0), l(0), w(1), l(1)),
+                Function::Apply => forkhemit_apply(x(0), x(1), x(2), w(0), l(0), w(1), l(1), w(2), l(2), w(3), l(3),
+                    b(4), l(4), b(5), l(5), n(6), l(6)),
+                Function::WriteLine => forkhemit_write_line(x(0), x(1), x(2), w(0), l(0), x(3), b(1), l(1), n(2), l(2)),
+                Function::WriteLines => forkhemit_write_lines(x(0), x(1), x(2), w(0), l(0), x(3), b(1), l(1), n(2), l(2)),
+                Function::Answer => forkhemit_answer(x(0), x(1), x(2), x(3), b(0), l(0), n(1), l(1)),
+            }
+        }
+    }
+}

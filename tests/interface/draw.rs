@@ -1,0 +1,396 @@
+//! Random calls: right ones of every function, and strokes of damage.
+
+use crate::calls::{Call, Function, Lent};
+use crate::circuits::Circuits;
+use forkhemit_tests::memory::{self, Size, RUN_WORDS};
+use forkhemit_tests::model::{self, Row, TEXT_LIMIT};
+use forkhemit_tests::random::Random;
+use forkhemit_tests::{damage, layout, states, tables, wires};
+
+/// Numbers at the limits, and numbers that look like others when they are cut to fewer bits.
+const ODD: [u64; 18] = [
+    0,
+    1,
+    2,
+    32,
+    33,
+    64,
+    128,
+    129,
+    255,
+    256,
+    257,
+    258,
+    65_537,
+    (1 << 32) - 1,
+    (1 << 32) + 1,
+    (1 << 32) + 2,
+    u64::MAX - 1,
+    u64::MAX,
+];
+
+/// One of a list, which may be drawn itself.
+fn one<T: Copy>(list: &[T], random: &mut Random) -> T {
+    *random.pick(list)
+}
+
+// ---- Buffers
+
+fn some_bytes(count: usize, random: &mut Random) -> Vec<u8> {
+    (0..count).map(|_| random.number() as u8).collect()
+}
+
+fn some_words(count: usize, random: &mut Random) -> Vec<u32> {
+    (0..count).map(|_| random.number() as u32).collect()
+}
+
+/// As long as is asked for, or a little longer.
+fn slack(count: usize, random: &mut Random) -> usize {
+    count + one(&[0, 0, 0, 1, 2, 7], random)
+}
+
+fn bytes_for(count: usize, random: &mut Random) -> Lent {
+    let count = slack(count, random);
+    Lent::Bytes(some_bytes(count, random))
+}
+
+fn words_for(count: usize, random: &mut Random) -> Lent {
+    let count = slack(count, random);
+    Lent::Words(some_words(count, random))
+}
+
+/// Words with something behind them that is not to be looked at.
+fn words_with_more(mut words: Vec<u32>, random: &mut Random) -> Lent {
+    let more = slack(0, random);
+    words.extend(some_words(more, random));
+    Lent::Words(words)
+}
+
+/// Room for so many numbers, for fewer or for more.
+fn numbers_for(count: usize, random: &mut Random) -> Lent {
+    let fewer = random.below(3).min(count);
+    let count = random.between(count - fewer, count + 1);
+    Lent::Numbers((0..count).map(|_| random.number()).collect())
+}
+
+// ---- Sizes, tables and runs
+
+/// Mostly small, and some of any size.
+fn some_size(random: &mut Random, small: bool) -> Size {
+    let (n, rows) = match random.below(if small { 20 } else { 24 }) {
+        0..=13 => (3, 3),
+        14..=18 => (6, 5),
+        19 => (9, 8),
+        20 | 21 => (20, 40),
+        _ => (32, 128),
+    };
+    (random.between(1, n), random.between(1, rows), random.between(1, rows))
+}
+
+/// At the limits or near them.
+fn large_size(random: &mut Random) -> Size {
+    if random.once_in(2) {
+        return (32, 128, 128);
+    }
+    (random.between(20, 32), random.between(60, 128), random.between(60, 128))
+}
+
+fn numbers((n, left, right): Size) -> Vec<u64> {
+    vec![n as u64, left as u64, right as u64]
+}
+
+/// Both tables in memory.
+fn lent_tables((_, left, _): Size, rows: &[Row], random: &mut Random) -> Vec<Lent> {
+    let words = [&rows[..left], &rows[left..]].map(memory::row_words);
+    words.map(|words| words_with_more(words, random)).to_vec()
+}
+
+/// Tables and a run of their n, whose rows stand in every relation to it; one run in twenty is of some other n.
+fn tables_and_run(size: Size, random: &mut Random) -> (Vec<Lent>, Vec<u32>) {
+    let mut run = states::random(size.0, random);
+    let rows = states::table(size.1 + size.2, &run.values, random);
+    if random.once_in(20) {
+        let n = random.between(1, 32);
+        run = states::random(n, random);
+    }
+    (lent_tables(size, &rows, random), memory::run_words(&run))
+}
+
+// ---- Right calls
+
+fn texts(random: &mut Random) -> Vec<Lent> {
+    let most = one(&[3, 6, 32], random);
+    let mut n = random.between(1, most);
+    let mut texts = vec![];
+    let mut counts = vec![];
+    for _ in 0..2 {
+        if random.once_in(20) {
+            n = random.between(1, 32);
+        }
+        let most = one(&[3, 6, 128], random);
+        let count = random.between(1, most);
+        let widest = n.min(5);
+        let rows: Vec<Row> = (0..count)
+            .map(|_| {
+                let width = random.between(0, widest);
+                match random.once_in(4) {
+                    true => tables::strict(n, width, random).into_iter().flat_map(|l| [l, l, -l]).collect(),
+                    false => tables::strict(n, width, random),
+                }
+            })
+            .collect();
+        texts.push(if random.once_in(2) { layout::spaced(n, &rows, random) } else { layout::plain(n, &rows) });
+        counts.push(count);
+    }
+    if random.once_in(300) {
+        let length = random.between(TEXT_LIMIT - 1, TEXT_LIMIT + 1);
+        let k = random.below(2);
+        texts[k].resize(length, b'\n');
+    }
+    for text in &mut texts {
+        for _ in 0..one(&[0, 0, 0, 0, 1, 2], random) {
+            damage::strike(text, random);
+        }
+    }
+    let mut lent: Vec<Lent> = texts.into_iter().map(Lent::Bytes).collect();
+    lent.extend(counts.into_iter().map(|count| words_for(2 * count, random)));
+    lent.push(numbers_for(3, random));
+    lent
+}
+
+/// Rows to be solved, and a budget in which the model comes to an end.
+fn to_solve(size: Size, random: &mut Random) -> (Vec<Row>, u64) {
+    let (n, left, right) = size;
+    let widest = random.between(1, n.min(4));
+    let row = |_| {
+        let least = usize::from(!random.once_in(20));
+        let width = random.between(least, widest);
+        tables::strict(n, width, random)
+    };
+    let rows: Vec<Row> = (0..left + right).map(row).collect();
+    let most = if n <= 9 { u64::MAX } else { 200 };
+    let steps = model::run(n, &rows, most).steps;
+    (rows, one(&[steps, steps, steps - 1, steps / 2, 0, most], random))
+}
+
+/// Any gates behind so many inputs.
+fn some_gates(inputs: usize, count: usize, random: &mut Random) -> Vec<u32> {
+    let gate = |g: usize| {
+        let kind = if inputs + g == 0 { 3 } else { random.below(3) as u32 };
+        let mut wire = || random.below((inputs + g).max(1)) as u32;
+        let (first, second) = (wire(), wire());
+        [kind, first, if kind == 2 { 0 } else { second }]
+    };
+    (0..count).flat_map(gate).collect()
+}
+
+/// The library's own gates of a size, or other gates: some with one kind changed, some at random, some none.
+fn gates_of(size: Size, circuits: &Circuits, random: &mut Random) -> Result<Vec<u32>, String> {
+    let inputs = memory::input_wires(size);
+    Ok(match random.below(12) {
+        0 => vec![],
+        1 => {
+            let count = random.below(40);
+            some_gates(inputs, count, random)
+        }
+        2 => {
+            let mut words = circuits.words(size)?;
+            let gate = 3 * random.below(words.len() / 3);
+            words[gate] = if words[gate + 2] == 0 { random.below(3) as u32 } else { random.below(2) as u32 };
+            words
+        }
+        _ => circuits.words(size)?,
+    })
+}
+
+fn evaluation(circuits: &Circuits, random: &mut Random) -> Result<Vec<Lent>, String> {
+    let (gates, inputs) = if random.once_in(4) {
+        let size = some_size(random, true);
+        let (tables, run) = tables_and_run(size, random);
+        let tables = [tables[0].words(), tables[1].words()];
+        let packed = memory::packed(size, tables, &run, usize::MAX);
+        let packed = packed.unwrap_or_else(|_| vec![1; memory::input_wires(size)]);
+        (gates_of(size, circuits, random)?, packed)
+    } else {
+        let (inputs, count) = (random.below(30), random.below(60));
+        let inputs: Vec<u8> = (0..inputs).map(|_| random.below(2) as u8).collect();
+        (some_gates(inputs.len(), count, random), inputs)
+    };
+    let wires = inputs.len() + gates.len() / 3;
+    Ok(vec![Lent::Words(gates), Lent::Bytes(inputs), bytes_for(wires, random)])
+}
+
+/// The bytes of a state, and something behind them.
+fn state_bytes(n: usize, random: &mut Random) -> Lent {
+    let mut bytes: Vec<u8> = wires::state(&states::random(n, random)).into_iter().map(u8::from).collect();
+    let more = slack(0, random);
+    bytes.extend(some_bytes(more, random));
+    Lent::Bytes(bytes)
+}
+
+fn application(size: Size, circuits: &Circuits, random: &mut Random) -> Result<Vec<Lent>, String> {
+    let (mut lent, run) = tables_and_run(size, random);
+    let gates = gates_of(size, circuits, random)?;
+    let inputs = memory::input_wires(size);
+    let wires = inputs + gates.len() / 3;
+    lent.extend([Lent::Words(gates), words_with_more(run, random)]);
+    lent.extend([bytes_for(inputs, random), bytes_for(wires, random), numbers_for(1, random)]);
+    Ok(lent)
+}
+
+/// Gates, a line's number, and room for a line or for several.
+fn line_call(function: Function, circuits: &Circuits, random: &mut Random) -> Result<Call, String> {
+    let size = some_size(random, true);
+    let gates = gates_of(size, circuits, random)?;
+    let lines = 4 + gates.len() / 3;
+    let line = one(&[0, 1, 2, 3, 4, random.below(lines), lines - 1, lines, lines + 1], random);
+    let known = memory::gates(&gates, memory::input_wires(size)).unwrap_or_default();
+    let next: usize = memory::lines(size, &known).iter().skip(line).take(random.between(1, 4)).map(String::len).sum();
+    let room = one(&[next, next, next.saturating_sub(1), next + 1, 64, random.below(2_000)], random);
+    let mut numbers = numbers(size);
+    numbers.push(line as u64);
+    let lent = vec![Lent::Words(gates), Lent::Bytes(some_bytes(room, random)), numbers_for(2, random)];
+    Ok(Call { function, numbers, lent })
+}
+
+fn answer(random: &mut Random) -> Call {
+    let n = one(&[random.between(1, 32) as u64, random.between(1, 32) as u64, one(&ODD, random)], random);
+    let count = one(&[random.below(100) as u64, random.number(), one(&ODD, random), random.number() >> 40], random);
+    let verdict = one(&[0, 1, 1, 1, 2, one(&ODD, random)], random);
+    let model = one(&[random.number() & 0xffff_ffff, random.number(), one(&ODD, random)], random);
+    let length = memory::answer(n, count, verdict, model).len();
+    let room = one(&[length, length, length + 1, length - 1, 256, 0], random);
+    let lent = vec![Lent::Bytes(some_bytes(room, random)), numbers_for(1, random)];
+    Call { function: Function::Answer, numbers: vec![n, count, verdict, model], lent }
+}
+
+/// A call that is right, but for what texts, line numbers and answers bring along.
+fn right(function: Function, circuits: &Circuits, random: &mut Random) -> Result<Call, String> {
+    let size = match function {
+        Function::Generate | Function::Apply if random.once_in(500) => large_size(random),
+        Function::Generate | Function::Apply => some_size(random, true),
+        _ => some_size(random, false),
+    };
+    let call = |numbers: Vec<u64>, lent: Vec<Lent>| Ok(Call { function, numbers, lent });
+    match function {
+        Function::Sizes => call(numbers(size), vec![numbers_for(4, random)]),
+        Function::ReadPair => call(vec![], texts(random)),
+        Function::Accept => {
+            let (tables, _) = tables_and_run(size, random);
+            call(numbers(size), tables)
+        }
+        Function::Fresh => call(vec![size.0 as u64], vec![words_for(RUN_WORDS, random)]),
+        Function::Step => {
+            let (mut lent, run) = tables_and_run(size, random);
+            lent.push(words_with_more(run, random));
+            call(numbers(size), lent)
+        }
+        Function::Solve => {
+            let (rows, budget) = to_solve(size, random);
+            let mut lent = lent_tables(size, &rows, random);
+            lent.push(numbers_for(3, random));
+            call([numbers(size), vec![budget]].concat(), lent)
+        }
+        Function::Model => {
+            let run = memory::run_words(&states::random(size.0, random));
+            call(vec![], vec![words_with_more(run, random), numbers_for(1, random)])
+        }
+        Function::Generate => {
+            let ceiling = model::ceiling(size.0, size.1 + size.2);
+            call(numbers(size), vec![words_for(3 * ceiling, random), numbers_for(1, random)])
+        }
+        Function::Pack => {
+            let (mut lent, run) = tables_and_run(size, random);
+            lent.extend([words_with_more(run, random), bytes_for(memory::input_wires(size), random)]);
+            call(numbers(size), lent)
+        }
+        Function::Evaluate => call(vec![], evaluation(circuits, random)?),
+        Function::ReadBack => {
+            call(vec![size.0 as u64], vec![state_bytes(size.0, random), words_for(RUN_WORDS, random)])
+        }
+        Function::Apply => call(numbers(size), application(size, circuits, random)?),
+        Function::WriteLine | Function::WriteLines => line_call(function, circuits, random),
+        Function::Answer => Ok(answer(random)),
+    }
+}
+
+// ---- Damage
+
+fn resize<T: Copy>(buffer: &mut Vec<T>, with: T, random: &mut Random) {
+    let length = buffer.len();
+    let length = one(&[length.saturating_sub(1), length.saturating_sub(1), length + 1, length / 2, 0], random);
+    buffer.resize(length, with);
+}
+
+/// A word of a run changed with a view to what it means.
+fn strike_run(words: &mut [u32], random: &mut Random) {
+    let depth = (words[4] as usize).min(32);
+    let level = 5 + 3 * random.below(depth + 1).min(31);
+    let last = 5 + 3 * depth.saturating_sub(1);
+    match random.below(12) {
+        0 => words[1] = one(&[0, 1, 2, 3, 256, 1 << 31], random),
+        1 => words[4] = one(&[words[4].wrapping_add(1), words[4].wrapping_sub(1), 33, 257, u32::MAX], random),
+        2 => words[3] |= words[2],
+        3 => words[2] |= 1 << random.below(32),
+        4 => words[3] |= 1 << random.below(32),
+        5 => {
+            words[0] =
+                one(&[0, 33, words[0].wrapping_add(256), words[0].wrapping_add(1), words[0].wrapping_sub(1)], random)
+        }
+        6 => words[level] ^= 1 << random.below(32),
+        7 => words[level + 1] ^= 1 << random.below(32),
+        8 => words[level + 2] = one(&[random.below(33) as u32, 256, u32::MAX], random),
+        9 => words[last] |= words[last + 1],
+        10 => words[100] = 1,
+        _ => words[2] &= !(1 << (words[last + 2] & 31)),
+    }
+}
+
+/// One element changed.
+fn strike_element(lent: &mut Lent, random: &mut Random) {
+    match lent {
+        Lent::Bytes(bytes) if !bytes.is_empty() => {
+            let at = random.below(bytes.len());
+            bytes[at] = one(&[0, 1, 1 - (bytes[at] & 1), 2, 255, bytes[at] ^ 1 << random.below(8)], random);
+        }
+        Lent::Words(words) if words.len() >= RUN_WORDS && words.len() < RUN_WORDS + 8 && !random.once_in(4) => {
+            strike_run(words, random)
+        }
+        Lent::Words(words) if !words.is_empty() => {
+            let at = random.below(words.len());
+            let near = [words[at] ^ 1 << random.below(32), words[at].wrapping_add(1), words[at].wrapping_sub(1)];
+            words[at] = one(&[near[0], near[0], near[1], near[2], 0, 3, 1 << 31, u32::MAX], random);
+        }
+        _ => (),
+    }
+}
+
+/// One stroke: a number, a length or an element is changed.
+fn strike(call: &mut Call, random: &mut Random) {
+    let what = random.below(8);
+    if what < 2 && !call.numbers.is_empty() {
+        let k = random.below(call.numbers.len());
+        let number = call.numbers[k];
+        // a budget stays one in which the model comes to an end
+        if call.function != Function::Solve || k < 3 {
+            call.numbers[k] = one(&[number.wrapping_sub(1), number.wrapping_add(1), one(&ODD, random)], random);
+        }
+        return;
+    }
+    let k = random.below(call.lent.len());
+    match (&mut call.lent[k], what) {
+        (Lent::Bytes(bytes), 0..=4) => resize(bytes, 1, random),
+        (Lent::Words(words), 0..=4) => resize(words, 1, random),
+        (Lent::Numbers(numbers), _) => resize(numbers, 1, random),
+        (lent, _) => strike_element(lent, random),
+    }
+}
+
+/// The call of a number: in order of the functions, every other with one to three strokes of damage.
+pub fn call(function: Function, circuits: &Circuits, random: &mut Random) -> Result<Call, String> {
+    let mut call = right(function, circuits, random)?;
+    for _ in 0..one(&[0, 0, 0, 1, 1, 2], random) {
+        strike(&mut call, random);
+    }
+    Ok(call)
+}

@@ -1,0 +1,110 @@
+//! Tests of the library as hosts call it. Use: interface CALLS [exact]
+//! Every refusal as it was written by hand, then as many random calls over all functions: each result and every lent buffer
+//! is held to the model. With `exact` each buffer has an allocation of its own of exactly its length, for a memory checker;
+//! else it stands between guards. The last line is `N passed, M failed`, and the status 0 where M is 0.
+
+mod calls;
+mod circuits;
+mod draw;
+mod expected;
+mod refusals;
+
+use calls::{Call, Given, ALL};
+use circuits::Circuits;
+use forkhemit_tests::random::Random;
+use forkhemit_tests::report::{Ledger, Tally};
+use std::process::ExitCode;
+
+const SEED: u64 = 1_115_000_000;
+const GUARD: usize = 16;
+const SHOWN: usize = 6_000;
+
+/// The model's answer, and where the library's is another.
+fn judge(call: &Call, circuits: &Circuits, guard: usize) -> Result<Given, String> {
+    let expected = expected::expected(call, circuits)?;
+    let given = call.make(guard)?;
+    if given.number != expected.number {
+        return Err(format!("the library gives {}, the model {}", given.number, expected.number));
+    }
+    match (0..given.lent.len()).find(|&k| given.lent[k] != expected.lent[k]) {
+        None => Ok(given),
+        Some(k) => Err(cut(format!(
+            "with {}, buffer {k} holds\n  {:?}\nand not\n  {:?}",
+            given.number, given.lent[k], expected.lent[k]
+        ))),
+    }
+}
+
+fn cut(text: String) -> String {
+    text.chars().take(SHOWN).collect()
+}
+
+/// The written refusals: the number is the one written, and a refusal leaves every buffer as it was.
+fn refused(circuits: &Circuits, guard: usize) -> Tally {
+    let ledger = Ledger::default();
+    match refusals::cases(&ALL, circuits) {
+        Err(fault) => ledger.test(Some(fault)),
+        Ok(cases) => {
+            for case in &cases {
+                let failure = match judge(&case.call, circuits, guard) {
+                    Err(failure) => Some(failure),
+                    Ok(given) if given.number != case.number => {
+                        Some(format!("{} and not {}", given.number, case.number))
+                    }
+                    Ok(given) if given.number != 0 && given.lent != case.call.lent => {
+                        Some("a buffer is changed".into())
+                    }
+                    Ok(_) => None,
+                };
+                ledger.kind(&format!("refused {}", case.number), 1);
+                ledger.test(failure.map(|failure| format!("{}: {failure}\n  {}", case.what, shown(&case.call))));
+            }
+            let missing = (0..=14).find(|&number| number != 8 && !cases.iter().any(|case| case.number == number));
+            ledger.test(missing.map(|number| format!("no case is refused with {number}")));
+        }
+    }
+    ledger.close("every refusal of the library, written by hand")
+}
+
+fn shown(call: &Call) -> String {
+    cut(format!("{:?} {:?} {:?}", call.function, call.numbers, call.lent))
+}
+
+/// Random calls, the functions in turn.
+fn drawn(count: usize, circuits: &Circuits, guard: usize) -> Tally {
+    let ledger = Ledger::default();
+    for number in 0..count {
+        let (seed, function) = (SEED + number as u64, ALL[number % ALL.len()]);
+        let random = &mut Random::new(seed);
+        match draw::call(function, circuits, random) {
+            Err(fault) => ledger.test(Some(fault)),
+            Ok(call) => {
+                let judged = judge(&call, circuits, guard);
+                if let Ok(given) = &judged {
+                    ledger
+                        .kind(&if given.number == 0 { "taken".into() } else { format!("refused {}", given.number) }, 1);
+                }
+                let failure = judged.err();
+                ledger.test(failure.map(|failure| format!("call of seed {seed}: {failure}\n  {}", shown(&call))));
+            }
+        }
+    }
+    let way = if guard == 0 { "buffers of exact length" } else { "guarded buffers" };
+    ledger.close(&format!("{count} random calls over {} functions, seeds from {SEED}, {way}", ALL.len()))
+}
+
+fn main() -> ExitCode {
+    let arguments: Vec<String> = std::env::args().skip(1).collect();
+    let count: usize = arguments.first().and_then(|count| count.parse().ok()).expect("use: interface CALLS [exact]");
+    let guard = if arguments.get(1).map_or(false, |way| way == "exact") { 0 } else { GUARD };
+    let circuits = Circuits::new();
+    let mut total = refused(&circuits, guard);
+    total.add(drawn(count, &circuits, guard));
+    total.add(circuits.close());
+    println!("{} passed, {} failed", total.passed, total.failed);
+    if total.failed == 0 {
+        ExitCode::SUCCESS
+    } else {
+        ExitCode::FAILURE
+    }
+}

@@ -1,0 +1,212 @@
+//! Tables, runs and gates as words and bytes in memory, and what each function of the library gives and leaves there, as
+//! document 01 and the header for hosts describe them. A run in words is 101 of them: n, standing, T, F, depth, and 32
+//! levels of T, F and the chosen variable from 0.
+
+use crate::bristol::Gate;
+use crate::model::{self, Row, Run, Standing, Value};
+use crate::wires;
+
+pub const RUN_WORDS: usize = 101;
+const LEVELS: usize = 32;
+
+/// n and the two row counts.
+pub type Size = (usize, usize, usize);
+
+/// Numbers that are within the limits: 1, then 2.
+pub fn size(n: u64, left: u64, right: u64) -> Result<Size, u8> {
+    if !(1..=32).contains(&n) {
+        return Err(1);
+    }
+    if !(1..=128).contains(&left) || !(1..=128).contains(&right) {
+        return Err(2);
+    }
+    Ok((n as usize, left as usize, right as usize))
+}
+
+/// The wires of all rows and a state.
+pub fn input_wires((n, left, right): Size) -> usize {
+    2 * n * (left + right) + wires::state_width(n)
+}
+
+// ---- Tables
+
+fn holds(word: u32, variable: usize) -> bool {
+    word >> variable & 1 == 1
+}
+
+/// A row of two words: its positive literals, then its negative ones.
+fn row(positive: u32, negative: u32) -> Row {
+    let literals = |word: u32| (0..32).filter(move |&v| holds(word, v)).map(|v| v as i64 + 1);
+    literals(positive).chain(literals(negative).map(|literal| -literal)).collect()
+}
+
+/// The words of rows, positive before negative.
+pub fn row_words(rows: &[Row]) -> Vec<u32> {
+    let word = |row: &Row, sign: i64| row.iter().filter(|&&l| l * sign > 0).fold(0, |w, l| w | 1 << (l.abs() - 1));
+    rows.iter().flat_map(|row| [word(row, 1), word(row, -1)]).collect()
+}
+
+/// The rows of two accepted tables, left before right: 4, then 3.
+pub fn accepted((n, left, right): Size, tables: [&[u32]; 2]) -> Result<Vec<Row>, u8> {
+    let front = |words: &[u32], rows: usize| words.get(..2 * rows).map(<[u32]>::to_vec);
+    let words = [front(tables[0], left).ok_or(4)?, front(tables[1], right).ok_or(4)?].concat();
+    if words.iter().any(|&word| (n..32).any(|v| holds(word, v))) {
+        return Err(3);
+    }
+    Ok(words.chunks(2).map(|pair| row(pair[0], pair[1])).collect())
+}
+
+// ---- Runs
+
+fn word(values: &[Value], to: bool) -> u32 {
+    values.iter().enumerate().filter(|(_, &value)| value == Some(to)).fold(0, |word, (v, _)| word | 1 << v)
+}
+
+pub fn run_words(run: &Run) -> Vec<u32> {
+    let standing = match run.standing {
+        Standing::Open => 0,
+        Standing::Satisfied => 1,
+        Standing::Refuted => 2,
+    };
+    let mut words = vec![run.values.len() as u32, standing, word(&run.values, true), word(&run.values, false)];
+    words.push(run.levels.len() as u32);
+    for (before, chosen) in &run.levels {
+        words.extend([word(before, true), word(before, false), *chosen as u32]);
+    }
+    words.resize(RUN_WORDS, 0);
+    words
+}
+
+/// The values of n variables, where no variable is in both words and none lies past n.
+fn values(n: usize, t: u32, f: u32) -> Option<Vec<Value>> {
+    let beyond = (n..32).any(|v| holds(t | f, v));
+    let value = |v| (holds(t, v) || holds(f, v)).then_some(holds(t, v));
+    (t & f == 0 && !beyond).then(|| (0..n).map(value).collect())
+}
+
+/// The well-formed state that the front of some words is, or 12.
+pub fn run_of(words: &[u32]) -> Result<Run, u8> {
+    let words = words.get(..RUN_WORDS).ok_or(12)?;
+    let (n, depth) = (words[0] as usize, words[4] as usize);
+    let standing = match words[1] {
+        0 => Standing::Open,
+        1 => Standing::Satisfied,
+        2 => Standing::Refuted,
+        _ => return Err(12),
+    };
+    if !(1..=LEVELS).contains(&n) || depth > n {
+        return Err(12);
+    }
+    let (used, unused) = words[5..].split_at(3 * depth);
+    let level = |level: &[u32]| {
+        let chosen = level[2] as usize;
+        values(n, level[0], level[1]).filter(|_| chosen < n).map(|before| (before, chosen))
+    };
+    let levels = used.chunks(3).map(level).collect::<Option<Vec<_>>>().ok_or(12)?;
+    let run = Run { standing, values: values(n, words[2], words[3]).ok_or(12)?, levels };
+    if unused.iter().any(|&word| word != 0) || !run.well_formed() {
+        return Err(12);
+    }
+    Ok(run)
+}
+
+/// The same, of n variables: 12, then 13.
+pub fn run_for(n: usize, words: &[u32]) -> Result<Run, u8> {
+    let run = run_of(words)?;
+    if run.values.len() != n {
+        return Err(13);
+    }
+    Ok(run)
+}
+
+// ---- Gates
+
+/// The gates behind so many inputs, or 9.
+pub fn gates(words: &[u32], inputs: usize) -> Result<Vec<Gate>, u8> {
+    if words.len() % 3 != 0 {
+        return Err(9);
+    }
+    let gate = |(g, words): (usize, &[u32])| {
+        let earlier = |wire: u32| Some(wire as usize).filter(|&wire| wire < inputs + g);
+        let (first, second) = (earlier(words[1]), earlier(words[2]));
+        match words[0] {
+            0 => Some(Gate::Xor(first?, second?)),
+            1 => Some(Gate::And(first?, second?)),
+            2 if words[2] == 0 => Some(Gate::Inv(first?)),
+            _ => None,
+        }
+    };
+    words.chunks(3).enumerate().map(gate).collect::<Option<_>>().ok_or(9)
+}
+
+/// The value of every wire: 9, then 10.
+pub fn evaluated(words: &[u32], inputs: &[u8], room: usize) -> Result<Vec<u8>, u8> {
+    let gates = gates(words, inputs.len())?;
+    if room < inputs.len() + gates.len() || inputs.iter().any(|&byte| byte > 1) {
+        return Err(10);
+    }
+    let mut wires = inputs.to_vec();
+    for gate in gates {
+        wires.push(match gate {
+            Gate::Xor(first, second) => u8::from(wires[first] != wires[second]),
+            Gate::And(first, second) => u8::from(wires[first] + wires[second] == 2),
+            Gate::Inv(operand) => 1 - wires[operand],
+        });
+    }
+    Ok(wires)
+}
+
+fn bytes(wires: Vec<bool>) -> Vec<u8> {
+    wires.into_iter().map(u8::from).collect()
+}
+
+/// Rows and run, a byte a wire, in so many lent bytes: 4, 3, then 10, 12, 13.
+pub fn packed(size: Size, tables: [&[u32]; 2], run: &[u32], room: usize) -> Result<Vec<u8>, u8> {
+    let rows = accepted(size, tables)?;
+    if room < input_wires(size) {
+        return Err(10);
+    }
+    let run = run_for(size.0, run)?;
+    Ok([bytes(wires::rows(size.0, &rows)), bytes(wires::state(&run))].concat())
+}
+
+/// The state of n variables at the front of some bytes: 10, then 12.
+pub fn read_back(n: usize, bytes: &[u8]) -> Result<Run, u8> {
+    let bytes = bytes.get(..wires::state_width(n)).ok_or(10)?;
+    let wires: Vec<bool> = bytes.iter().map(|&byte| byte == 1).collect();
+    wires::read_back(n, &wires).filter(|_| bytes.iter().all(|&byte| byte < 2)).ok_or(12)
+}
+
+// ---- Texts
+
+/// The lines of a circuit's text, each with its LF.
+pub fn lines(size: Size, gates: &[Gate]) -> Vec<String> {
+    let (n, left, right) = size;
+    let (inputs, state) = (input_wires(size), wires::state_width(n));
+    let mut lines = vec![
+        format!("{} {}\n", gates.len(), inputs + gates.len()),
+        format!("3 {} {} {state}\n", 2 * n * left, 2 * n * right),
+        format!("2 {state} 1\n"),
+        "\n".into(),
+    ];
+    for (g, gate) in gates.iter().enumerate() {
+        let wire = inputs + g;
+        lines.push(match gate {
+            Gate::Xor(first, second) => format!("2 1 {first} {second} {wire} XOR\n"),
+            Gate::And(first, second) => format!("2 1 {first} {second} {wire} AND\n"),
+            Gate::Inv(operand) => format!("1 1 {operand} {wire} INV\n"),
+        });
+    }
+    lines
+}
+
+/// The composed answer of these numbers: a verdict that is none of 0, 1 and 2 is unknown, and the model is a word.
+pub fn answer(n: u64, count: u64, verdict: u64, model: u64) -> Vec<u8> {
+    let standing = match verdict {
+        1 => Standing::Satisfied,
+        2 => Standing::Refuted,
+        _ => Standing::Open,
+    };
+    let model = (0..n.min(32)).map(|v| model >> v & 1 == 1).collect();
+    model::printed(&model::Answer { steps: count, standing, model }).into_bytes()
+}
