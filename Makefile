@@ -1,7 +1,7 @@
 # make test: proves and tests everything. make run: solves the example. make lib: the library for hosts, target/lib/libforkhemit.a.
-# make bench: compares with other solvers and with plain Rust. make checktime: how long each crate's check takes, from nothing.
-# make pictures: draws docs/pictures anew.
-.PHONY: test run lib bench checktime pictures fmt
+# make examples: builds the example hosts and runs them. make bench: compares with other solvers and with plain Rust.
+# make checktime: how long each crate's check takes, from nothing. make pictures: draws docs/pictures anew.
+.PHONY: test run lib examples bench checktime pictures fmt
 
 test:
 	.ci/run
@@ -21,6 +21,20 @@ target/lib/libforkhemit.a: crates.txt $(shell find crates -name '*.rt' -o -name 
 	mkdir -p target/lib
 	cp target/staticlib/libinterface.a $@
 
+target/examples/host-c: examples/host/host.c include/forkhemit.h target/lib/libforkhemit.a
+	mkdir -p target/examples
+	cc -std=c11 -O2 -Wall -Wextra -Wpedantic -Werror -Iinclude -o $@ $< -Ltarget/lib -lforkhemit
+
+target/examples/host-rust: examples/host/host.rs target/lib/libforkhemit.a
+	mkdir -p target/examples
+	rustc --edition 2021 -O -D warnings -o $@ $< -L native=target/lib
+
+examples: target/examples/host-c target/examples/host-rust
+	cd examples/harbour && for host in $(notdir $^); do \
+	  echo "$$host left.cnf right.cnf $$(cat budget)"; \
+	  ../../target/examples/$$host left.cnf right.cnf $$(cat budget) | tee ../../target/examples/$$host.out && cmp ../../target/examples/$$host.out answer || exit 1; \
+	done
+
 bench: target/bin/pair target/lib/libforkhemit.a
 	cargo build --quiet --release --bins --examples --offline --locked --manifest-path tests/Cargo.toml
 	tests/target/release/bench target/bin/pair
@@ -39,3 +53,4 @@ pictures:
 fmt:
 	rt fmt
 	cargo fmt --manifest-path tests/Cargo.toml
+	rustfmt --edition 2021 --config-path tests/rustfmt.toml examples/host/host.rs

@@ -6,6 +6,7 @@ pub mod cases;
 pub mod circuits;
 pub mod contracts;
 pub mod damage;
+pub mod hosts;
 pub mod layout;
 pub mod memory;
 pub mod model;

@@ -1,9 +1,10 @@
 //! The project's own tests. Use: check CRATES [PROGRAM..]
 //! CRATES is the folder of crates, whose contracts are looked at; each PROGRAM is a compiled program, known by its name,
-//! `pair` or `circuit`. The last line is `N passed, M failed`, and the status 0 where M is 0.
+//! `pair`, `circuit`, `host-c` or `host-rust`. A host is held to the pair program, which must be given too.
+//! The last line is `N passed, M failed`, and the status 0 where M is 0.
 
 use forkhemit_tests::report::{self, Tally};
-use forkhemit_tests::{cases, circuits, contracts, damage, pictures, public, tables};
+use forkhemit_tests::{cases, circuits, contracts, damage, hosts, pictures, public, tables};
 use std::path::Path;
 use std::process::{Command, ExitCode, Stdio};
 
@@ -27,14 +28,18 @@ fn pair_tests(program: &Path, own: &Path) -> std::io::Result<Tally> {
     Ok(total)
 }
 
-fn program_tests(program: &Path) -> std::io::Result<Tally> {
+fn program_tests(program: &Path, pair: Option<&Path>) -> std::io::Result<Tally> {
     let fault = |kind, fault: &str| std::io::Error::new(kind, format!("{}: {fault}", program.display()));
     let whole = program.canonicalize().map_err(|error| fault(error.kind(), &error.to_string()))?;
     let own = Path::new(env!("CARGO_MANIFEST_DIR"));
     match program.file_name().and_then(|name| name.to_str()) {
         Some("pair") => pair_tests(&whole, own),
         Some("circuit") => circuits::run(&whole, own),
-        _ => Err(fault(std::io::ErrorKind::InvalidInput, "neither pair nor circuit")),
+        Some("host-c" | "host-rust") => {
+            let pair = pair.ok_or_else(|| fault(std::io::ErrorKind::NotFound, "no pair program to compare with"))?;
+            hosts::run(&whole, &pair.canonicalize()?, own)
+        }
+        _ => Err(fault(std::io::ErrorKind::InvalidInput, "no program of the project")),
     }
 }
 
@@ -43,8 +48,9 @@ fn all(arguments: &[String]) -> std::io::Result<Tally> {
     let (crates, programs) = arguments.split_first().ok_or_else(usage)?;
     let mut total = contracts::run(Path::new(crates))?;
     total.add(pictures::run(&Path::new(env!("CARGO_MANIFEST_DIR")).join(".."))?);
+    let pair = programs.iter().map(Path::new).find(|program| program.ends_with("pair"));
     for program in programs {
-        total.add(program_tests(Path::new(program))?);
+        total.add(program_tests(Path::new(program), pair)?);
     }
     Ok(total)
 }

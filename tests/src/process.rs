@@ -69,6 +69,11 @@ impl Room {
 
     /// Runs the pair program on these files, `input` on standard input.
     pub fn run(&self, left: &Source, right: &Source, input: &[u8]) -> std::io::Result<Ran> {
+        self.run_with(&[], left, right, input)
+    }
+
+    /// Runs a program that takes arguments in the folder of these files.
+    pub fn run_with(&self, arguments: &[&str], left: &Source, right: &Source, input: &[u8]) -> std::io::Result<Ran> {
         let data = self.folder.join("data");
         place(&data.join("left.cnf"), left)?;
         place(&data.join("right.cnf"), right)?;
@@ -76,7 +81,7 @@ impl Room {
         fs::write(&given, input)?;
         let mut shared = File::open(&given)?;
         let mut command = Command::new(&self.program);
-        command.current_dir(&data).stdin(shared.try_clone()?);
+        command.args(arguments).current_dir(&data).stdin(shared.try_clone()?);
         for (name, source) in [("left.cnf", left), ("right.cnf", right)] {
             match source {
                 Source::Locked if is_root()? => drop(command.uid(NOBODY).gid(NOBODY)),

@@ -192,7 +192,8 @@ fn unlike_others(made: &(usize, Vec<Row>), output: &[u8], room: &Room, solver: &
     open.map(|at| format!("its model leaves row {} false", at + 1))
 }
 
-fn shown(test: &Test) -> String {
+/// A test as it is printed where it fails.
+pub fn shown(test: &Test) -> String {
     let text = |source: &Source| match source {
         Source::Text(bytes) | Source::Slow(bytes) | Source::Breaking(bytes) | Source::Faltering(bytes) => quoted(bytes),
         other => format!("{other:?}"),

@@ -1,0 +1,133 @@
+/*
+ * A host in C. It reads two stations' texts, generates the giant step's circuit once, repeats it from the fresh state
+ * until the closing mark or the budget, and prints the answer as the pair program does. Beside each repeat it steps a
+ * plain run and compares. Use: host-c LEFT RIGHT BUDGET
+ */
+#include "forkhemit.h"
+#include <stdio.h>
+#include <stdlib.h>
+#include <string.h>
+
+#define TEXT_LIMIT 65536
+#define ROW_WORDS 256
+
+/* A refusal as the pair program prints it. */
+static int refused(uint8_t number)
+{
+    printf("c refused %u\ns UNKNOWN\n", number);
+    return 0;
+}
+
+/* What a proved library never brings about. */
+static int wrong(const char *what, uint64_t repeat)
+{
+    fprintf(stderr, "after repeat %llu: %s\n", (unsigned long long)repeat, what);
+    return 1;
+}
+
+/* The host's own memory, which it lends call by call. */
+static void *room(size_t count, size_t size)
+{
+    void *memory = calloc(count, size);
+    if (memory == NULL) {
+        fputs("out of memory\n", stderr);
+        exit(1);
+    }
+    return memory;
+}
+
+/* A text. A file that cannot be read counts as one byte more than a text may have: the library refuses it with 5. */
+static size_t read_text(const char *path, uint8_t *text)
+{
+    FILE *file = fopen(path, "rb");
+    if (file == NULL)
+        return TEXT_LIMIT + 1;
+    size_t length = fread(text, 1, TEXT_LIMIT + 1, file);
+    if (ferror(file))
+        length = TEXT_LIMIT + 1;
+    fclose(file);
+    return length;
+}
+
+int main(int count, char **arguments)
+{
+    if (count != 4) {
+        fputs("use: host-c LEFT RIGHT BUDGET\n", stderr);
+        return 1;
+    }
+    uint64_t budget = strtoull(arguments[3], NULL, 10);
+
+    /* The texts become tables: two words a row, positive then negative. */
+    uint8_t *left_text = room(TEXT_LIMIT + 1, 1), *right_text = room(TEXT_LIMIT + 1, 1);
+    size_t left_length = read_text(arguments[1], left_text), right_length = read_text(arguments[2], right_text);
+    uint32_t left[ROW_WORDS] = {0}, right[ROW_WORDS] = {0};
+    uint64_t d[3] = {0};
+    uint8_t refusal = forkhemit_read_pair(left_text, left_length, right_text, right_length,
+                                          left, ROW_WORDS, right, ROW_WORDS, d, 3);
+    if (refusal != 0)
+        return refused(refusal);
+
+    /* The circuit, made from n and the row counts alone. */
+    uint64_t sizes[4] = {0}, gate_count = 0;
+    refusal = forkhemit_sizes(d[0], d[1], d[2], sizes, 4);
+    if (refusal != 0)
+        return refused(refusal);
+    uint32_t *gates = room(sizes[1], sizeof *gates);
+    refusal = forkhemit_generate(d[0], d[1], d[2], gates, sizes[1], &gate_count, 1);
+    if (refusal != 0)
+        return refused(refusal);
+
+    /* Scratch for the packed inputs and for all wires, and two runs: one for the circuit, one for the plain step. */
+    size_t inputs = sizes[2], wire_count = inputs + gate_count;
+    uint8_t *bytes = room(inputs, 1), *wires = room(wire_count, 1);
+    uint32_t run[FORKHEMIT_RUN_WORDS] = {0}, plain[FORKHEMIT_RUN_WORDS] = {0};
+    refusal = forkhemit_fresh(d[0], run, FORKHEMIT_RUN_WORDS);
+    if (refusal != 0)
+        return refused(refusal);
+    memcpy(plain, run, sizeof run);
+
+    /* Repeats, until the mark says that the run is closed or the budget is spent. */
+    uint64_t repeats = 0, mark = 0;
+    while (repeats < budget && mark == 0) {
+        refusal = forkhemit_apply(d[0], d[1], d[2], left, ROW_WORDS, right, ROW_WORDS, gates, 3 * gate_count,
+                                  run, FORKHEMIT_RUN_WORDS, bytes, inputs, wires, wire_count, &mark, 1);
+        if (refusal != 0)
+            return refused(refusal);
+        repeats++;
+        refusal = forkhemit_step(d[0], d[1], d[2], left, ROW_WORDS, right, ROW_WORDS, plain, FORKHEMIT_RUN_WORDS);
+        if (refusal != 0)
+            return refused(refusal);
+        if (memcmp(run, plain, sizeof run) != 0)
+            return wrong("the circuit's state is not the plain run's", repeats);
+    }
+
+    /* The answer: the number of repeats, the standing as verdict, and the model of a satisfied run. */
+    uint64_t verdict = run[1], model = 0;
+    if (verdict == FORKHEMIT_SATISFIABLE) {
+        refusal = forkhemit_model(run, FORKHEMIT_RUN_WORDS, &model, 1);
+        if (refusal != 0)
+            return refused(refusal);
+    }
+
+    /* The budgeted run gives the same. */
+    uint64_t answer[3] = {0};
+    refusal = forkhemit_solve(d[0], d[1], d[2], left, ROW_WORDS, right, ROW_WORDS, budget, answer, 3);
+    if (refusal != 0)
+        return refused(refusal);
+    if (answer[0] != repeats || answer[1] != verdict || answer[2] != model)
+        return wrong("the budgeted run answers otherwise", repeats);
+
+    uint8_t text[256];
+    uint64_t length = 0;
+    refusal = forkhemit_answer(d[0], repeats, verdict, model, text, sizeof text, &length, 1);
+    if (refusal != 0)
+        return refused(refusal);
+    fwrite(text, 1, length, stdout);
+
+    free(wires);
+    free(bytes);
+    free(gates);
+    free(right_text);
+    free(left_text);
+    return 0;
+}

@@ -1,0 +1,147 @@
+//! A host in Rust. It reads two stations' texts, generates the giant step's circuit once, repeats it from the fresh state
+//! until the closing mark or the budget, and prints the answer as the pair program does. Beside each repeat it steps a
+//! plain run and compares. Use: host-rust LEFT RIGHT BUDGET
+
+use std::io::Write;
+
+/// The library, as include/forkhemit.h has it: a slice passes as its pointer and then its length.
+#[rustfmt::skip]
+mod library {
+    #[link(name = "forkhemit", kind = "static")]
+    extern "C" {
+        pub fn forkhemit_sizes(n: u64, left_rows: u64, right_rows: u64, sizes: *mut u64, length: usize) -> u8;
+        pub fn forkhemit_read_pair(left_text: *const u8, left_text_length: usize, right_text: *const u8, right_text_length: usize,
+            left: *mut u32, left_length: usize, right: *mut u32, right_length: usize, sizes: *mut u64, length: usize) -> u8;
+        pub fn forkhemit_fresh(n: u64, run: *mut u32, length: usize) -> u8;
+        pub fn forkhemit_step(n: u64, left_rows: u64, right_rows: u64, left: *const u32, left_length: usize,
+            right: *const u32, right_length: usize, run: *mut u32, length: usize) -> u8;
+        pub fn forkhemit_solve(n: u64, left_rows: u64, right_rows: u64, left: *const u32, left_length: usize,
+            right: *const u32, right_length: usize, budget: u64, answer: *mut u64, length: usize) -> u8;
+        pub fn forkhemit_model(run: *const u32, run_length: usize, model: *mut u64, length: usize) -> u8;
+        pub fn forkhemit_generate(n: u64, left_rows: u64, right_rows: u64, gates: *mut u32, gates_length: usize,
+            count: *mut u64, length: usize) -> u8;
+        pub fn forkhemit_apply(n: u64, left_rows: u64, right_rows: u64, left: *const u32, left_length: usize,
+            right: *const u32, right_length: usize, gates: *const u32, gates_length: usize, run: *mut u32, run_length: usize,
+            bytes: *mut u8, bytes_length: usize, wires: *mut u8, wires_length: usize, mark: *mut u64, length: usize) -> u8;
+        pub fn forkhemit_answer(n: u64, count: u64, verdict: u64, model: u64, bytes: *mut u8, bytes_length: usize,
+            written: *mut u64, length: usize) -> u8;
+    }
+}
+use library::*;
+
+const TEXT_LIMIT: usize = 65_536;
+const SATISFIABLE: u64 = 1;
+type Run = [u32; 101];
+
+/// Why there is no answer: a refusal's number, or what a proved library never brings about.
+enum Fault {
+    Refused(u8),
+    Wrong(&'static str),
+}
+
+/// What a call returned: 0 where it was taken.
+fn taken(number: u8) -> Result<(), Fault> {
+    (number == 0).then_some(()).ok_or(Fault::Refused(number))
+}
+
+/// Both stations' tables, two words a row, with n and the row counts. In each method the library reads and writes what
+/// it is lent here and nothing else, so the calls are safe.
+struct Tables {
+    d: [u64; 3],
+    left: [u32; 256],
+    right: [u32; 256],
+}
+
+#[rustfmt::skip]
+impl Tables {
+    fn read(left: &[u8], right: &[u8]) -> Result<Tables, Fault> {
+        let mut read = Tables { d: [0; 3], left: [0; 256], right: [0; 256] };
+        let (l, r, d) = (&mut read.left, &mut read.right, &mut read.d);
+        taken(unsafe {
+            forkhemit_read_pair(left.as_ptr(), left.len(), right.as_ptr(), right.len(),
+                l.as_mut_ptr(), 256, r.as_mut_ptr(), 256, d.as_mut_ptr(), 3)
+        })?;
+        Ok(read)
+    }
+
+    /// The circuit's gates, and how many input wires they have.
+    fn circuit(&self) -> Result<(Vec<u32>, usize), Fault> {
+        let ([n, l, r], mut sizes, mut count) = (self.d, [0; 4], 0);
+        taken(unsafe { forkhemit_sizes(n, l, r, sizes.as_mut_ptr(), 4) })?;
+        let mut gates = vec![0; sizes[1] as usize];
+        taken(unsafe { forkhemit_generate(n, l, r, gates.as_mut_ptr(), gates.len(), &mut count, 1) })?;
+        gates.truncate(3 * count as usize);
+        Ok((gates, sizes[2] as usize))
+    }
+
+    fn fresh(&self) -> Result<Run, Fault> {
+        let mut run = [0; 101];
+        taken(unsafe { forkhemit_fresh(self.d[0], run.as_mut_ptr(), 101) }).map(|()| run)
+    }
+
+    fn step(&self, run: &mut Run) -> Result<(), Fault> {
+        let ([n, l, r], left, right) = (self.d, &self.left, &self.right);
+        taken(unsafe { forkhemit_step(n, l, r, left.as_ptr(), 256, right.as_ptr(), 256, run.as_mut_ptr(), 101) })
+    }
+
+    /// One repeat: whether the run is closed then.
+    fn apply(&self, gates: &[u32], run: &mut Run, bytes: &mut [u8], wires: &mut [u8]) -> Result<bool, Fault> {
+        let ([n, l, r], left, right, mut mark) = (self.d, &self.left, &self.right, 0);
+        taken(unsafe {
+            forkhemit_apply(n, l, r, left.as_ptr(), 256, right.as_ptr(), 256, gates.as_ptr(), gates.len(),
+                run.as_mut_ptr(), 101, bytes.as_mut_ptr(), bytes.len(), wires.as_mut_ptr(), wires.len(), &mut mark, 1)
+        })?;
+        Ok(mark == 1)
+    }
+
+    /// The budgeted run's count, verdict and model.
+    fn solve(&self, budget: u64) -> Result<[u64; 3], Fault> {
+        let ([n, l, r], left, right, mut answer) = (self.d, &self.left, &self.right, [0; 3]);
+        taken(unsafe {
+            forkhemit_solve(n, l, r, left.as_ptr(), 256, right.as_ptr(), 256, budget, answer.as_mut_ptr(), 3)
+        })?;
+        Ok(answer)
+    }
+}
+
+fn answer_of(left: &[u8], right: &[u8], budget: u64) -> Result<Vec<u8>, Fault> {
+    let tables = Tables::read(left, right)?;
+    let (gates, inputs) = tables.circuit()?;
+    let (mut bytes, mut wires) = (vec![0; inputs], vec![0; inputs + gates.len() / 3]);
+    let (mut run, mut plain) = (tables.fresh()?, tables.fresh()?);
+    let (mut repeats, mut closed) = (0, false);
+    while repeats < budget && !closed {
+        closed = tables.apply(&gates, &mut run, &mut bytes, &mut wires)?;
+        repeats += 1;
+        tables.step(&mut plain)?;
+        if run != plain {
+            return Err(Fault::Wrong("the circuit's state is not the plain run's"));
+        }
+    }
+    let (verdict, mut model) = (u64::from(run[1]), 0);
+    if verdict == SATISFIABLE {
+        taken(unsafe { forkhemit_model(run.as_ptr(), 101, &mut model, 1) })?;
+    }
+    if tables.solve(budget)? != [repeats, verdict, model] {
+        return Err(Fault::Wrong("the budgeted run answers otherwise"));
+    }
+    let (mut text, mut length) = (vec![0; 256], 0);
+    taken(unsafe {
+        forkhemit_answer(tables.d[0], repeats, verdict, model, text.as_mut_ptr(), text.len(), &mut length, 1)
+    })?;
+    text.truncate(length as usize);
+    Ok(text)
+}
+
+fn main() {
+    let arguments: Vec<String> = std::env::args().collect();
+    let budget = arguments.get(3).and_then(|budget| budget.parse().ok()).expect("use: host-rust LEFT RIGHT BUDGET");
+    // a file that cannot be read counts as one byte more than a text may have, which the library refuses with 5
+    let text = |path: &String| std::fs::read(path).unwrap_or_else(|_| vec![0; TEXT_LIMIT + 1]);
+    let printed = match answer_of(&text(&arguments[1]), &text(&arguments[2]), budget) {
+        Ok(text) => text,
+        Err(Fault::Refused(number)) => format!("c refused {number}\ns UNKNOWN\n").into_bytes(),
+        Err(Fault::Wrong(what)) => panic!("{what}"),
+    };
+    std::io::stdout().write_all(&printed).expect("standard output takes the answer");
+}
