@@ -36,11 +36,12 @@ examples: target/examples/host-c target/examples/host-rust
 	done
 
 bench: target/bin/pair target/lib/libforkhemit.a
-	cargo build --quiet --release --bins --examples --offline --locked --manifest-path tests/Cargo.toml
+	cargo build --quiet --release --bins --offline --locked --manifest-path tests/Cargo.toml
+	@lscpu | sed -n 's/^Model name: */on /p'
 	tests/target/release/bench target/bin/pair
 	tests/target/release/bench-tables target/bin/pair
-	rt staticlib interface
-	rustc -O --edition 2021 tests/bench/evaluator.rs -L native=target/staticlib -l static=interface -o target/bench-evaluator
+	tests/target/release/bench-library
+	rustc -O --edition 2021 tests/bench/evaluator.rs -L native=target/lib -l static=forkhemit -o target/bench-evaluator
 	target/bench-evaluator
 
 checktime:

@@ -1,11 +1,10 @@
 //! Times the pair program beside other solvers, as whole processes. Use: bench PAIR
 //! Every accepted public file is split in halves for the pair program and given whole to the others, beforehand.
 
-use forkhemit_tests::{layout, public};
+use forkhemit_tests::{clock, layout, public};
 use std::fs;
-use std::os::raw::{c_int, c_long};
 use std::path::{Path, PathBuf};
-use std::process::{Child, Command, Stdio};
+use std::process::{Command, Stdio};
 use std::time::Instant;
 
 const RUNS: usize = 30;
@@ -16,21 +15,6 @@ const SOLVERS: [(&str, &[&str]); 3] = [("cadical", &["-q"]), ("picosat", &[]), (
 struct Contender {
     label: String,
     run: Box<dyn Fn() -> std::io::Result<f64>>,
-}
-
-extern "C" {
-    fn wait4(process: c_int, status: *mut c_int, options: c_int, usage: *mut [c_long; 18]) -> c_int;
-}
-
-/// Waits for the end of a process, and gives the processor time that it took, its own and the system's for it, in microseconds.
-fn processor_time(child: &Child) -> std::io::Result<f64> {
-    let mut usage = [0; 18];
-    // SAFETY: the C library's struct rusage has 18 longs on 64-bit Linux, and a null status is allowed
-    if unsafe { wait4(child.id() as c_int, std::ptr::null_mut(), 0, &mut usage) } < 0 {
-        return Err(std::io::Error::last_os_error());
-    }
-    let [seconds, micros, system_seconds, system_micros, ..] = usage;
-    Ok((seconds + system_seconds) as f64 * 1e6 + (micros + system_micros) as f64)
 }
 
 /// The times of each contender in microseconds, from start to end and of the processor, their runs side by side: one of each, then
@@ -83,7 +67,7 @@ fn process(label: &str, folder: &Path, program: &Path, arguments: &[&str], input
             .stdin(fs::File::open(&input)?)
             .stdout(Stdio::null())
             .stderr(Stdio::null());
-        processor_time(&command.spawn()?)
+        clock::of_process(&command.spawn()?)
     };
     Contender { label: label.into(), run: Box::new(run) }
 }

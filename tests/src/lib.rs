@@ -4,6 +4,7 @@
 pub mod bristol;
 pub mod cases;
 pub mod circuits;
+pub mod clock;
 pub mod contracts;
 pub mod damage;
 pub mod hosts;

@@ -1,0 +1,191 @@
+//! Times the library as a host calls it: the giant step and the reader beside plain Rust, and the making of circuits.
+//! All times are the processor's. Linked with the archive that `make lib` writes.
+
+mod plain;
+
+use forkhemit_tests::clock::{self, median};
+use forkhemit_tests::memory;
+use forkhemit_tests::model::{self, Row};
+use forkhemit_tests::random::Random;
+use forkhemit_tests::{layout, tables};
+
+#[rustfmt::skip]
+#[link(name = "forkhemit", kind = "static")]
+extern "C" {
+    fn forkhemit_read_pair(left_text: *const u8, left_text_length: usize, right_text: *const u8, right_text_length: usize,
+        left: *mut u32, left_length: usize, right: *mut u32, right_length: usize, sizes: *mut u64, length: usize) -> u8;
+    fn forkhemit_solve(n: u64, left_rows: u64, right_rows: u64, left: *const u32, left_length: usize,
+        right: *const u32, right_length: usize, budget: u64, answer: *mut u64, length: usize) -> u8;
+    fn forkhemit_generate(n: u64, left_rows: u64, right_rows: u64, gates: *mut u32, gates_length: usize,
+        count: *mut u64, length: usize) -> u8;
+}
+
+const RUNS: usize = 25;
+const TABLES: usize = 200;
+const SEED: u64 = 4_300;
+
+// ---- The giant step
+
+/// Rows of three different variables, left half and right half in words.
+fn hard(n: usize, m: usize, seed: u64) -> [Vec<u32>; 2] {
+    let random = &mut Random::new(seed);
+    let rows: Vec<Row> = (0..m).map(|_| tables::strict(n, 3, random)).collect();
+    [&rows[..m / 2], &rows[m / 2..]].map(memory::row_words)
+}
+
+fn solve(n: usize, [left, right]: &[Vec<u32>; 2]) -> [u64; 3] {
+    let mut answer = [0; 3];
+    let (rows, other) = (left.len() as u64 / 2, right.len() as u64 / 2);
+    // The tables and the answer are lent for the call.
+    let number = unsafe {
+        forkhemit_solve(
+            n as u64,
+            rows,
+            other,
+            left.as_ptr(),
+            left.len(),
+            right.as_ptr(),
+            right.len(),
+            u64::MAX,
+            answer.as_mut_ptr(),
+            3,
+        )
+    };
+    assert_eq!(number, 0, "the tables are accepted");
+    answer
+}
+
+/// The library's run beside the plain one, over all tables; the median over repeated rounds.
+fn steps(n: usize, m: usize) {
+    let all: Vec<[Vec<u32>; 2]> = (0..TABLES).map(|k| hard(n, m, SEED + k as u64)).collect();
+    let joined: Vec<Vec<u32>> = all.iter().map(|tables| tables.concat()).collect();
+    let (mut proved, mut plain) = (vec![], vec![]);
+    let mut count = 0;
+    for _ in 0..RUNS {
+        let (answers, time) = clock::of(|| all.iter().map(|tables| solve(n, tables)).collect::<Vec<_>>());
+        let (others, other) = clock::of(|| joined.iter().map(|rows| plain::solve(rows, u64::MAX)).collect::<Vec<_>>());
+        assert_eq!(answers, others, "both give the same counts, verdicts and models");
+        count = answers.iter().map(|answer| answer[0]).sum();
+        proved.push(time * 1e3 / count as f64);
+        plain.push(other * 1e3 / count as f64);
+    }
+    let (a, b) = (median(proved), median(plain));
+    println!(
+        "giant step, n = {n}, m = {m}: {a:.0} ns, plain Rust {b:.0} ns, ratio {:.2} ({count} steps of {TABLES} tables)",
+        a / b
+    );
+}
+
+// ---- The reader
+
+/// A text of nearly 65,536 bytes: rows whose literals come again and again.
+fn repeated(random: &mut Random) -> Vec<u8> {
+    let rows: Vec<Row> = (0..128).map(|_| (0..148).map(|_| literal(random)).collect()).collect();
+    layout::plain(32, &rows)
+}
+
+fn literal(random: &mut Random) -> i64 {
+    random.between(1, 32) as i64 * if random.once_in(2) { -1 } else { 1 }
+}
+
+/// The same with little in it: three literals a row, and many separators.
+fn spaced(random: &mut Random) -> Vec<u8> {
+    let rows: Vec<Row> = (0..128).map(|_| tables::strict(32, 3, random)).collect();
+    let mut text = vec![];
+    for line in String::from_utf8_lossy(&layout::plain(32, &rows)).lines() {
+        text.extend(line.bytes());
+        text.extend(vec![b' '; 490]);
+        text.push(b'\n');
+    }
+    text
+}
+
+/// The same with a long remark.
+fn remarked(random: &mut Random) -> Vec<u8> {
+    let rows: Vec<Row> = (0..128).map(|_| tables::strict(32, 3, random)).collect();
+    [b"c ".to_vec(), vec![b'x'; 63_000], b"\n".to_vec(), layout::plain(32, &rows)].concat()
+}
+
+fn read_pair(left: &[u8], right: &[u8], words: &mut [Vec<u32>; 2], sizes: &mut [u64; 3]) -> u8 {
+    let [l, r] = words;
+    // The texts, words and sizes are lent for the call.
+    unsafe {
+        forkhemit_read_pair(
+            left.as_ptr(),
+            left.len(),
+            right.as_ptr(),
+            right.len(),
+            l.as_mut_ptr(),
+            l.len(),
+            r.as_mut_ptr(),
+            r.len(),
+            sizes.as_mut_ptr(),
+            3,
+        )
+    }
+}
+
+fn reader(what: &str, make: fn(&mut Random) -> Vec<u8>) {
+    let random = &mut Random::new(SEED);
+    let texts: Vec<[Vec<u8>; 2]> = (0..20).map(|_| [make(random), make(random)]).collect();
+    let bytes: usize = texts.iter().map(|pair| pair[0].len() + pair[1].len()).sum();
+    assert!(texts.iter().flatten().all(|text| text.len() <= model::TEXT_LIMIT), "a text is not overlong");
+    let (mut words, mut sizes) = ([vec![0; 256], vec![0; 256]], [0; 3]);
+    let mut others = [Vec::with_capacity(256), Vec::with_capacity(256)];
+    let (mut proved, mut plain) = (vec![], vec![]);
+    for _ in 0..RUNS {
+        let mut round = (0.0, 0.0);
+        for [left, right] in &texts {
+            let (number, time) = clock::of(|| read_pair(left, right, &mut words, &mut sizes));
+            assert_eq!(number, 0, "the texts are read");
+            let (n, other) = clock::of(|| (plain::read(left, &mut others[0]), plain::read(right, &mut others[1])));
+            assert_eq!((n, &others), ((Ok(32), Ok(32)), &words), "both give the same rows");
+            round.0 += time;
+            round.1 += other;
+        }
+        proved.push(bytes as f64 / round.0);
+        plain.push(bytes as f64 / round.1);
+    }
+    let (a, b) = (median(proved), median(plain));
+    println!("reader, {what}: {a:.0} MB/s, plain Rust {b:.0} MB/s, ratio {:.2}", b / a);
+}
+
+// ---- Circuits
+
+fn circuit(n: usize, m: usize) {
+    let mut gates = vec![0u32; 3 * model::ceiling(n, m)];
+    let mut count = [0];
+    let mut times = vec![];
+    for _ in 0..RUNS {
+        // The words and the count are lent for the call.
+        let (number, time) = clock::of(|| unsafe {
+            forkhemit_generate(
+                n as u64,
+                m as u64 / 2,
+                (m - m / 2) as u64,
+                gates.as_mut_ptr(),
+                gates.len(),
+                count.as_mut_ptr(),
+                1,
+            )
+        });
+        assert_eq!(number, 0, "there is room for the gates");
+        times.push(time);
+    }
+    let count = count[0] as usize;
+    let ands = gates[..3 * count].chunks(3).filter(|gate| gate[0] == 1).count();
+    let each = ands as f64 / (n * m) as f64;
+    println!("circuit, n = {n}, m = {m}: {count} gates, {ands} AND, made in {:.0} us; {each:.1} AND a row times variable, {:.2} of 72", median(times), each / 72.0);
+}
+
+fn main() {
+    for (n, m) in [(20, 86), (26, 112), (32, 138)] {
+        steps(n, m);
+    }
+    reader("literals again and again", repeated);
+    reader("mostly separators", spaced);
+    reader("a long remark", remarked);
+    for (n, m) in [(4, 12), (8, 32), (16, 64), (20, 91), (32, 256)] {
+        circuit(n, m);
+    }
+}
