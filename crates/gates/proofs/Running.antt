@@ -15,7 +15,8 @@ use Rattle.words.specs.Sets.{all}
 use Rattle.words.proofs.Truth.{on}
 use Rattle.words.proofs.Upto.{all-e}
 use Rattle.gates.specs.Gates.{Gate, wire, value, wiresOf}
-use Rattle.gates.specs.Memory.{table, gateOf, gatesOf, drives, accepted, bytesOf, bitsOf, bits}
+use Rattle.gates.specs.Values.{table}
+use Rattle.gates.specs.Memory.{gateOf, gatesOf, drives, accepted, bytesOf, bitsOf, bits}
 use Rattle.gates.specs.Evaluation.{over}
 use Rattle.gates.proofs.Judging.{drop-three, accepted-at, accepted-uneven, drives-below}
 use Rattle.gates.proofs.Circuits.{wires-length}

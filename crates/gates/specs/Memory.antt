@@ -31,10 +31,6 @@ accepted m (k ∷ []) = false
 accepted m (k ∷ (a ∷ [])) = false
 accepted m (k ∷ (a ∷ (b ∷ ws))) = drives m k a b && accepted (suc m) ws
 
--- the bytes that XOR, AND and INV give, on wires 00, 01, 10 and 11
-abbrev pub table : List ℕ
-table = 0 ∷ (1 ∷ (1 ∷ (0 ∷ (0 ∷ (0 ∷ (0 ∷ (1 ∷ (1 ∷ (1 ∷ (0 ∷ (0 ∷ [])))))))))))
-
 -- wires' values as bytes
 abbrev pub bytesOf : List Bool → List ℕ
 bytesOf w = map digit w

@@ -7,9 +7,9 @@ ghost use lib.ListN.{length, take};
 ghost use Rattle.refusals.specs.Checks.{outcome};
 ghost use Rattle.words.specs.Booleans.{digit};
 ghost use Rattle.gates.specs.Gates.{value, wiresOf};
-ghost use Rattle.gates.specs.Memory.{table};
 ghost use Rattle.gates.specs.Memory as Memory;
 ghost use Rattle.gates.specs.Evaluation.{checks, filled, over};
+ghost use Rattle.gates.specs.Values.{table};
 use refusals::Outcome;
 use refusals::Refusal;
 
