@@ -17,7 +17,7 @@ use Rattle.refusals.proofs.Outcomes.{unless-passed, unless-taken}
 use Rattle.tables.specs.declared.Dimensions.{Dimensions}
 use Rattle.tables.specs.Sizes.{outside, sizeChecks}
 use Rattle.tables.proofs.Limits.{most}
-use Rattle.interface.specs.Lent.{dimensions}
+use Rattle.lent.specs.Lent.{dimensions}
 
 -- ---- a limit
 

@@ -1,4 +1,3 @@
-pub mod Fronts
 pub mod Refused
 pub mod Capped
 pub mod Entries

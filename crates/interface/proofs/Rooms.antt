@@ -1,49 +1,30 @@
--- Room for rows and for a run: each test decides its refusal, and a run that has no room is not stored.
+-- Room for a run: each test decides its refusal, and a run that has no room is not stored.
 -- Assumes nothing.
 use mathlib.Core.Path.{_≡_, refl, sym, ap, _∙_}
-use mathlib.Core.Bool.{Bool, true, false, not, _||_, cond}
+use mathlib.Core.Bool.{Bool, true, false, cond}
 use mathlib.Core.List.{List, [], _∷_, _++_}
-use Prim.Native.Nat.{ℕ, _-_, _*_, _≤_, _<_, min}
+use Prim.Native.Nat.{ℕ, _-_, min}
 use native.Mathlib.Omega.{arith}
 use lib.Dec.{ltb}
 use lib.ListN.{length, take, drop, replicate}
 use lib.Seq.{take-append-seam}
-use borrow.Author.Tests.{lt-ltb, le-ltb}
 use Rattle.words.proofs.Truth.{on}
-use Rattle.refusals.specs.Checks.{Check, check, unless, outcome, given}
+use Rattle.refusals.specs.Checks.{unless, outcome, given}
 use Rattle.refusals.specs.declared.Refusal.{Refusal}
-use Rattle.refusals.specs.declared.Refusal.the-variants.{Variables, RowBuffer, LineBuffer, State, Wires}
+use Rattle.refusals.specs.declared.Refusal.the-variants.{Variables, State}
 use Rattle.refusals.specs.declared.Outcome.{Outcome}
 use Rattle.refusals.specs.declared.Outcome.the-variants.{Taken, Refused}
 use Rattle.refusals.proofs.Outcomes.{refused-taken, outcome-taken, outcome-refused}
-use Rattle.tables.specs.Sizes.{outside, stateWires}
+use Rattle.tables.specs.Sizes.{outside}
 use Rattle.state.specs.declared.Run.{Run}
 use Rattle.state.specs.State.{fresh, runOf}
 use Rattle.stored.specs.Words.{wordsOf, stored}
 use Rattle.wires.specs.declared.Read.{Read}
 use Rattle.wires.specs.Unpacking.{runIn}
 use Rattle.wires.specs.Reading.{readChecks, readBack}
-use Rattle.interface.specs.Lent.{textOutcome, roomCheck, freshChecks, backChecks, storedIf}
+use Rattle.lent.specs.Lent.{storedIf}
+use Rattle.interface.specs.Lent.{roomCheck, freshChecks, backChecks}
 use Rattle.interface.proofs.Capped.{outside-held, inside-held}
-
--- ---- rows
-
-module _ (o : Outcome) (a b : Bool) where
-  -- what the texts are refused with, then 4
-  abbrev pub roomed : Outcome
-  roomed = given o (outcome (check (a || b) RowBuffer ∷ [])) Refused
-
-  pub texts-refused : (q : Refusal) → o ≡ Refused q → Refused q ≡ roomed
-  texts-refused q h = rw h
-
-  pub left-short : o ≡ Taken → a ≡ true → Refused RowBuffer ≡ roomed
-  left-short h k = rw (h, k)
-
-  pub right-short : o ≡ Taken → a ≡ false → b ≡ true → Refused RowBuffer ≡ roomed
-  right-short h k l = rw (h, k, l)
-
-  pub both-fit : o ≡ Taken → a ≡ false → b ≡ false → Taken ≡ roomed
-  both-fit h k l = rw (h, k, l)
 
 -- ---- a run
 
@@ -98,13 +79,6 @@ module _ (n : ℕ) (bytes words : List ℕ) (read : Read) (k : ℕ) (held : k �
       (λ g. ap (λ (r : Read). r .run) is ∙ ap (λ (x : ℕ). readBack x bytes .run) (held ∙ inside-held 32 n (omega arith) g))
 
 -- ---- a text
-
-module _ (size : ℕ) (lent : List ℕ) where
-  pub text-long : length lent < size → textOutcome size lent ≡ Refused LineBuffer
-  text-long h = rw (lt-ltb (length lent) size h)
-
-  pub text-fits : size ≤ length lent → textOutcome size lent ≡ Taken
-  text-fits h = rw (le-ltb (length lent) size h)
 
 -- a text by value gives its bytes back
 pub text-back : (bytes : List ℕ) → take (length bytes) (bytes ++ replicate (256 - length bytes) 0) ≡ bytes

@@ -1,43 +1,24 @@
 -- What calls take from hosts and leave in the buffers that they lend.
 use Prim.Native.Nat.{ℕ, _*_}
-use mathlib.Core.Bool.{_||_}
 use mathlib.Core.List.{List, [], _∷_, _++_}
 use lib.Dec.{ltb}
 use lib.ListN.{length, take}
-use lib.Seq.{sets}
 use Rattle.words.specs.Booleans.{digit}
-use Rattle.refusals.specs.Checks.{Check, check, outcome, given}
+use Rattle.refusals.specs.Checks.{Check, check}
 use Rattle.refusals.specs.declared.Outcome.{Outcome}
-use Rattle.refusals.specs.declared.Outcome.the-variants.{Refused}
-use Rattle.refusals.specs.declared.Refusal.the-variants.{Variables, RowBuffer, LineBuffer, State}
+use Rattle.refusals.specs.declared.Refusal.the-variants.{Variables, State}
 use Rattle.dimacs.specs.declared.Pair.{Pair}
 use Rattle.dimacs.specs.Text.{tableOf}
 use Rattle.dimacs.specs.Pair.{pairOf}
 use Rattle.tables.specs.Sizes.{outside, ceiling, inputWires, stateWires}
 use Rattle.tables.specs.declared.Dimensions.{Dimensions}
-use Rattle.state.specs.declared.Run.{Run}
 use Rattle.solver.specs.declared.Stepped.{Stepped}
 use Rattle.solver.specs.Answers.{stepped}
-use Rattle.stored.specs.Words.{runIn, stored}
+use Rattle.stored.specs.Words.{runIn}
 use Rattle.wires.specs.Reading.{readChecks}
 use Rattle.repeats.specs.declared.Applied.{Applied}
 use Rattle.repeats.specs.Application.{applied}
-
--- three numbers as dimensions, whatever they are: every entry judges them first
-abbrev pub dimensions : ℕ → ℕ → ℕ → Dimensions
-dimensions n left right = record { n = n; left = left; right = right }
-
--- values over the front of a buffer, as many as it has room for
-abbrev pub front : List ℕ → List ℕ → List ℕ
-front values lent = sets lent 0 values
-
--- the same where the call is taken; else the buffer as it was
-abbrev pub frontIf : Outcome → List ℕ → List ℕ → List ℕ
-frontIf o values lent = given o (front values lent) (λ r. lent)
-
--- the run's words over the front of a buffer where the call is taken; else the buffer as it was
-abbrev pub storedIf : Outcome → Run → List ℕ → List ℕ
-storedIf o run lent = given o (stored run lent) (λ r. lent)
+use Rattle.lent.specs.Lent.{frontIf, storedIf, textOutcome, pairRoom}
 
 -- one giant step of the run in lent words
 abbrev pub stepIn : Dimensions → List ℕ → List ℕ → List ℕ → Stepped
@@ -62,10 +43,6 @@ applyMarked a mark = frontIf (a .outcome) (digit (a .mark) ∷ []) mark
 abbrev pub sizeNumbers : Dimensions → List ℕ
 sizeNumbers d = ceiling d ∷ (3 * ceiling d ∷ (inputWires d ∷ (stateWires (d .n) ∷ [])))
 
--- 11: a text longer than the lent bytes
-abbrev pub textOutcome : ℕ → List ℕ → Outcome
-textOutcome size lent = outcome (check (ltb (length lent) size) LineBuffer ∷ [])
-
 -- the lent bytes, and the lent length, after a text
 abbrev pub textWritten : List ℕ → List ℕ → List ℕ
 textWritten text lent = frontIf (textOutcome (length text) lent) text lent
@@ -77,11 +54,6 @@ lengthWritten text lent size = frontIf (textOutcome (length text) lent) (length 
 
 abbrev pub pairIn : List ℕ → List ℕ → Pair
 pairIn left right = pairOf (tableOf left) (tableOf right)
-
--- what the texts are refused with, then 4: too few words for the rows
-abbrev pub pairRoom : Pair → ℕ → ℕ → Outcome
-pairRoom pair left right =
-    given (pair .outcome) (outcome (check (ltb left (2 * pair .«left_rows») || ltb right (2 * pair .«right_rows»)) RowBuffer ∷ [])) Refused
 
 abbrev pub pairOutcome : Pair → List ℕ → List ℕ → Outcome
 pairOutcome pair left right = pairRoom pair (length left) (length right)

@@ -1,5 +1,4 @@
 // The circuit: generated, its inputs packed, evaluated, its outputs read back.
-use crate::lent;
 use generator::Generated;
 use refusals::Outcome;
 ghost use mathlib.Core.Path.{_≡_};
@@ -11,8 +10,10 @@ ghost use Rattle.wires.specs.Packing.{packChecks, packed};
 ghost use Rattle.wires.specs.Reading.{readBack};
 ghost use Rattle.repeats.specs.Application.{bytesAfter, wiresAfter};
 ghost use Rattle.stored.specs.Words.{runIn};
-ghost use Rattle.interface.specs.Codes.{codeOf, generatedCode, generatedNumbers};
-ghost use Rattle.interface.specs.Lent.{dimensions, front, storedIf, applyIn, applyStored, applyMarked, backChecks};
+ghost use Rattle.lent.specs.Codes.{codeOf};
+ghost use Rattle.interface.specs.Codes.{generatedCode, generatedNumbers};
+ghost use Rattle.lent.specs.Lent.{dimensions, front, storedIf};
+ghost use Rattle.interface.specs.Lent.{applyIn, applyStored, applyMarked, backChecks};
 
 // Writes the circuit, which carries out the giant step, over the front of the words, and how many gates it has; 1, 2 or 7 where it is turned back, and then nothing is written.
 #[no_mangle]

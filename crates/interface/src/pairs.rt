@@ -1,14 +1,11 @@
 // Two stations' tables: their sizes, reading them from texts, and whether they are accepted.
-use crate::lent;
-use dimacs::Pair;
-use refusals::Outcome;
-use refusals::Refusal;
 ghost use mathlib.Core.Path.{_≡_};
 ghost use Rattle.refusals.specs.Checks.{outcome};
 ghost use Rattle.tables.specs.Sizes.{sizeChecks};
 ghost use Rattle.tables.specs.Acceptance.{tableChecks};
-ghost use Rattle.interface.specs.Codes.{codeOf};
-ghost use Rattle.interface.specs.Lent.{dimensions, frontIf, sizeNumbers, pairIn, pairRoom, pairOutcome, leftRead, rightRead, sizesRead};
+ghost use Rattle.lent.specs.Codes.{codeOf};
+ghost use Rattle.lent.specs.Lent.{dimensions, frontIf};
+ghost use Rattle.interface.specs.Lent.{sizeNumbers, pairIn, pairOutcome, leftRead, rightRead, sizesRead};
 
 // The gate ceiling, the words that the generator wants, input wires and state wires; 1 or 2 where it is turned back.
 #[no_mangle]
@@ -31,24 +28,6 @@ pub extern "C" fn forkhemit_sizes(n: u64, left_rows: u64, right_rows: u64, sizes
     lent::code(outcome)
 }
 
-// What two texts are refused with, or 4 where their rows have no room in so many words.
-fn check_room(pair: Pair, left: usize, right: usize) -> Outcome
-    ensures { λ r. ⌜ r ≡ pairRoom pair left right ⌝ }
-{
-    let outcome = pair.outcome;
-    match outcome {
-        Outcome::Taken => {}
-        Outcome::Refused(refusal) => return Outcome::Refused(refusal),
-    }
-    if left < 2 * (pair.left_rows as usize) {
-        return Outcome::Refused(Refusal::RowBuffer);
-    }
-    if right < 2 * (pair.right_rows as usize) {
-        return Outcome::Refused(Refusal::RowBuffer);
-    }
-    Outcome::Taken
-}
-
 // Reads two texts into tables, with n and the row counts; 1, 2, 5, 6 or 4 where it is turned back.
 #[no_mangle]
 pub extern "C" fn forkhemit_read_pair(
@@ -64,7 +43,7 @@ pub extern "C" fn forkhemit_read_pair(
     ensures { λ _. ⌜ now (sizes .exit) ≡ sizesRead (pairIn (now («left_text» .entry)) (now («right_text» .entry))) (now (left .entry)) (now (right .entry)) (now (sizes .entry)) ⌝ }
 {
     let pair = dimacs::read_pair(left_text, right_text);
-    let outcome = check_room(pair, left.len(), right.len());
+    let outcome = lent::check_room(pair, left.len(), right.len());
     let left_words = pair.left;
     let right_words = pair.right;
     let numbers = [pair.n as u64, pair.left_rows as u64, pair.right_rows as u64];

@@ -1,18 +1,17 @@
 // Runs: the giant step in place, and the budgeted run.
-use crate::lent;
 use refusals::Refusal;
 use solver::Modelled;
 use solver::Solved;
-use solver::Verdict;
 use state::Run;
 ghost use mathlib.Core.Path.{_≡_};
 ghost use Rattle.refusals.specs.Checks.{outcome};
 ghost use Rattle.solver.specs.Answers.{solved, modelOf};
 ghost use Rattle.state.specs.State.{fresh, runOf};
 ghost use Rattle.stored.specs.Words.{runIn};
-ghost use Rattle.interface.specs.Codes as Codes;
-ghost use Rattle.interface.specs.Codes.{codeOf, modelWord, solvedCode, solvedNumbers, modelCode, modelNumbers};
-ghost use Rattle.interface.specs.Lent.{dimensions, front, storedIf, stepIn, stepStored, freshChecks};
+ghost use Rattle.lent.specs.Codes.{codeOf};
+ghost use Rattle.interface.specs.Codes.{solvedCode, solvedNumbers, modelCode, modelNumbers};
+ghost use Rattle.lent.specs.Lent.{dimensions, front, storedIf};
+ghost use Rattle.interface.specs.Lent.{stepIn, stepStored, freshChecks};
 
 // The fresh run of n variables; 1 or 12 where it is turned back, and then no word changes.
 #[no_mangle]
@@ -50,28 +49,6 @@ pub extern "C" fn forkhemit_step(
     lent::code(outcome)
 }
 
-// The number of a verdict.
-fn verdict_number(verdict: Verdict) -> u64
-    ensures { λ r. ⌜ r ≡ Codes.verdictNumber verdict ⌝ }
-{
-    match verdict {
-        Verdict::Unknown => 0,
-        Verdict::Satisfiable(_) => 1,
-        Verdict::Unsatisfiable => 2,
-    }
-}
-
-// The model of a verdict as a word; 0 without one.
-fn model_word(verdict: Verdict) -> u64
-    ensures { λ r. ⌜ r ≡ modelWord verdict ⌝ }
-{
-    match verdict {
-        Verdict::Unknown => 0,
-        Verdict::Satisfiable(model) => model as u64,
-        Verdict::Unsatisfiable => 0,
-    }
-}
-
 // The answer of a fresh run under a budget: count, verdict, model; 1, 2, 4 or 3 where it is turned back, and then no number is written.
 #[no_mangle]
 pub extern "C" fn forkhemit_solve(
@@ -90,7 +67,11 @@ pub extern "C" fn forkhemit_solve(
     match solver::solve(d, left, right, budget) {
         Solved::Of(given) => {
             let verdict = given.verdict;
-            let numbers = [given.count, verdict_number(verdict), model_word(verdict)];
+            let numbers = [
+                given.count,
+                lent::verdict_number(verdict),
+                lent::model_word(verdict),
+            ];
             lent::put(&numbers, answer);
             return 0;
         }

@@ -1,16 +1,16 @@
 // Texts: the circuit's, one line or as many as fit, and the composed answer.
-use crate::lent;
 use bristol::Written;
 use bristol::WrittenLines;
 use solver::Answer;
-use solver::Verdict;
 ghost use mathlib.Core.Path.{_≡_};
 ghost use Prim.Native.Nat.{min};
 ghost use lib.ListN as ListN;
 ghost use Rattle.bristol.specs.Writing as Writing;
 ghost use Rattle.lines.specs.Answers.{answerText};
-ghost use Rattle.interface.specs.Codes.{codeOf, lineCode, lineNumbers, linesCode, linesNumbers, verdictFrom, answerFrom};
-ghost use Rattle.interface.specs.Lent.{dimensions, front, textOutcome, textWritten, lengthWritten};
+ghost use Rattle.lent.specs.Codes.{codeOf};
+ghost use Rattle.interface.specs.Codes.{lineCode, lineNumbers, linesCode, linesNumbers, answerFrom};
+ghost use Rattle.lent.specs.Lent.{dimensions, front, textOutcome};
+ghost use Rattle.interface.specs.Lent.{textWritten, lengthWritten};
 
 // Writes the line of a number, from 0, over the front of the bytes, and its length, 0 past the last line; 1, 2, 9 or 11 where it is turned back.
 #[no_mangle]
@@ -69,17 +69,6 @@ pub extern "C" fn forkhemit_write_lines(
     }
 }
 
-// The verdict of a number, with a model as a word.
-fn verdict_from(number: u64, model: u64) -> Verdict
-    ensures { λ r. ⌜ r ≡ verdictFrom number model ⌝ }
-{
-    match number {
-        1 => Verdict::Satisfiable((model & 0xffff_ffff) as u32),
-        2 => Verdict::Unsatisfiable,
-        _ => Verdict::Unknown,
-    }
-}
-
 // Writes the answer as the pair program prints it, and its length; 11 where it is longer than the bytes. A model's first n variables are printed, 32 at most.
 #[no_mangle]
 pub extern "C" fn forkhemit_answer(
@@ -96,7 +85,7 @@ pub extern "C" fn forkhemit_answer(
 {
     let answer = Answer {
         count,
-        verdict: verdict_from(verdict, model),
+        verdict: lent::verdict_from(verdict, model),
     };
     lent::put_text(lines::answer_text(lent::byte(n), answer), bytes, length)
 }

@@ -5,23 +5,9 @@ use mathlib.Core.List.{[], _∷_}
 use Prim.Native.Nat.{ℕ}
 use Rattle.words.specs.Booleans.{digit}
 use Rattle.repeats.specs.declared.Applied.{Applied}
-use Rattle.interface.specs.Codes.{codeOf}
-use Rattle.interface.specs.Lent.{frontIf, storedIf}
-use Rattle.interface.proofs.Fronts.{bool-digit}
-use Rattle.interface.proofs.Entries.{apply-is, bytes-are, wires-are}
-use mathlib.Core.Path.{ap, _∙_}
-use mathlib.Core.List.{[], _∷_}
-use Rattle.words.specs.Booleans.{digit}
-use Rattle.repeats.specs.declared.Applied.{Applied}
-use Rattle.interface.specs.Codes.{codeOf}
-use Rattle.interface.specs.Lent.{frontIf, storedIf}
-use Rattle.interface.proofs.Entries.{apply-is, bytes-are, wires-are}
-use mathlib.Core.Path.{ap, _∙_}
-use mathlib.Core.List.{[], _∷_}
-use Rattle.words.specs.Booleans.{digit}
-use Rattle.repeats.specs.declared.Applied.{Applied}
-use Rattle.interface.specs.Codes.{codeOf}
-use Rattle.interface.specs.Lent.{frontIf, storedIf}
+use Rattle.lent.specs.Codes.{codeOf}
+use Rattle.lent.specs.Lent.{frontIf, storedIf}
+use Rattle.lent.proofs.Fronts.{bool-digit}
 use Rattle.interface.proofs.Entries.{apply-is, bytes-are, wires-are}
 use borrow.Author.Needs.{needs}
 use Rattle.interface.proofs.circuits.forkhemit_apply.Statement.{statement}

@@ -3,17 +3,7 @@
 use mathlib.Core.Path.{sym, ap, _∙_}
 use Rattle.generator.specs.declared.Generated.{Generated}
 use Rattle.interface.specs.Codes.{generatedCode, generatedNumbers}
-use Rattle.interface.specs.Lent.{front}
-use Rattle.interface.proofs.Entries.{generate-is, gates-are, carried-is}
-use mathlib.Core.Path.{sym, ap, _∙_}
-use Rattle.generator.specs.declared.Generated.{Generated}
-use Rattle.interface.specs.Codes.{generatedCode, generatedNumbers}
-use Rattle.interface.specs.Lent.{front}
-use Rattle.interface.proofs.Entries.{generate-is, gates-are, carried-is}
-use mathlib.Core.Path.{sym, ap, _∙_}
-use Rattle.generator.specs.declared.Generated.{Generated}
-use Rattle.interface.specs.Codes.{generatedCode, generatedNumbers}
-use Rattle.interface.specs.Lent.{front}
+use Rattle.lent.specs.Lent.{front}
 use Rattle.interface.proofs.Entries.{generate-is, gates-are, carried-is}
 use borrow.Author.Needs.{needs}
 use Rattle.interface.proofs.circuits.forkhemit_generate.Statement.{statement}

@@ -5,8 +5,8 @@ use Rattle.refusals.specs.declared.Outcome.{Outcome}
 use Rattle.state.specs.declared.Run.{Run}
 use Rattle.stored.specs.Words.{stored}
 use Rattle.wires.specs.Reading.{readBack}
-use Rattle.interface.specs.Codes.{codeOf}
-use Rattle.interface.specs.Lent.{storedIf}
+use Rattle.lent.specs.Codes.{codeOf}
+use Rattle.lent.specs.Lent.{storedIf}
 use Rattle.interface.proofs.Rooms.{stored-room, back-refused, back-decided, back-run}
 use borrow.Author.Needs.{needs}
 use Rattle.interface.proofs.circuits.forkhemit_read_back.Statement.{statement}

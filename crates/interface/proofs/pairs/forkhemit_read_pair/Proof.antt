@@ -5,8 +5,9 @@ use Prim.Native.Nat.{_*_}
 use lib.ListN.{length, take}
 use Rattle.dimacs.specs.declared.Pair.{Pair}
 use Rattle.refusals.specs.declared.Outcome.{Outcome}
-use Rattle.interface.specs.Codes.{codeOf}
-use Rattle.interface.specs.Lent.{frontIf, pairIn, pairOutcome, pairRoom, pairNumbers}
+use Rattle.lent.specs.Codes.{codeOf}
+use Rattle.lent.specs.Lent.{frontIf, pairRoom}
+use Rattle.interface.specs.Lent.{pairIn, pairOutcome, pairNumbers}
 use borrow.Author.Needs.{needs}
 use Rattle.interface.proofs.pairs.forkhemit_read_pair.Statement.{statement}
 use Rattle.interface.proofs.pairs.forkhemit_read_pair.Tie as tie

@@ -4,8 +4,8 @@ use mathlib.Core.Path.{sym, ap, _∙_}
 use mathlib.Core.List.{[], _∷_}
 use Prim.Native.Nat.{_*_}
 use native.Mathlib.Omega.{arith}
-use Rattle.interface.specs.Codes.{codeOf}
-use Rattle.interface.specs.Lent.{frontIf}
+use Rattle.lent.specs.Codes.{codeOf}
+use Rattle.lent.specs.Lent.{frontIf}
 use Rattle.interface.proofs.Entries.{size-is, sizes-are, ceiling-low}
 use borrow.Author.Needs.{needs}
 use Rattle.interface.proofs.pairs.forkhemit_sizes.Statement.{statement}

@@ -4,7 +4,7 @@ use mathlib.Core.Path.{sym, ap, _∙_}
 use Rattle.solver.specs.declared.Modelled.{Modelled}
 use Rattle.solver.specs.Answers.{modelOf}
 use Rattle.interface.specs.Codes.{modelCode, modelNumbers}
-use Rattle.interface.specs.Lent.{front}
+use Rattle.lent.specs.Lent.{front}
 use borrow.Author.Needs.{needs}
 use Rattle.interface.proofs.runs.forkhemit_model.Statement.{statement}
 use Rattle.interface.proofs.runs.forkhemit_model.Tie as tie

@@ -5,21 +5,7 @@ use mathlib.Core.List.{[], _∷_}
 use Prim.Native.Nat.{ℕ}
 use Rattle.solver.specs.declared.Solved.{Solved}
 use Rattle.interface.specs.Codes.{solvedCode, solvedNumbers}
-use Rattle.interface.specs.Lent.{front}
-use Rattle.interface.proofs.Entries.{solve-is}
-use mathlib.Core.Path.{sym, ap, _∙_}
-use mathlib.Core.List.{[], _∷_}
-use Prim.Native.Nat.{ℕ}
-use Rattle.solver.specs.declared.Solved.{Solved}
-use Rattle.interface.specs.Codes.{solvedCode, solvedNumbers}
-use Rattle.interface.specs.Lent.{front}
-use Rattle.interface.proofs.Entries.{solve-is}
-use mathlib.Core.Path.{sym, ap, _∙_}
-use mathlib.Core.List.{[], _∷_}
-use Prim.Native.Nat.{ℕ}
-use Rattle.solver.specs.declared.Solved.{Solved}
-use Rattle.interface.specs.Codes.{solvedCode, solvedNumbers}
-use Rattle.interface.specs.Lent.{front}
+use Rattle.lent.specs.Lent.{front}
 use Rattle.interface.proofs.Entries.{solve-is}
 use borrow.Author.Needs.{needs}
 use Rattle.interface.proofs.runs.forkhemit_solve.Statement.{statement}

@@ -2,18 +2,8 @@
 -- Assumes nothing.
 use mathlib.Core.Path.{ap, _∙_}
 use Rattle.solver.specs.declared.Stepped.{Stepped}
-use Rattle.interface.specs.Codes.{codeOf}
-use Rattle.interface.specs.Lent.{storedIf}
-use Rattle.interface.proofs.Entries.{step-is}
-use mathlib.Core.Path.{ap, _∙_}
-use Rattle.solver.specs.declared.Stepped.{Stepped}
-use Rattle.interface.specs.Codes.{codeOf}
-use Rattle.interface.specs.Lent.{storedIf}
-use Rattle.interface.proofs.Entries.{step-is}
-use mathlib.Core.Path.{ap, _∙_}
-use Rattle.solver.specs.declared.Stepped.{Stepped}
-use Rattle.interface.specs.Codes.{codeOf}
-use Rattle.interface.specs.Lent.{storedIf}
+use Rattle.lent.specs.Codes.{codeOf}
+use Rattle.lent.specs.Lent.{storedIf}
 use Rattle.interface.proofs.Entries.{step-is}
 use borrow.Author.Needs.{needs}
 use Rattle.interface.proofs.runs.forkhemit_step.Statement.{statement}

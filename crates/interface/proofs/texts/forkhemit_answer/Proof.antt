@@ -9,8 +9,9 @@ use Rattle.text.specs.declared.Text.{Text}
 use Rattle.text.specs.Texts.{textOf}
 use Rattle.solver.specs.declared.Verdict.{Verdict}
 use Rattle.lines.specs.Answers.{answerText}
-use Rattle.interface.specs.Codes.{codeOf, answerFrom}
-use Rattle.interface.specs.Lent.{frontIf, textOutcome}
+use Rattle.lent.specs.Codes.{codeOf}
+use Rattle.interface.specs.Codes.{answerFrom}
+use Rattle.lent.specs.Lent.{frontIf, textOutcome}
 use Rattle.interface.proofs.Rooms.{text-back}
 use borrow.Author.Needs.{needs}
 use Rattle.interface.proofs.texts.forkhemit_answer.Statement.{statement}

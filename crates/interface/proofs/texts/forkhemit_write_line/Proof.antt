@@ -3,7 +3,7 @@
 use mathlib.Core.Path.{sym, ap, _∙_}
 use Rattle.bristol.specs.declared.Written.{Written}
 use Rattle.interface.specs.Codes.{lineCode, lineNumbers}
-use Rattle.interface.specs.Lent.{front}
+use Rattle.lent.specs.Lent.{front}
 use Rattle.interface.proofs.Entries.{line-is, line-bytes-are}
 use borrow.Author.Needs.{needs}
 use Rattle.interface.proofs.texts.forkhemit_write_line.Statement.{statement}

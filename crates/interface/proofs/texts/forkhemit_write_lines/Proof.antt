@@ -3,7 +3,7 @@
 use mathlib.Core.Path.{sym, ap, _∙_}
 use Rattle.bristol.specs.declared.WrittenLines.{WrittenLines}
 use Rattle.interface.specs.Codes.{linesCode, linesNumbers}
-use Rattle.interface.specs.Lent.{front}
+use Rattle.lent.specs.Lent.{front}
 use Rattle.interface.proofs.Entries.{lines-are, lines-bytes-are}
 use borrow.Author.Needs.{needs}
 use Rattle.interface.proofs.texts.forkhemit_write_lines.Statement.{statement}

@@ -1,0 +1,30 @@
+-- Results as numbers, and a verdict from numbers.
+use Prim.Native.Nat.{ℕ, _%_, _^_}
+use mathlib.Core.Bool.{cond}
+use lib.Dec.{eqb}
+use Rattle.refusals.specs.Numbers.{numberOf}
+use Rattle.refusals.specs.declared.Outcome.{Outcome}
+use Rattle.refusals.specs.declared.Outcome.the-variants.{Taken, Refused}
+use Rattle.solver.specs.declared.Verdict.{Verdict}
+use Rattle.solver.specs.declared.Verdict.the-variants.{Satisfiable, Unsatisfiable, Unknown}
+
+-- 0 where the call was taken, else the refusal's number
+abbrev pub codeOf : Outcome → ℕ
+codeOf Taken = 0
+codeOf (Refused r) = numberOf r
+
+-- the number of the standing that the verdict follows from
+abbrev pub verdictNumber : Verdict → ℕ
+verdictNumber Unknown = 0
+verdictNumber (Satisfiable model) = 1
+verdictNumber Unsatisfiable = 2
+
+-- 0 without a model
+abbrev pub modelWord : Verdict → ℕ
+modelWord Unknown = 0
+modelWord (Satisfiable model) = model
+modelWord Unsatisfiable = 0
+
+-- the verdict of a number: any other than 1 and 2 is unknown; a model has 32 variables
+abbrev pub verdictFrom : ℕ → ℕ → Verdict
+verdictFrom k model = cond (eqb k 1) (Satisfiable (model % 2 ^ 32)) (cond (eqb k 2) Unsatisfiable Unknown)
