@@ -37,24 +37,34 @@ pub fn evaluate(gates: &[u32], inputs: &[u8], wires: &mut [u8]) -> Outcome
     judge_first(gates, inputs, wires)
 }
 
-// Evaluates in an array of its own, judging each gate in passing, then copies: the gates are read once.
+// Tries the gates out in an array of its own.
 fn try_out(gates: &[u32], inputs: &[u8], wires: &mut [u8]) -> Outcome
     requires { ⌜ length (now inputs) + length (now gates) / 3 ≤ 204800 ⌝ }
     requires { ⌜ Memory.bits (now inputs) ≡ true ⌝ }
     ensures { λ r. ⌜ r ≡ outcome (checks (now (gates .entry)) (now (inputs .entry)) (now (wires .entry))) ⌝ }
     ensures { λ _. ⌜ now (wires .exit) ≡ filled (now (gates .entry)) (now (inputs .entry)) (now (wires .entry)) ⌝ }
 {
+    let mut own = [0u8; 204800];
+    try_in(gates, inputs, &mut own, wires)
+}
+
+// Evaluates in a scratch buffer, judging each gate in passing, then copies: the gates are read once.
+fn try_in(gates: &[u32], inputs: &[u8], scratch: &mut [u8], wires: &mut [u8]) -> Outcome
+    requires { ⌜ length (now inputs) + length (now gates) / 3 ≤ length (now scratch) ⌝ }
+    requires { ⌜ Memory.bits (now inputs) ≡ true ⌝ }
+    ensures { λ r. ⌜ r ≡ outcome (checks (now (gates .entry)) (now (inputs .entry)) (now (wires .entry))) ⌝ }
+    ensures { λ _. ⌜ now (wires .exit) ≡ filled (now (gates .entry)) (now (inputs .entry)) (now (wires .entry)) ⌝ }
+{
     let n = inputs.len();
     let count = n + gates.len() / 3;
-    let mut own = [0u8; 204800];
-    bytes::copy(inputs, &mut own);
-    if !trial(gates, &mut own, n) {
+    bytes::copy(inputs, scratch);
+    if !trial(gates, scratch, n) {
         return Outcome::Refused(Refusal::Gates);
     }
     if wires.len() < count {
         return Outcome::Refused(Refusal::Wires);
     }
-    bytes::copy(&own[..count], wires);
+    bytes::copy(&scratch[..count], wires);
     Outcome::Taken
 }
 

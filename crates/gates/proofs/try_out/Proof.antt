@@ -1,99 +1,22 @@
--- `try_out` meets its contract: the trial says whether the gates are accepted, and each return cites the law of what its checks found.
+-- `try_out` meets its contract, which is that of the trial in the array: the array is as long as the trial asks.
 -- Assumes nothing.
-use borrow.Author.Needs.{needs}
-use mathlib.Core.Path.{_≡_, sym, _∙_, ap}
-use mathlib.Core.Bool.{true}
-use Prim.Native.Nat.{_+_, _/_, _≤_}
-use native.Mathlib.Omega.{arith}
-use borrow.Author.Tests.{not-true, not-false}
-use lib.ListN.{length}
-use lib.Seq.{length-take-le}
-use Rattle.gates.specs.Memory.{accepted, bits}
-use Rattle.gates.proofs.Running.{copied, copied-out, given-so}
-use Rattle.gates.proofs.Evaluation.{no-gates, no-room, taken}
+use mathlib.Core.Path.{sym}
+use Prim.Native.Nat.{ℕ}
+use lib.ListN.{length-replicate}
 use Rattle.gates.proofs.try_out.Statement.{statement}
 use Rattle.gates.proofs.try_out.Tie as tie
 
-add-count : tie.Need-add-count
-add-count c = search needs
+slice-aggregate-try-in : tie.Need-slice-aggregate-try-in
+slice-aggregate-try-in c = sym (length-replicate {A = ℕ} 204800 0)
 
-slice-aggregate-copy : tie.Need-slice-aggregate-copy
-slice-aggregate-copy c = search needs
-
-copy-requires : tie.Need-copy-requires
-copy-requires c κs = search needs
-
-slice-aggregate-trial : tie.Need-slice-aggregate-trial
-slice-aggregate-trial c = search needs
-
-trial-requires : tie.Need-trial-requires
-trial-requires c κs =
-    let k = c .before .before .copy in
-    let s = c .before .before .before .before .before .before .before in
-    (omega (arith, k .kept .1 .0), ap bits (copied (s .args .inputs .now) _ _ (k .ensures .1)) ∙ s .pre .1)
-
-returns : tie.Need-returns
-returns c =
-    let a = c .before .before .before .before .before .before .before .before .before .before .args in
-    let t = c .before .before .trial in
-    no-gates (a .gates .now) (a .inputs .now) (a .wires .now) (sym (t .ensures .0) ∙ not-true (t .result) (c .if1 .taken))
-
--- the gates were taken
-good : (c : tie.Else1) → let s = c .before .before .before .before .before .before .before .before .before .before in accepted (length (s .args .inputs .now)) (s .args .gates .now) ≡ true
-good c = let t = c .before .before .trial in sym (t .ensures .0) ∙ not-false (t .result) (c .if1 .left)
-
-returns-2 : tie.Need-returns-2
-returns-2 c =
-    let a = c .before .before .before .before .before .before .before .before .before .before .before .args in
-    no-room (a .gates .now) (a .inputs .now) (a .wires .now) (good (c .before)) (omega (arith, c .if2 .taken))
-
-array-share-prefix-own : tie.Need-array-share-prefix-own
-array-share-prefix-own c = search needs
-
--- the values that are copied are as many as inputs and gates
-many : (c : tie.After-own5)
-    → let a = c .before .before .before .before .before .before .before .before .before .before .before .before .args in
-    length (a .inputs .now) + length (a .gates .now) / 3 ≤ length (c .before .before .before .before .trial .last .1 .0)
-many c = omega (arith, c .before .before .before .before .trial .kept .1 .0, c .before .before .before .before .before .before .before .copy .kept .1 .0, c .before .before .before .before .before .before .before .before .before .before .before .before .pre .0)
-
-slice-aggregate-copy-2 : tie.Need-slice-aggregate-copy-2
-slice-aggregate-copy-2 c = sym (length-take-le _ _ (many c))
-
-copy-requires-2 : tie.Need-copy-requires-2
-copy-requires-2 c κs =
-    let a = c .before .before .before .before .before .before .before .before .before .before .before .before .before .args in
-    let v = c .before .before .before .before .before .trial .last .1 .0 in
-    omega (arith, length-take-le (length (a .inputs .now) + length (a .gates .now) / 3) v (many (c .before)), c .before .before .if2 .left)
+try-in-requires : tie.Need-try-in-requires
+try-in-requires c κs = let s = c .before .before .before .before .before in (rw (length-replicate {A = ℕ} 204800 0) (s .pre .0), s .pre .1)
 
 same-length : tie.Need-same-length
-same-length c = search needs
+same-length c = c .before .before .before .try-in .kept .1 .1 .1 .0
 
-returns-3 : tie.Need-returns-3
-returns-3 c =
-    let o = c .before .before .before .before in
-    let e = o .before .before in
-    let s = o .before .before .before .before .before .before .before .before .before .before .before .before in
-    let a = s .args in
-    let t = e .before .before .trial in
-    let g = good e in
-    let k = taken (a .gates .now) (a .inputs .now) (a .wires .now) g (omega (arith, o .before .if2 .left)) (s .pre .1) in
-    let v = given-so (t .result) _ _ (not-false (t .result) (e .if1 .left)) (t .ensures .1) in
-    let w = copied-out (a .inputs .now) _ _ (e .before .before .before .before .before .copy .ensures .1) (a .gates .now) g _ v (a .wires .now) _ (c .before .before .copy2 .ensures .1) in
-    (k .0, w ∙ k .1)
+returns : tie.Need-returns
+returns c = c .before .before .before .try-in .ensures
 
 pub try-out-spec : {M : Type 1} → statement M
-try-out-spec =
-    tie.close
-    (tie.spec
-    add-count
-    slice-aggregate-copy
-    copy-requires
-    slice-aggregate-trial
-    trial-requires
-    returns
-    returns-2
-    array-share-prefix-own
-    slice-aggregate-copy-2
-    copy-requires-2
-    same-length
-    returns-3)
+try-out-spec = tie.close (tie.spec slice-aggregate-try-in try-in-requires same-length returns)
