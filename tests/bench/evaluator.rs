@@ -1,5 +1,5 @@
-//! Times the proved evaluator beside its gate loop in Rust without checks, and beside two passes that judge too, on circuits of
-//! 200,000 gates.
+//! Times the proved evaluator beside its own gate loop in Rust without checks, beside other forms of that loop, and beside two passes
+//! that judge too, on circuits of 200,000 gates.
 //! Linked with the library that `rt staticlib interface` writes; see the Makefile.
 
 use std::time::{Duration, Instant};
@@ -55,7 +55,7 @@ fn same_passes(gates: &[u32], inputs: &[u8], wires: &mut [u8]) -> bool {
 }
 
 /// The gate loop, the values shifted out of a word, with nothing judged and no index checked: the quickest form found.
-fn same_loop(gates: &[u32], inputs: &[u8], wires: &mut [u8]) {
+fn by_a_shift(gates: &[u32], inputs: &[u8], wires: &mut [u8]) {
     wires[..inputs.len()].copy_from_slice(inputs);
     for (g, gate) in gates.chunks_exact(3).enumerate() {
         // The gates of `circuit` name earlier wires alone, and the buffer has a byte for each.
@@ -68,7 +68,7 @@ fn same_loop(gates: &[u32], inputs: &[u8], wires: &mut [u8]) {
 }
 
 /// The gate loop as the proved evaluator has it, the values looked up in bytes, with nothing judged and no index checked.
-fn same_table(gates: &[u32], inputs: &[u8], wires: &mut [u8]) {
+fn same_loop(gates: &[u32], inputs: &[u8], wires: &mut [u8]) {
     wires[..inputs.len()].copy_from_slice(inputs);
     for (g, gate) in gates.chunks_exact(3).enumerate() {
         // The gates of `circuit` name known kinds and earlier wires alone, and the buffer has a byte for each.
@@ -143,7 +143,7 @@ fn main() {
     );
     println!(
         "{:<30}{:>8}{:>11}{:>12}{:>13}{:>13}",
-        "", "proved", "same loop", "same table", "gates alone", "same passes"
+        "", "proved", "same loop", "by a shift", "gates alone", "same passes"
     );
     for (label, at_random, near) in [
         ("kinds at random, any wire", true, u64::MAX),
@@ -156,13 +156,13 @@ fn main() {
         let mut times = vec![vec![]; 5];
         for _ in 0..RUNS {
             times[0].push(timed(|| assert_eq!(proved(&gates, &inputs, &mut wires[0]), 0)));
-            times[1].push(timed(|| same_loop(&gates, &inputs, &mut wires[1])));
+            times[1].push(timed(|| by_a_shift(&gates, &inputs, &mut wires[1])));
             times[2].push(timed(|| gates_alone(&gates, &inputs, &mut wires[2])));
             times[3].push(timed(|| assert!(same_passes(&gates, &inputs, &mut wires[3]))));
-            times[4].push(timed(|| same_table(&gates, &inputs, &mut wires[4])));
+            times[4].push(timed(|| same_loop(&gates, &inputs, &mut wires[4])));
         }
         assert!(wires.iter().all(|filled| filled == &wires[0]), "all fill the same wires");
         let [p, l, g, s, t] = [0, 1, 2, 3, 4].map(|k| median(times[k].clone()));
-        println!("{label:<30}{p:>5.0} us{:>11.2}{:>12.2}{:>13.2}{:>13.2}", l / p, t / p, g / p, s / p);
+        println!("{label:<30}{p:>5.0} us{:>11.2}{:>12.2}{:>13.2}{:>13.2}", t / p, l / p, g / p, s / p);
     }
 }
