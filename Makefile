@@ -6,12 +6,17 @@
 test:
 	.ci/run
 
-target/bin/pair: crates.txt $(shell find crates -name '*.rt' -o -name '*.antt')
+target/obj/pair.o: crates.txt $(shell find crates -name '*.rt' -o -name '*.antt')
 	rt check pair
 	touch $@
 
-run: target/bin/pair
-	cd examples/harbour && ../../target/bin/pair <budget
+# Linked statically, with the kit's C code that opens files: to load a shared C library takes longer than to solve.
+target/static/pair: target/obj/pair.o
+	mkdir -p target/static
+	cc -static -o $@ $< $(dir $(shell rt doc))../lib/libos_c.a
+
+run: target/static/pair
+	cd examples/harbour && ../../target/static/pair <budget
 
 # declared in include/forkhemit.h
 lib: target/lib/libforkhemit.a
@@ -35,11 +40,11 @@ examples: target/examples/host-c target/examples/host-rust
 	  ../../target/examples/$$host left.cnf right.cnf $$(cat budget) | tee ../../target/examples/$$host.out && cmp ../../target/examples/$$host.out answer || exit 1; \
 	done
 
-bench: target/bin/pair target/lib/libforkhemit.a
+bench: target/static/pair target/lib/libforkhemit.a
 	cargo build --quiet --release --bins --offline --locked --manifest-path tests/Cargo.toml
 	@lscpu | sed -n 's/^Model name: */on /p'
-	tests/target/release/bench target/bin/pair
-	tests/target/release/bench-tables target/bin/pair
+	tests/target/release/bench target/static/pair
+	tests/target/release/bench-tables target/static/pair
 	tests/target/release/bench-library
 	rustc -O --edition 2021 tests/bench/evaluator.rs -L native=target/lib -l static=forkhemit -o target/bench-evaluator
 	target/bench-evaluator

@@ -70,8 +70,9 @@ fn brought() -> Vec<Test> {
     ]
 }
 
-/// The cases of folder cases, the examples of the repository, and the example of document 01 brought in other ways.
-pub fn group(own: &Path) -> std::io::Result<Group<'static>> {
+/// The cases of folder cases, the examples of the repository, and the example of document 01 brought in other ways; those alone
+/// whose files `fit`.
+pub fn group(own: &Path, fit: impl Fn(&Source) -> bool) -> std::io::Result<Group<'static>> {
     let mut tests = brought();
     for (folder, input, output) in [("cases", "stdin", "expected"), ("../examples", "budget", "answer")] {
         for case in fs::read_dir(own.join(folder))? {
@@ -81,6 +82,7 @@ pub fn group(own: &Path) -> std::io::Result<Group<'static>> {
             }
         }
     }
+    tests.retain(|test| fit(&test.left) && fit(&test.right));
     tests.sort_by(|a, b| a.name.cmp(&b.name));
     let title = format!("{} cases with written answers", tests.len());
     Ok(Group { title, count: tests.len(), make: Box::new(move |number| vec![tests[number].clone()]) })

@@ -13,13 +13,10 @@ const PATIENCE: u64 = 300;
 
 /// A case as the pair program takes it, where its standard input is a budget line.
 fn written(own: &Path) -> std::io::Result<Vec<Test>> {
-    let group = cases::group(own)?;
+    let plain = |source: &Source| matches!(source, Source::Text(_) | Source::Missing | Source::Directory);
+    let group = cases::group(own, plain)?;
     let tests = (0..group.count).flat_map(|number| (group.make)(number));
-    let kept = |test: &Test| {
-        let whole = |source: &Source| matches!(source, Source::Text(_) | Source::Missing | Source::Directory);
-        whole(&test.left) && whole(&test.right) && !test.held && model::budget(&test.input).is_ok()
-    };
-    Ok(tests.filter(kept).collect())
+    Ok(tests.filter(|test| !test.held && model::budget(&test.input).is_ok()).collect())
 }
 
 /// The public files in halves, closed or cut off.

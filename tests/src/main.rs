@@ -1,8 +1,10 @@
 //! The project's own tests. Use: check CRATES [PROGRAM..]
 //! CRATES is the folder of crates, whose contracts are looked at; each PROGRAM is a compiled program, known by its name,
-//! `pair`, `circuit`, `host-c` or `host-rust`. A host is held to the pair program, which must be given too.
+//! `pair`, `circuit`, `host-c` or `host-rust`. A host is held to the pair program, which must be given too. A `pair` in a folder
+//! `static` is linked statically: nothing can be loaded before it that cuts what it reads into parts, and those tests are left out.
 //! The last line is `N passed, M failed`, and the status 0 where M is 0.
 
+use forkhemit_tests::process::Source;
 use forkhemit_tests::report::{self, Tally};
 use forkhemit_tests::{cases, circuits, contracts, damage, hosts, pictures, public, tables};
 use std::path::Path;
@@ -15,14 +17,20 @@ fn present(solver: &str) -> bool {
     Command::new(solver).arg("--version").stdout(Stdio::null()).stderr(Stdio::null()).status().is_ok()
 }
 
+/// The tests of the pair program; of the one that is linked statically, those that were written by hand and the public files.
 fn pair_tests(program: &Path, own: &Path) -> std::io::Result<Tally> {
     let missing = || std::io::Error::new(std::io::ErrorKind::NotFound, format!("none of {SOLVERS:?} is installed"));
     let solver = SOLVERS.into_iter().find(|solver| present(solver)).ok_or_else(missing)?;
     println!("verdicts are compared with {solver}");
     let files = public::files(&own.join("dimacs"))?;
     let [listed, damaged] = damage::groups();
+    let groups = if program.parent().is_some_and(|folder| folder.ends_with("static")) {
+        vec![cases::group(own, Source::is_whole)?, public::group(&files)]
+    } else {
+        vec![cases::group(own, |_| true)?, public::group(&files), tables::group(), listed, damaged]
+    };
     let mut total = Tally::default();
-    for group in [cases::group(own)?, public::group(&files), tables::group(), listed, damaged] {
+    for group in groups {
         total.add(report::run(&group, program, solver)?);
     }
     Ok(total)

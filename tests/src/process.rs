@@ -38,6 +38,11 @@ impl Source {
             _ => None,
         }
     }
+
+    /// Whether it is read as the machine gives it, not in parts by a library that is loaded before the program.
+    pub fn is_whole(&self) -> bool {
+        !matches!(self, Source::Slow(_) | Source::Breaking(_) | Source::Faltering(_))
+    }
 }
 
 /// What a program did.
