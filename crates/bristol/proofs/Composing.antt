@@ -10,8 +10,8 @@ use lib.Seq.{sets, sets-eq, length-sets, take-length, take-append-seam, drop-dro
 use Rattle.lexer.specs.Spelling.{bytes}
 use Rattle.text.specs.Decimal.{decimal}
 use Rattle.text.proofs.Decimals.{decimal-digit, decimal-step, decimal-length}
-use Rattle.tables.specs.declared.Dimensions.{Dimensions}
-use Rattle.tables.specs.Sizes.{stateWires}
+use Rattle.dimensions.specs.declared.Dimensions.{Dimensions}
+use Rattle.dimensions.specs.Sizes.{stateWires}
 use Rattle.gates.specs.Gates.{Gate}
 use Rattle.gates.specs.Gates.Gate.{XOR, AND, INV}
 use Rattle.bristol.proofs.Parts.{lent-part, put-back}

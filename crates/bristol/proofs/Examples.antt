@@ -4,7 +4,7 @@ use mathlib.Core.Path.{_≡_, refl}
 use mathlib.Core.List.{[], _∷_, flatten}
 use Rattle.lexer.specs.Spelling.{bytes}
 use Rattle.text.specs.Decimal.{decimalWithin, decimal}
-use Rattle.tables.specs.declared.Dimensions.{Dimensions}
+use Rattle.dimensions.specs.declared.Dimensions.{Dimensions}
 use Rattle.gates.specs.Gates.Gate.{XOR, AND, INV}
 use Rattle.bristol.specs.Writing.{fitting}
 use Rattle.bristol.specs.Lines.{inputLine, outputLine, gateLine, gateLines, linesOf, circuitText}

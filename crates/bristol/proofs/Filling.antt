@@ -17,7 +17,7 @@ use lib.Seq.{length-take-le, take-at, drop-at, drop-drop}
 use Rattle.refusals.specs.declared.Refusal.the-variants.{LineBuffer}
 use Rattle.refusals.specs.declared.Outcome.the-variants.{Taken}
 use Rattle.refusals.specs.Checks.{outcome}
-use Rattle.tables.specs.declared.Dimensions.{Dimensions}
+use Rattle.dimensions.specs.declared.Dimensions.{Dimensions}
 use Rattle.gates.specs.Memory.{gatesOf}
 use Rattle.gates.specs.Evaluation.{over}
 use Rattle.bristol.specs.declared.Written.{Written}

@@ -13,9 +13,9 @@ use Rattle.words.proofs.Truth.{and-l, and-r, and-i, not-f, on}
 use Rattle.lexer.specs.Spelling.{bytes}
 use Rattle.text.specs.Decimal.{decimal}
 use Rattle.text.proofs.Decimals.{isDigit, allDigits, decimal-digits, decimal-injective}
-use Rattle.tables.specs.declared.Dimensions.{Dimensions}
-use Rattle.tables.specs.Sizes.{stateWires, inputWires}
-use Rattle.tables.proofs.Products.{product}
+use Rattle.dimensions.specs.declared.Dimensions.{Dimensions}
+use Rattle.dimensions.specs.Sizes.{stateWires, inputWires}
+use Rattle.dimensions.proofs.Products.{product}
 use Rattle.gates.specs.Gates.{Gate}
 use Rattle.gates.specs.Gates.Gate.{XOR, AND, INV}
 use Rattle.gates.specs.Memory.{gatesOf, wordsOf, accepted}

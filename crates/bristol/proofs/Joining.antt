@@ -15,7 +15,7 @@ use Rattle.refusals.specs.declared.Refusal.the-variants.{LineBuffer}
 use Rattle.refusals.specs.declared.Outcome.{Outcome}
 use Rattle.refusals.specs.declared.Outcome.the-variants.{Taken, Refused}
 use Rattle.refusals.specs.Checks.{outcome}
-use Rattle.tables.specs.declared.Dimensions.{Dimensions}
+use Rattle.dimensions.specs.declared.Dimensions.{Dimensions}
 use Rattle.gates.specs.Memory.{gatesOf}
 use Rattle.gates.specs.Evaluation.{over}
 use Rattle.bristol.specs.declared.Written.{Written}

@@ -6,8 +6,8 @@ use lib.ListN.{length, getD, drop}
 use lib.Dec.{ltb}
 use Rattle.refusals.specs.declared.Refusal.the-variants.{Gates, LineBuffer}
 use Rattle.refusals.specs.Checks.{Check, check, outcome, given}
-use Rattle.tables.specs.declared.Dimensions.{Dimensions}
-use Rattle.tables.specs.Sizes.{sizeChecks, inputWires}
+use Rattle.dimensions.specs.declared.Dimensions.{Dimensions}
+use Rattle.dimensions.specs.Sizes.{sizeChecks, inputWires}
 use Rattle.gates.specs.Memory.{gatesOf, accepted}
 use Rattle.gates.specs.Evaluation.{over}
 use Rattle.bristol.specs.declared.Written.{Written}

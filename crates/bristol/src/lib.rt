@@ -1,7 +1,7 @@
 // The circuit text in Bristol Fashion, one line or as many as fit (document 01, "Circuit"). Turned back: 1, 2, 9, then 11.
+use dimensions::Dimensions;
 use refusals::Outcome;
 use refusals::Refusal;
-use tables::Dimensions;
 ghost use mathlib.Core.Path.{_≡_};
 ghost use mathlib.Core.Bool.{true};
 ghost use mathlib.Core.List.{[], _∷_, _++_};
@@ -12,7 +12,7 @@ ghost use Rattle.refusals.specs.Checks.{outcome};
 ghost use Rattle.refusals.specs.declared.Outcome.the-variants.{Taken};
 ghost use Rattle.lexer.specs.Spelling as Spelling;
 ghost use Rattle.text.specs.Decimal.{decimal};
-ghost use Rattle.tables.specs.Sizes.{inputWires};
+ghost use Rattle.dimensions.specs.Sizes.{inputWires};
 ghost use Rattle.gates.specs.Memory as Memory;
 ghost use Rattle.gates.specs.Gates.Gate.{INV};
 ghost use Rattle.bristol.specs.Lines as Lines;

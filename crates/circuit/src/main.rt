@@ -1,12 +1,12 @@
 // The circuit program: reads n and the two row counts on standard input, and prints the text of their circuit, or the refusal alone.
 use bristol::WrittenLines;
+use dimensions::Dimensions;
+use dimensions::Sized;
 use generator::Generated;
 use libc::STDIN_FILENO;
 use libc::STDOUT_FILENO;
 use lines::Size;
 use refusals::Refusal;
-use tables::Dimensions;
-use tables::Sized;
 ghost use mathlib.Core.Path.{_≡_};
 ghost use Rattle.lines.specs.Numbers.{sizeOf};
 ghost use Rattle.circuit.specs.Line.{dimensionsFrom};

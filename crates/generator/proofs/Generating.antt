@@ -17,8 +17,8 @@ use Rattle.refusals.specs.declared.Outcome.the-variants.{Taken, Refused as Not}
 use Rattle.refusals.specs.Checks.{Check, check, outcome, given}
 use Rattle.refusals.proofs.Outcomes.{outcome-taken, outcome-refused, unless-passed, unless-taken}
 use Rattle.words.proofs.Truth.{or-l, or-r}
-use Rattle.tables.specs.declared.Dimensions.{Dimensions}
-use Rattle.tables.specs.Sizes.{outside, sizeChecks, ceiling}
+use Rattle.dimensions.specs.declared.Dimensions.{Dimensions}
+use Rattle.dimensions.specs.Sizes.{outside, sizeChecks, ceiling}
 use Rattle.gates.specs.Memory.{wordsOf}
 use Rattle.gates.specs.Evaluation.{over}
 use Rattle.gates.proofs.InMemory.{words-length}

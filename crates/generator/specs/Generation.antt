@@ -5,8 +5,8 @@ use lib.Dec.{ltb}
 use lib.ListN.{length, take}
 use Rattle.refusals.specs.declared.Refusal.the-variants.{GateBuffer}
 use Rattle.refusals.specs.Checks.{Check, check, outcome, given}
-use Rattle.tables.specs.declared.Dimensions.{Dimensions}
-use Rattle.tables.specs.Sizes.{sizeChecks, ceiling}
+use Rattle.dimensions.specs.declared.Dimensions.{Dimensions}
+use Rattle.dimensions.specs.Sizes.{sizeChecks, ceiling}
 use Rattle.gates.specs.Memory.{wordsOf}
 use Rattle.gates.specs.Evaluation.{over}
 use Rattle.generator.specs.declared.Generated.{Generated}

@@ -7,9 +7,9 @@ mod judging;
 mod outputs;
 mod templates;
 
+use dimensions::Dimensions;
 use refusals::Outcome;
 use refusals::Refusal;
-use tables::Dimensions;
 ghost use mathlib.Core.Path.{_≡_};
 ghost use Prim.Native.Nat.{_+_, _*_, _≤_};
 ghost use lib.ListN.{length};

@@ -14,9 +14,9 @@ use Rattle.refusals.specs.declared.Refusal.the-variants.{Variables, RowCount}
 use Rattle.refusals.specs.declared.Outcome.{Outcome}
 use Rattle.refusals.specs.declared.Outcome.the-variants.{Taken, Refused}
 use Rattle.refusals.proofs.Outcomes.{unless-passed, unless-taken}
-use Rattle.tables.specs.declared.Dimensions.{Dimensions}
-use Rattle.tables.specs.Sizes.{outside, sizeChecks}
-use Rattle.tables.proofs.Limits.{most}
+use Rattle.dimensions.specs.declared.Dimensions.{Dimensions}
+use Rattle.dimensions.specs.Sizes.{outside, sizeChecks}
+use Rattle.dimensions.proofs.Limits.{most}
 use Rattle.lent.specs.Lent.{dimensions}
 
 -- ---- a limit

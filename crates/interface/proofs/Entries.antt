@@ -7,10 +7,10 @@ use native.Mathlib.Omega.{arith}
 use Rattle.refusals.specs.Checks.{outcome}
 use Rattle.refusals.specs.declared.Outcome.{Outcome}
 use Rattle.refusals.specs.declared.Outcome.the-variants.{Taken, Refused}
-use Rattle.tables.specs.declared.Dimensions.{Dimensions}
-use Rattle.tables.specs.Sizes.{sizeChecks, ceiling}
+use Rattle.dimensions.specs.declared.Dimensions.{Dimensions}
+use Rattle.dimensions.specs.Sizes.{sizeChecks, ceiling}
 use Rattle.tables.specs.Acceptance.{tableChecks}
-use Rattle.tables.proofs.Products.{product}
+use Rattle.dimensions.proofs.Products.{product}
 use Rattle.wires.specs.Packing.{packChecks, packed}
 use Rattle.bristol.specs.declared.Written.{Written}
 use Rattle.bristol.specs.declared.Written.the-variants as written′

@@ -11,8 +11,8 @@ use Rattle.refusals.specs.declared.Refusal.{Refusal}
 use Rattle.refusals.specs.declared.Refusal.the-variants.{RowBuffer, RowBit, GateBuffer, Gates, Wires, LineBuffer}
 use Rattle.refusals.specs.declared.Outcome.the-variants.{Refused}
 use Rattle.refusals.proofs.Outcomes.{outcome-refused}
-use Rattle.tables.specs.declared.Dimensions.{Dimensions}
-use Rattle.tables.specs.Sizes.{sizeChecks, ceiling, inputWires}
+use Rattle.dimensions.specs.declared.Dimensions.{Dimensions}
+use Rattle.dimensions.specs.Sizes.{sizeChecks, ceiling, inputWires}
 use Rattle.tables.specs.Acceptance.{short, high, tableChecks}
 use Rattle.state.specs.declared.Run.{Run}
 use Rattle.solver.specs.declared.Solved.the-variants as solved′

@@ -15,7 +15,7 @@ use Rattle.refusals.specs.declared.Refusal.the-variants.{Variables, State}
 use Rattle.refusals.specs.declared.Outcome.{Outcome}
 use Rattle.refusals.specs.declared.Outcome.the-variants.{Taken, Refused}
 use Rattle.refusals.proofs.Outcomes.{refused-taken, outcome-taken, outcome-refused}
-use Rattle.tables.specs.Sizes.{outside}
+use Rattle.dimensions.specs.Sizes.{outside}
 use Rattle.state.specs.declared.Run.{Run}
 use Rattle.state.specs.State.{fresh, runOf}
 use Rattle.stored.specs.Words.{wordsOf, stored}

@@ -10,8 +10,8 @@ use Rattle.refusals.specs.declared.Refusal.the-variants.{Variables, State}
 use Rattle.dimacs.specs.declared.Pair.{Pair}
 use Rattle.dimacs.specs.Text.{tableOf}
 use Rattle.dimacs.specs.Pair.{pairOf}
-use Rattle.tables.specs.Sizes.{outside, ceiling, inputWires, stateWires}
-use Rattle.tables.specs.declared.Dimensions.{Dimensions}
+use Rattle.dimensions.specs.Sizes.{outside, ceiling, inputWires, stateWires}
+use Rattle.dimensions.specs.declared.Dimensions.{Dimensions}
 use Rattle.solver.specs.declared.Stepped.{Stepped}
 use Rattle.solver.specs.Answers.{stepped}
 use Rattle.stored.specs.Words.{runIn}

@@ -1,7 +1,7 @@
 // Two stations' tables: their sizes, reading them from texts, and whether they are accepted.
 ghost use mathlib.Core.Path.{_≡_};
 ghost use Rattle.refusals.specs.Checks.{outcome};
-ghost use Rattle.tables.specs.Sizes.{sizeChecks};
+ghost use Rattle.dimensions.specs.Sizes.{sizeChecks};
 ghost use Rattle.tables.specs.Acceptance.{tableChecks};
 ghost use Rattle.lent.specs.Codes.{codeOf};
 ghost use Rattle.lent.specs.Lent.{dimensions, frontIf};

@@ -10,7 +10,7 @@ use Rattle.refusals.specs.declared.Outcome.{Outcome}
 use Rattle.refusals.specs.declared.Outcome.the-variants.{Refused}
 use Rattle.refusals.specs.declared.Refusal.the-variants.{RowBuffer, LineBuffer}
 use Rattle.dimacs.specs.declared.Pair.{Pair}
-use Rattle.tables.specs.declared.Dimensions.{Dimensions}
+use Rattle.dimensions.specs.declared.Dimensions.{Dimensions}
 use Rattle.state.specs.declared.Run.{Run}
 use Rattle.stored.specs.Words.{stored}
 

@@ -1,10 +1,10 @@
 // What hosts lend: results as numbers, values over the front of lent buffers.
 use dimacs::Pair;
+use dimensions::Dimensions;
 use refusals::Outcome;
 use refusals::Refusal;
 use solver::Verdict;
 use state::Run;
-use tables::Dimensions;
 use text::Text;
 ghost use mathlib.Core.Path.{_≡_};
 ghost use mathlib.Core.List.{[], _∷_};

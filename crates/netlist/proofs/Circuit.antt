@@ -7,7 +7,7 @@ use mathlib.Core.List.{List, [], _∷_, _++_, append-assoc}
 use Prim.Native.Nat.{ℕ, suc, _+_, _*_, _<_}
 use lib.ListN.{length, drop}
 use Rattle.tables.specs.declared.Row.{Row}
-use Rattle.tables.specs.Sizes.{stateWires}
+use Rattle.dimensions.specs.Sizes.{stateWires}
 use Rattle.state.specs.State.{State}
 use Rattle.state.specs.WellFormed.{wellFormedState}
 use Rattle.gates.specs.Gates.{Gate, wire, wiresOf}

@@ -11,8 +11,8 @@ use lib.Seq.{take-at, drop-append-le}
 use Rattle.refusals.specs.declared.Outcome.the-variants.{Taken}
 use Rattle.refusals.specs.Checks.{outcome}
 use Rattle.words.specs.Booleans.{digit}
-use Rattle.tables.specs.declared.Dimensions.{Dimensions}
-use Rattle.tables.specs.Sizes.{rowCount, stateWires, inputWires}
+use Rattle.dimensions.specs.declared.Dimensions.{Dimensions}
+use Rattle.dimensions.specs.Sizes.{rowCount, stateWires, inputWires}
 use Rattle.tables.specs.Rows.{rowsOf}
 use Rattle.state.specs.State.{State}
 use Rattle.state.specs.WellFormed.{wellFormedState}

@@ -8,7 +8,7 @@ use Prim.Native.Nat.{ℕ, suc, _+_}
 use native.Mathlib.Omega.{arith}
 use lib.ListN.{length, drop}
 use Rattle.tables.specs.declared.Row.{Row}
-use Rattle.tables.specs.Sizes.{stateWires}
+use Rattle.dimensions.specs.Sizes.{stateWires}
 use Rattle.state.specs.State.{State}
 use Rattle.state.specs.WellFormed.{wellFormedState}
 use Rattle.gates.specs.Gates.{wire, wiresOf}

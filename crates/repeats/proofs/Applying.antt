@@ -16,8 +16,8 @@ use Rattle.refusals.specs.declared.Outcome.the-variants.{Taken, Refused}
 use Rattle.refusals.specs.declared.Refusal.the-variants.{Wires}
 use Rattle.words.specs.Booleans.{digit}
 use Rattle.words.proofs.Truth.{on}
-use Rattle.tables.specs.declared.Dimensions.{Dimensions}
-use Rattle.tables.specs.Sizes.{stateWires, inputWires}
+use Rattle.dimensions.specs.declared.Dimensions.{Dimensions}
+use Rattle.dimensions.specs.Sizes.{stateWires, inputWires}
 use Rattle.tables.specs.Rows.{rowsOf}
 use Rattle.tables.proofs.Accepted.{accepted}
 use Rattle.state.specs.declared.Run.{Run}

@@ -15,8 +15,8 @@ use Rattle.refusals.specs.declared.Refusal.{Refusal}
 use Rattle.refusals.specs.declared.Refusal.the-variants.{Gates, Wires}
 use Rattle.refusals.proofs.Outcomes.{outcome-taken, outcome-refused}
 use Rattle.words.specs.Booleans.{digit}
-use Rattle.tables.specs.declared.Dimensions.{Dimensions}
-use Rattle.tables.specs.Sizes.{rowCount, stateWires, inputWires}
+use Rattle.dimensions.specs.declared.Dimensions.{Dimensions}
+use Rattle.dimensions.specs.Sizes.{rowCount, stateWires, inputWires}
 use Rattle.tables.proofs.Accepted.{Accepted}
 use Rattle.state.specs.declared.Run.{Run}
 use Rattle.state.specs.State.{stateOf}

@@ -8,8 +8,8 @@ use Rattle.refusals.specs.Checks.{outcome, given}
 use Rattle.refusals.specs.declared.Outcome.{Outcome}
 use Rattle.refusals.specs.declared.Outcome.the-variants.{Taken, Refused}
 use Rattle.refusals.specs.declared.Refusal.{Refusal}
-use Rattle.tables.specs.declared.Dimensions.{Dimensions}
-use Rattle.tables.specs.Sizes.{stateWires, inputWires}
+use Rattle.dimensions.specs.declared.Dimensions.{Dimensions}
+use Rattle.dimensions.specs.Sizes.{stateWires, inputWires}
 use Rattle.state.specs.declared.Run.{Run}
 use Rattle.gates.specs.Evaluation.{checks, filled}
 use Rattle.wires.specs.Packing.{packChecks, packed}

@@ -6,8 +6,8 @@ use lib.Dec.{eqb, leb}
 use lib.ListN.{length, getD}
 use Rattle.refusals.specs.Checks.{given}
 use Rattle.words.specs.Sets.{any}
-use Rattle.tables.specs.declared.Dimensions.{Dimensions}
-use Rattle.tables.specs.Sizes.{inputWires}
+use Rattle.dimensions.specs.declared.Dimensions.{Dimensions}
+use Rattle.dimensions.specs.Sizes.{inputWires}
 use Rattle.state.specs.declared.Run.{Run}
 use Rattle.gates.specs.Memory.{wordsOf}
 use Rattle.netlist.specs.Netlist.{gatesOn}

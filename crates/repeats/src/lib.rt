@@ -1,13 +1,13 @@
 // One application of a circuit to a run (document 01, "Circuit"): rows and run are packed, the gates evaluated, and the next run read back.
 // Turned back: 1, 2, 4, 3, 10, 12 and 13 in packing, 9 and 10 in evaluation, 12 in reading back.
+use dimensions::Dimensions;
 use refusals::Outcome;
 use refusals::Refusal;
 use state::Run;
-use tables::Dimensions;
 ghost use mathlib.Core.Path.{_≡_};
 ghost use Prim.Native.Nat.{_+_};
 ghost use lib.ListN.{length};
-ghost use Rattle.tables.specs.Sizes.{stateWires};
+ghost use Rattle.dimensions.specs.Sizes.{stateWires};
 ghost use Rattle.repeats.specs.Application.{turnedBack, nextRun, bytesAfter, wiresAfter, applied};
 
 // The next run and its mark, whether that run is closed; refused, the run as it was and no mark.

@@ -2,7 +2,7 @@
 use Prim.Native.Nat.{ℕ}
 use mathlib.Core.List.{List}
 use Rattle.refusals.specs.Checks.{given}
-use Rattle.tables.specs.declared.Dimensions.{Dimensions}
+use Rattle.dimensions.specs.declared.Dimensions.{Dimensions}
 use Rattle.dimacs.specs.Pair.{pairOf}
 use Rattle.dimacs.specs.Text.{tableOf}
 use Rattle.dimacs.specs.declared.Pair.{Pair}

@@ -1,9 +1,9 @@
 // The pair program's one function: two stations' texts and the line of standard input go in, what is printed comes out.
 use dimacs::Pair;
+use dimensions::Dimensions;
 use lines::Budget;
 use refusals::Outcome;
 use solver::Solved;
-use tables::Dimensions;
 use text::Text;
 ghost use mathlib.Core.Path.{_≡_};
 ghost use Prim.Native.Nat.{min};

@@ -1,11 +1,11 @@
 // The giant step and the budgeted run over two stations' tables: whether one assignment satisfies both.
 mod rules;
 
+use dimensions::Dimensions;
 use refusals::Outcome;
 use refusals::Refusal;
 use state::Run;
 use state::Standing;
-use tables::Dimensions;
 ghost use mathlib.Core.Path.{_≡_};
 ghost use mathlib.Core.Bool.{true, false};
 ghost use mathlib.Core.List.{_++_};

@@ -1,9 +1,9 @@
 // The giant step by value (document 01, "Giant step"): one function a rule, and the step that follows the rule.
+use dimensions::Dimensions;
 use scan::Rule;
 use state::Level;
 use state::Run;
 use state::Standing;
-use tables::Dimensions;
 ghost use mathlib.Core.Path.{_≡_};
 ghost use mathlib.Core.Bool.{true};
 ghost use Prim.Native.Nat.{_<_};

@@ -10,7 +10,7 @@ use lib.ListN.{getD, length, take, drop, replicate, take-append-drop, length-dro
 use lib.Seq.{take-suc, getD-append-add, drop-at}
 use borrow.Author.Tests.{eqb-true, ltb-false, le-ltb, not-true}
 use Rattle.words.proofs.Truth.{and-l, and-r, or-l, or-r}
-use Rattle.tables.specs.Sizes.{outside}
+use Rattle.dimensions.specs.Sizes.{outside}
 use Rattle.state.specs.declared.Level.{Level}
 use Rattle.state.specs.declared.Run.{Run}
 use Rattle.state.specs.State.{State, stateOf, levelsOf, none, runOf}

@@ -9,9 +9,9 @@ use Rattle.refusals.specs.declared.Refusal.the-variants.{OtherVariables}
 use Rattle.refusals.specs.declared.Refusal.the-variants as refusal
 use Rattle.words.specs.Booleans.{imp}
 use Rattle.words.specs.Sets.{bit, all}
-use Rattle.tables.specs.Sizes.{outside}
+use Rattle.dimensions.specs.Sizes.{outside}
 use Rattle.tables.specs.Rows.{free}
-use Rattle.tables.specs.declared.Dimensions.{Dimensions}
+use Rattle.dimensions.specs.declared.Dimensions.{Dimensions}
 use Rattle.state.specs.declared.Level.{Level}
 use Rattle.state.specs.declared.Run.{Run}
 use Rattle.state.specs.State.{State, stateOf}

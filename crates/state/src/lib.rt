@@ -1,7 +1,7 @@
 // A run's state: its sets and levels, the fresh run, and when a state is well-formed (document 01, "Giant step").
+use dimensions::Dimensions;
 use refusals::Outcome;
 use refusals::Refusal;
-use tables::Dimensions;
 ghost use mathlib.Core.Path.{_≡_};
 ghost use Prim.Native.Nat.{_≤_};
 ghost use lib.ListN.{drop};

@@ -15,11 +15,11 @@ use Rattle.refusals.specs.declared.Refusal.{Refusal}
 use Rattle.refusals.specs.declared.Refusal.the-variants.{Variables, RowCount, RowBit, RowBuffer}
 use Rattle.refusals.proofs.Outcomes.{outcome-taken, outcome-refused, unless-passed, unless-taken}
 use Rattle.words.proofs.Truth.{or-l, or-r}
-use Rattle.tables.specs.declared.Dimensions.{Dimensions}
-use Rattle.tables.specs.Sizes.{outside, sizeChecks}
+use Rattle.dimensions.specs.declared.Dimensions.{Dimensions}
+use Rattle.dimensions.specs.Sizes.{outside, sizeChecks}
 use Rattle.tables.specs.Rows.{rowAt}
 use Rattle.tables.specs.Acceptance.{allBelow, short, high, tableChecks}
-use Rattle.tables.proofs.Limits.{least, most}
+use Rattle.dimensions.proofs.Limits.{least, most}
 use Rattle.tables.proofs.Tables.{below-at}
 
 -- the checks after those on the sizes

@@ -1,5 +1,3 @@
-pub mod Limits
-pub mod Products
 pub mod Tables
 pub mod Rows
 pub mod Judging

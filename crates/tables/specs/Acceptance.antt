@@ -6,8 +6,8 @@ use lib.Dec.{ltb}
 use lib.ListN.{length, take}
 use Rattle.refusals.specs.Checks.{Check, check}
 use Rattle.refusals.specs.declared.Refusal.the-variants.{RowBit, RowBuffer}
-use Rattle.tables.specs.declared.Dimensions.{Dimensions}
-use Rattle.tables.specs.Sizes.{sizeChecks}
+use Rattle.dimensions.specs.declared.Dimensions.{Dimensions}
+use Rattle.dimensions.specs.Sizes.{sizeChecks}
 
 -- no word has a bit at or above n
 unfoldable pub allBelow : ℕ → List ℕ → Bool

@@ -9,7 +9,7 @@ use native.Mathlib.Omega.{arith}
 use lib.ListN.{length, getD}
 use Rattle.words.specs.Sets.{bit}
 use Rattle.tables.specs.declared.Row.{Row}
-use Rattle.tables.specs.Sizes.{stateWires}
+use Rattle.dimensions.specs.Sizes.{stateWires}
 use Rattle.gates.specs.Gates.{wire}
 use Rattle.wires.specs.Layout.{upto, joined, rowBits, rowsBits}
 use Rattle.wires.specs.Bits.{Bits, inOrder}

@@ -15,8 +15,8 @@ use Rattle.refusals.specs.declared.Refusal.the-variants.{Variables, Wires, Othe
 use Rattle.refusals.specs.declared.Refusal.the-variants as refusal
 use Rattle.refusals.proofs.Outcomes.{outcome-taken, outcome-refused, unless-passed, unless-taken, refused-taken}
 use Rattle.words.proofs.Truth.{on}
-use Rattle.tables.specs.declared.Dimensions.{Dimensions}
-use Rattle.tables.specs.Sizes.{outside, stateWires, inputWires}
+use Rattle.dimensions.specs.declared.Dimensions.{Dimensions}
+use Rattle.dimensions.specs.Sizes.{outside, stateWires, inputWires}
 use Rattle.tables.specs.Acceptance.{tableChecks}
 use Rattle.tables.proofs.Accepted.{Accepted, accepted}
 use Rattle.state.specs.declared.Run.{Run}

@@ -6,10 +6,10 @@ use Prim.Native.Nat.{ℕ, zero, suc, _+_, _*_, _≤_}
 use native.Mathlib.Nat.{mul-zero, mul-suc, add-mul, mul-add, mul-le-mul}
 use native.Mathlib.Omega.{arith}
 use lib.ListN.{length, length-append}
-use Rattle.tables.specs.declared.Dimensions.{Dimensions}
+use Rattle.dimensions.specs.declared.Dimensions.{Dimensions}
 use Rattle.tables.specs.declared.Row.{Row}
 use Rattle.tables.specs.Rows.{rowsFrom, rowsOf}
-use Rattle.tables.specs.Sizes.{rowCount, stateWires, inputWires}
+use Rattle.dimensions.specs.Sizes.{rowCount, stateWires, inputWires}
 use Rattle.state.specs.declared.Level.{Level}
 use Rattle.state.specs.State.{State}
 use Rattle.wires.specs.Layout.{upto, rowBits, rowsBits, stateBits}

@@ -18,9 +18,9 @@ use Rattle.refusals.specs.declared.Refusal.the-variants as refusal
 use Rattle.refusals.proofs.Outcomes.{unless-passed, unless-taken, refused-taken}
 use Rattle.words.specs.Booleans.{digit}
 use Rattle.words.proofs.Truth.{and-l, and-r, and-i}
-use Rattle.tables.specs.declared.Dimensions.{Dimensions}
+use Rattle.dimensions.specs.declared.Dimensions.{Dimensions}
 use Rattle.tables.specs.Rows.{rowsOf}
-use Rattle.tables.specs.Sizes.{outside, rowCount, stateWires, inputWires}
+use Rattle.dimensions.specs.Sizes.{outside, rowCount, stateWires, inputWires}
 use Rattle.state.specs.declared.Run.{Run}
 use Rattle.state.specs.State.{State, fresh, stateOf, runOf}
 use Rattle.state.specs.WellFormed.{wellFormedState, wellFormed}

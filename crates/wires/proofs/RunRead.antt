@@ -9,7 +9,7 @@ use lib.ListN.{length, replicate}
 use Rattle.words.specs.Sets.{lowest, wordOf}
 use Rattle.words.proofs.Upto.{lowest-cong}
 use Rattle.words.proofs.WordOf.{wordOf-cong}
-use Rattle.tables.specs.Sizes.{stateWires}
+use Rattle.dimensions.specs.Sizes.{stateWires}
 use Rattle.state.specs.declared.Level.{Level}
 use Rattle.state.specs.declared.Run.{Run}
 use Rattle.state.specs.declared.Standing.{Standing}

@@ -7,10 +7,10 @@ use Prim.Native.Nat.{ℕ, zero, suc, _+_, _*_, _≤_}
 use native.Mathlib.Nat.{add-zero}
 use native.Mathlib.Omega.{arith}
 use lib.ListN.{length}
-use Rattle.tables.specs.declared.Dimensions.{Dimensions}
+use Rattle.dimensions.specs.declared.Dimensions.{Dimensions}
 use Rattle.tables.specs.declared.Row.{Row}
 use Rattle.tables.specs.Rows.{rowAt, rowsFrom}
-use Rattle.tables.specs.Sizes.{inputWires}
+use Rattle.dimensions.specs.Sizes.{inputWires}
 use Rattle.state.specs.declared.Run.{Run}
 use Rattle.state.specs.State.{stateOf}
 use Rattle.gates.specs.Memory.{bytesOf}

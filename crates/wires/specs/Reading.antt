@@ -8,7 +8,7 @@ use Rattle.refusals.specs.Checks.{Check, check, outcome, given}
 use Rattle.refusals.specs.declared.Outcome.the-variants.{Taken, Refused}
 use Rattle.refusals.specs.declared.Refusal.the-variants.{Variables, Wires}
 use Rattle.refusals.specs.declared.Refusal.the-variants as refusal
-use Rattle.tables.specs.Sizes.{outside, stateWires}
+use Rattle.dimensions.specs.Sizes.{outside, stateWires}
 use Rattle.state.specs.State.{fresh, runOf}
 use Rattle.wires.specs.declared.Read.{Read}
 use Rattle.wires.specs.Unpacking.{runIn, holdsState}

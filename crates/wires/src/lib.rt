@@ -3,17 +3,17 @@
 mod packing;
 mod unpacking;
 
+use dimensions::Dimensions;
 use refusals::Outcome;
 use refusals::Refusal;
 use state::Run;
-use tables::Dimensions;
 ghost use mathlib.Core.Path.{_≡_};
 ghost use mathlib.Core.Bool.{_&&_};
 ghost use Prim.Native.Nat.{_≤_};
 ghost use lib.ListN.{length, take};
 ghost use Rattle.refusals.specs.Checks.{outcome};
 ghost use Rattle.refusals.specs.declared.Outcome.the-variants.{Refused};
-ghost use Rattle.tables.specs.Sizes.{stateWires};
+ghost use Rattle.dimensions.specs.Sizes.{stateWires};
 ghost use Rattle.state.specs.State.{stateOf, runOf, fresh};
 ghost use Rattle.state.specs.WellFormed.{wellFormed};
 ghost use Rattle.gates.specs.Memory.{bytesOf};

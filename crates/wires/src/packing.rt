@@ -12,7 +12,7 @@ ghost use lib.Seq.{sets};
 ghost use Rattle.words.specs.Booleans.{digit};
 ghost use Rattle.words.specs.Sets.{bit};
 ghost use Rattle.tables.specs.Rows.{rowsFrom};
-ghost use Rattle.tables.specs.Sizes.{stateWires};
+ghost use Rattle.dimensions.specs.Sizes.{stateWires};
 ghost use Rattle.state.specs.State.{stateOf, isSatisfied};
 ghost use Rattle.gates.specs.Memory.{bytesOf};
 ghost use Rattle.wires.specs.Layout.{upto, rowBits, rowsBits, isRefuted, stateBits};

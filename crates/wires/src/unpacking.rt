@@ -8,7 +8,7 @@ ghost use lib.Dec.{eqb};
 ghost use lib.ListN.{length};
 ghost use Rattle.words.specs.Booleans.{digit};
 ghost use Rattle.words.specs.Sets.{lowest, wordOf};
-ghost use Rattle.tables.specs.Sizes.{stateWires};
+ghost use Rattle.dimensions.specs.Sizes.{stateWires};
 ghost use Rattle.wires.specs.Unpacking.{wireIn, standingOf, runIn};
 ghost use Rattle.wires.specs.Levels.{levelFrom, levelsFrom};
 

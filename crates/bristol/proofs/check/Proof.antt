@@ -6,7 +6,7 @@ use Prim.Native.Nat.{ℕ}
 use denote.Ref.{now}
 use Rattle.refusals.specs.declared.Outcome.the-variants.{Taken}
 use Rattle.refusals.specs.Checks.{outcome}
-use Rattle.tables.specs.Sizes.{sizeChecks, inputWires}
+use Rattle.dimensions.specs.Sizes.{sizeChecks, inputWires}
 use Rattle.gates.specs.Memory.{accepted}
 use Rattle.bristol.proofs.Requests.{refuse-size, refuse-gates, take-circuit}
 use borrow.Author.Needs.{needs}

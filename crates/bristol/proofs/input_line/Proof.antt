@@ -3,7 +3,7 @@
 use Prim.Native.Nat.{_*_}
 use native.Mathlib.Omega.{arith}
 use denote.Ref.{now}
-use Rattle.tables.proofs.Products.{product}
+use Rattle.dimensions.proofs.Products.{product}
 use Rattle.bristol.proofs.Composing.{input-composed}
 use borrow.Author.Needs.{needs}
 use Rattle.bristol.proofs.input_line.Statement.{statement}

@@ -7,7 +7,7 @@ use native.Mathlib.Omega.{arith}
 use denote.Ref.{now}
 use lib.ListN.{length, getD}
 use Rattle.lexer.specs.Spelling.{bytes}
-use Rattle.tables.specs.Sizes.{inputWires}
+use Rattle.dimensions.specs.Sizes.{inputWires}
 use Rattle.gates.specs.Memory.{gatesOf}
 use Rattle.bristol.specs.Lines.{sizeLine, inputLine, outputLine, gateLines}
 use Rattle.bristol.proofs.Composing.{whole, same-line}

@@ -10,7 +10,7 @@ use lib.ListN.{length, take}
 use lib.Seq.{length-take-le}
 use Rattle.refusals.specs.Checks.{outcome}
 use Rattle.refusals.specs.declared.Outcome.the-variants.{Taken}
-use Rattle.tables.specs.Sizes.{inputWires}
+use Rattle.dimensions.specs.Sizes.{inputWires}
 use Rattle.gates.specs.Memory.{accepted}
 use Rattle.gates.specs.Evaluation.{filled}
 use Rattle.wires.specs.Packing.{packChecks}

@@ -45,9 +45,9 @@ use denote.Exit.{yes}
 use Rattle.refusals.specs.declared.Outcome.{Outcome}
 use Rattle.refusals.proofs.Outcome as O
 use Rattle.refusals.proofs.Outcome.Laws as O′
-use Rattle.tables.specs.declared.Dimensions.{Dimensions}
-use Rattle.tables.proofs.Dimensions as D
-use Rattle.tables.proofs.Dimensions.Laws as D′
+use Rattle.dimensions.specs.declared.Dimensions.{Dimensions}
+use Rattle.dimensions.proofs.Dimensions as D
+use Rattle.dimensions.proofs.Dimensions.Laws as D′
 use Rattle.solver.specs.Answers.{stepped}
 use Rattle.state.specs.declared.Run.{Run}
 use Rattle.solver.specs.declared.Stepped.{Stepped}

@@ -5,7 +5,7 @@ use native.Mathlib.Omega.{arith}
 use Prim.Native.Nat.{ℕ, _≤_}
 use lib.ListN.{length, take}
 use Rattle.state.specs.State.{stateOf}
-use Rattle.tables.specs.Sizes.{stateWires}
+use Rattle.dimensions.specs.Sizes.{stateWires}
 use Rattle.wires.specs.Layout.{stateBits}
 use Rattle.wires.specs.Unpacking as Unpacking
 use Rattle.wires.proofs.Lengths.{state-length, state-most}

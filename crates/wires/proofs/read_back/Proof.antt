@@ -10,7 +10,7 @@ use borrow.Author.Tests.{lt-ltb, le-ltb, ltb-false, not-true, not-false}
 use Rattle.words.proofs.Truth.{or-true}
 use Rattle.refusals.specs.declared.Outcome.the-variants.{Taken}
 use Rattle.state.specs.declared.Run.{Run}
-use Rattle.tables.specs.Sizes.{outside}
+use Rattle.dimensions.specs.Sizes.{outside}
 use Rattle.wires.proofs.Checks.{no-variables, no-room, no-state, read-taken, found, run-variables}
 use borrow.Author.Needs.{needs}
 use Rattle.wires.proofs.read_back.Statement.{statement}

@@ -1,9 +1,9 @@
 -- `Dimensions::new` meets its contract: each test of the code is a condition of the definition, in its order.
 -- Assumes nothing.
 use borrow.Author.Needs.{needs}
-use Rattle.tables.proofs.Limits.{most, refuse-variables, refuse-left, refuse-right, size}
-use Rattle.tables.proofs.Dimensions.new.Statement.{statement}
-use Rattle.tables.proofs.Dimensions.new.Tie as tie
+use Rattle.dimensions.proofs.Limits.{most, refuse-variables, refuse-left, refuse-right, size}
+use Rattle.dimensions.proofs.Dimensions.new.Statement.{statement}
+use Rattle.dimensions.proofs.Dimensions.new.Tie as tie
 
 returns : tie.Need-returns
 returns c = let a = c .before .args in refuse-variables (a .n) (a .left) (a .right) (c .if1 .taken)

@@ -11,9 +11,9 @@ use Rattle.refusals.specs.declared.Outcome.{Outcome}
 use Rattle.refusals.specs.declared.Outcome.the-variants.{Taken, Refused as Not}
 use Rattle.refusals.specs.declared.Refusal.{Refusal}
 use Rattle.refusals.specs.declared.Refusal.the-variants.{Variables, RowCount}
-use Rattle.tables.specs.declared.Dimensions.{Dimensions}
-use Rattle.tables.specs.declared.Sized.the-variants.{Of, Refused}
-use Rattle.tables.specs.Sizes.{outside, sized}
+use Rattle.dimensions.specs.declared.Dimensions.{Dimensions}
+use Rattle.dimensions.specs.declared.Sized.the-variants.{Of, Refused}
+use Rattle.dimensions.specs.Sizes.{outside, sized}
 use Rattle.words.proofs.Truth.{or-l, or-r}
 
 pub least : (limit k : ℕ) → outside limit k ≡ false → 1 ≤ k

@@ -6,9 +6,9 @@ use lib.Dec.{ltb}
 use Rattle.refusals.specs.Checks.{Check, check, outcome, given}
 use Rattle.refusals.specs.declared.Refusal.{Refusal}
 use Rattle.refusals.specs.declared.Refusal.the-variants.{Variables, RowCount}
-use Rattle.tables.specs.declared.Dimensions.{Dimensions}
-use Rattle.tables.specs.declared.Sized.{Sized}
-use Rattle.tables.specs.declared.Sized.the-variants.{Of, Refused}
+use Rattle.dimensions.specs.declared.Dimensions.{Dimensions}
+use Rattle.dimensions.specs.declared.Sized.{Sized}
+use Rattle.dimensions.specs.declared.Sized.the-variants.{Of, Refused}
 
 -- below 1 or above the limit
 abbrev pub outside : ℕ → ℕ → Bool

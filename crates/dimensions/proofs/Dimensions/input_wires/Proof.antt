@@ -4,9 +4,9 @@ use mathlib.Core.Path.{ap₂}
 use Prim.Native.Nat.{ℕ, _+_, _*_}
 use native.Mathlib.Omega.{arith}
 use borrow.Author.Needs.{needs}
-use Rattle.tables.proofs.Products.{product}
-use Rattle.tables.proofs.Dimensions.input_wires.Statement.{statement}
-use Rattle.tables.proofs.Dimensions.input_wires.Tie as tie
+use Rattle.dimensions.proofs.Products.{product}
+use Rattle.dimensions.proofs.Dimensions.input_wires.Statement.{statement}
+use Rattle.dimensions.proofs.Dimensions.input_wires.Tie as tie
 
 cast-result : tie.Need-cast-result
 cast-result c = search needs
