@@ -34,7 +34,7 @@ enum forkhemit_refusal_number {
     FORKHEMIT_TEXT = 5,             /* malformed or overlong DIMACS text */
     FORKHEMIT_TEXTS_DIFFER = 6,     /* the two texts differ in n */
     FORKHEMIT_GATE_BUFFER = 7,      /* gate buffer below three words for each gate of the ceiling */
-    FORKHEMIT_NUMBER_LINE = 8,      /* malformed budget or dimension line: the programs alone */
+    FORKHEMIT_NUMBER_LINE = 8,      /* malformed budget line */
     FORKHEMIT_GATES = 9,            /* words that are no gates */
     FORKHEMIT_WIRES = 10,           /* wire buffer too short, or an input byte that is not 0 or 1 */
     FORKHEMIT_LINE_BUFFER = 11,     /* text longer than the lent bytes */
@@ -142,6 +142,9 @@ uint8_t forkhemit_write_line(uint64_t n, uint64_t left_rows, uint64_t right_rows
 uint8_t forkhemit_write_lines(uint64_t n, uint64_t left_rows, uint64_t right_rows,
                               const uint32_t *gates, size_t gates_length, uint64_t line,
                               uint8_t *bytes, size_t bytes_length, uint64_t *written, size_t written_length);
+
+/* budget: the number of a budget line, digits and LF, at most 100 bytes; bytes behind the LF are not looked at. 8. */
+uint8_t forkhemit_read_budget(const uint8_t *line, size_t line_length, uint64_t *budget, size_t budget_length);
 
 /* bytes: the answer as the pair program prints it. length: its bytes, at most 256. A verdict that is no forkhemit_verdict is unknown; with satisfiable,
  * the first n variables of the model are printed, 32 at most. 11. */

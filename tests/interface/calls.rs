@@ -31,6 +31,7 @@ mod library {
             bytes: *mut u8, bytes_length: usize, written: *mut u64, length: usize) -> u8;
         pub fn forkhemit_write_lines(n: u64, left_rows: u64, right_rows: u64, gates: *const u32, gates_length: usize, line: u64,
             bytes: *mut u8, bytes_length: usize, written: *mut u64, length: usize) -> u8;
+        pub fn forkhemit_read_budget(line: *const u8, line_length: usize, budget: *mut u64, length: usize) -> u8;
         pub fn forkhemit_answer(n: u64, count: u64, verdict: u64, model: u64, bytes: *mut u8, bytes_length: usize,
             written: *mut u64, length: usize) -> u8;
     }
@@ -52,10 +53,11 @@ pub enum Function {
     Apply,
     WriteLine,
     WriteLines,
+    ReadBudget,
     Answer,
 }
 
-pub const ALL: [Function; 15] = [
+pub const ALL: [Function; 16] = [
     Function::Sizes,
     Function::ReadPair,
     Function::Accept,
@@ -70,6 +72,7 @@ pub const ALL: [Function; 15] = [
     Function::Apply,
     Function::WriteLine,
     Function::WriteLines,
+    Function::ReadBudget,
     Function::Answer,
 ];
 
@@ -219,6 +222,7 @@ impl Call {
                     b(4), l(4), b(5), l(5), n(6), l(6)),
                 Function::WriteLine => forkhemit_write_line(x(0), x(1), x(2), w(0), l(0), x(3), b(1), l(1), n(2), l(2)),
                 Function::WriteLines => forkhemit_write_lines(x(0), x(1), x(2), w(0), l(0), x(3), b(1), l(1), n(2), l(2)),
+                Function::ReadBudget => forkhemit_read_budget(b(0), l(0), n(1), l(1)),
                 Function::Answer => forkhemit_answer(x(0), x(1), x(2), x(3), b(0), l(0), n(1), l(1)),
             }
         }

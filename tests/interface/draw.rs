@@ -212,7 +212,9 @@ fn evaluation(circuits: &Circuits, random: &mut Random) -> Result<Vec<Lent>, Str
         let packed = packed.unwrap_or_else(|_| vec![1; memory::input_wires(size)]);
         (gates_of(size, circuits, random)?, packed)
     } else {
-        let (inputs, count) = (random.below(30), random.below(60));
+        // 8,192 wires and more are evaluated in another way
+        let count = if random.once_in(50) { random.between(8_150, 8_400) } else { random.below(60) };
+        let inputs = random.below(30);
         let inputs: Vec<u8> = (0..inputs).map(|_| random.below(2) as u8).collect();
         (some_gates(inputs.len(), count, random), inputs)
     };
@@ -251,6 +253,19 @@ fn line_call(function: Function, circuits: &Circuits, random: &mut Random) -> Re
     numbers.push(line as u64);
     let lent = vec![Lent::Words(gates), Lent::Bytes(some_bytes(room, random)), numbers_for(2, random)];
     Ok(Call { function, numbers, lent })
+}
+
+/// A budget line, which strokes of damage may spoil, with more behind it or less.
+fn line(random: &mut Random) -> Vec<u8> {
+    let budget = one(&[random.below(100) as u64, random.number(), one(&ODD, random)], random);
+    let zeros = one(&[0, 0, 0, 3, 79, 80, 99, 100], random);
+    let mut line = format!("{}{budget}\n", "0".repeat(zeros)).into_bytes();
+    for _ in 0..one(&[0, 0, 1, 2], random) {
+        damage::strike(&mut line, random);
+    }
+    let more = slack(0, random);
+    line.extend(some_bytes(more, random));
+    line
 }
 
 fn answer(random: &mut Random) -> Call {
@@ -310,6 +325,7 @@ fn right(function: Function, circuits: &Circuits, random: &mut Random) -> Result
         }
         Function::Apply => call(numbers(size), application(size, circuits, random)?),
         Function::WriteLine | Function::WriteLines => line_call(function, circuits, random),
+        Function::ReadBudget => call(vec![], vec![Lent::Bytes(line(random)), numbers_for(1, random)]),
         Function::Answer => Ok(answer(random)),
     }
 }

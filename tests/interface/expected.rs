@@ -91,6 +91,9 @@ impl Call {
             Function::Apply => self.apply(),
             Function::WriteLine => self.write_line().map_err(Refused::from),
             Function::WriteLines => self.write_lines().map_err(Refused::from),
+            Function::ReadBudget => {
+                model::budget(self.bytes(0)).map(|budget| vec![(1, Lent::Numbers(vec![budget]))]).map_err(Refused::from)
+            }
             Function::Answer => self.answer().map_err(Refused::from),
         })
     }

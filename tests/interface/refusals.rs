@@ -1,5 +1,4 @@
-//! Every refusal of every function, written by hand: a call that is taken, one change to it, and the number that it then
-//! gets. Refusal 8 is the programs' alone.
+//! Every refusal of every function, written by hand: a call that is taken, one change to it, and the number that it then gets.
 
 use crate::calls::{Call, Function, Lent};
 use crate::circuits::Circuits;
@@ -63,6 +62,7 @@ fn base(function: Function, circuits: &Circuits) -> Result<Call, String> {
         }
         Function::WriteLine => (vec![2, 1, 1, 4], vec![Lent::Words(gates), bytes(64), numbers(1)]),
         Function::WriteLines => (vec![2, 1, 1, 0], vec![Lent::Words(gates), bytes(64), numbers(2)]),
+        Function::ReadBudget => (vec![], vec![Lent::Bytes(b"18446744073709551615\n".to_vec()), numbers(1)]),
         Function::Answer => (vec![2, 3, 1, 0b10], vec![bytes(256), numbers(1)]),
     };
     Ok(Call { function, numbers, lent })
@@ -195,6 +195,7 @@ fn changes(function: Function) -> Vec<(String, u8, Change)> {
             | Function::Model
             | Function::Evaluate
             | Function::ReadBack
+            | Function::ReadBudget
             | Function::Answer
     );
     if has_size {
@@ -299,6 +300,13 @@ fn changes(function: Function) -> Vec<(String, u8, Change)> {
             add("no bytes", 11, cut(1, 0));
             add("9 before 11", 9, both(word(0, 0, 3), cut(1, 0)));
             gates(0, inputs, &mut list);
+        }
+        Function::ReadBudget => {
+            for line in ["", "\n", "9", "9\r\n", " 9\n", "9 \n", "-9\n", "+9\n", "0x9\n", "18446744073709551616\n"] {
+                add(&format!("the line {line:?}"), 8, text(0, line.into()));
+            }
+            add("101 bytes", 8, text(0, [&b"0".repeat(100)[..], b"\n"].concat()));
+            add("no LF in 101 bytes", 8, text(0, b"0".repeat(101)));
         }
         Function::Answer => {
             // `c steps 3`, `s SATISFIABLE` and `v -1 2 0` are 33 bytes with their line ends

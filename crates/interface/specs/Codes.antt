@@ -13,6 +13,8 @@ use Rattle.bristol.specs.declared.Written.{Written}
 use Rattle.bristol.specs.declared.Written.the-variants as written
 use Rattle.bristol.specs.declared.WrittenLines.{WrittenLines}
 use Rattle.bristol.specs.declared.WrittenLines.the-variants as lines
+use Rattle.lines.specs.declared.Budget.{Budget}
+use Rattle.lines.specs.declared.Budget.the-variants as budget
 use Rattle.lent.specs.Codes.{verdictNumber, modelWord, verdictFrom}
 
 -- ---- the budgeted run: count, verdict, model
@@ -65,6 +67,16 @@ linesCode (lines.Refused r) = numberOf r
 abbrev pub linesNumbers : WrittenLines → List ℕ
 linesNumbers (lines.Lines count size) = count ∷ (size ∷ [])
 linesNumbers (lines.Refused r) = []
+
+-- ---- the budget line
+
+abbrev pub budgetCode : Budget → ℕ
+budgetCode (budget.Of count) = 0
+budgetCode (budget.Refused r) = numberOf r
+
+abbrev pub budgetNumbers : Budget → List ℕ
+budgetNumbers (budget.Of count) = count ∷ []
+budgetNumbers (budget.Refused r) = []
 
 -- ---- the composed answer
 

@@ -1,14 +1,16 @@
-// Texts: the circuit's, one line or as many as fit, and the composed answer.
+// Texts: the circuit's, one line or as many as fit, the budget line and the composed answer.
 use bristol::Written;
 use bristol::WrittenLines;
+use lines::Budget;
 use solver::Answer;
 ghost use mathlib.Core.Path.{_≡_};
 ghost use Prim.Native.Nat.{min};
 ghost use lib.ListN as ListN;
 ghost use Rattle.bristol.specs.Writing as Writing;
 ghost use Rattle.lines.specs.Answers.{answerText};
+ghost use Rattle.lines.specs.Numbers.{budgetOf};
 ghost use Rattle.lent.specs.Codes.{codeOf};
-ghost use Rattle.interface.specs.Codes.{lineCode, lineNumbers, linesCode, linesNumbers, answerFrom};
+ghost use Rattle.interface.specs.Codes.{lineCode, lineNumbers, linesCode, linesNumbers, budgetCode, budgetNumbers, answerFrom};
 ghost use Rattle.lent.specs.Lent.{dimensions, front, textOutcome};
 ghost use Rattle.interface.specs.Lent.{textWritten, lengthWritten};
 
@@ -66,6 +68,22 @@ pub extern "C" fn forkhemit_write_lines(
             return 0;
         }
         WrittenLines::Refused(refusal) => return refusals::number(refusal),
+    }
+}
+
+// The budget of a line, digits and LF, at most 100 bytes; 8 where it is turned back, and then no number is written.
+#[no_mangle]
+pub extern "C" fn forkhemit_read_budget(line: &[u8], budget: &mut [u64]) -> u8
+    ensures { λ r. ⌜ r ≡ budgetCode (budgetOf (now (line .entry))) ⌝ }
+    ensures { λ _. ⌜ now (budget .exit) ≡ front (budgetNumbers (budgetOf (now (line .entry)))) (now (budget .entry)) ⌝ }
+{
+    match lines::read_budget(line) {
+        Budget::Of(count) => {
+            let numbers = [count];
+            lent::put(&numbers, budget);
+            return 0;
+        }
+        Budget::Refused(refusal) => return refusals::number(refusal),
     }
 }
 
