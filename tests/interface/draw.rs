@@ -279,6 +279,26 @@ fn answer(random: &mut Random) -> Call {
     Call { function: Function::Answer, numbers: vec![n, count, verdict, model], lent }
 }
 
+/// Tables, and what a call over them lends besides.
+fn over_tables(function: Function, size: Size, random: &mut Random) -> Vec<Lent> {
+    let (mut lent, run) = tables_and_run(size, random);
+    if function != Function::Accept {
+        lent.push(words_with_more(run, random));
+    }
+    if function == Function::Pack {
+        lent.push(bytes_for(memory::input_wires(size), random));
+    }
+    lent
+}
+
+/// Tables, a budget and room for the answer.
+fn solving(size: Size, random: &mut Random) -> (u64, Vec<Lent>) {
+    let (rows, budget) = to_solve(size, random);
+    let mut lent = lent_tables(size, &rows, random);
+    lent.push(numbers_for(3, random));
+    (budget, lent)
+}
+
 /// A call that is right, but for what texts, line numbers and answers bring along.
 fn right(function: Function, circuits: &Circuits, random: &mut Random) -> Result<Call, String> {
     let size = match function {
@@ -290,20 +310,10 @@ fn right(function: Function, circuits: &Circuits, random: &mut Random) -> Result
     match function {
         Function::Sizes => call(numbers(size), vec![numbers_for(4, random)]),
         Function::ReadPair => call(vec![], texts(random)),
-        Function::Accept => {
-            let (tables, _) = tables_and_run(size, random);
-            call(numbers(size), tables)
-        }
+        Function::Accept | Function::Step | Function::Pack => call(numbers(size), over_tables(function, size, random)),
         Function::Fresh => call(vec![size.0 as u64], vec![words_for(RUN_WORDS, random)]),
-        Function::Step => {
-            let (mut lent, run) = tables_and_run(size, random);
-            lent.push(words_with_more(run, random));
-            call(numbers(size), lent)
-        }
         Function::Solve => {
-            let (rows, budget) = to_solve(size, random);
-            let mut lent = lent_tables(size, &rows, random);
-            lent.push(numbers_for(3, random));
+            let (budget, lent) = solving(size, random);
             call([numbers(size), vec![budget]].concat(), lent)
         }
         Function::Model => {
@@ -313,11 +323,6 @@ fn right(function: Function, circuits: &Circuits, random: &mut Random) -> Result
         Function::Generate => {
             let ceiling = model::ceiling(size.0, size.1 + size.2);
             call(numbers(size), vec![words_for(3 * ceiling, random), numbers_for(1, random)])
-        }
-        Function::Pack => {
-            let (mut lent, run) = tables_and_run(size, random);
-            lent.extend([words_with_more(run, random), bytes_for(memory::input_wires(size), random)]);
-            call(numbers(size), lent)
         }
         Function::Evaluate => call(vec![], evaluation(circuits, random)?),
         Function::ReadBack => {

@@ -14,6 +14,9 @@ pub struct Case {
 
 type Change = Box<dyn Fn(&mut Call)>;
 
+/// What is changed, the number that it leads to, and the change.
+type Changes = Vec<(String, u8, Change)>;
+
 /// Document 01's example: (1 2) on the left, (−1) on the right.
 const SIZE: (usize, usize, usize) = (2, 1, 1);
 const LEFT: [u32; 2] = [0b11, 0];
@@ -109,7 +112,7 @@ fn both(first: Change, second: Change) -> Change {
 }
 
 /// 1 and 2, at numbers that a cut to fewer bits would make right.
-fn sizes(changes: &mut Vec<(String, u8, Change)>) {
+fn sizes(changes: &mut Changes) {
     for n in [0, 33, 34, 255, 256, 257, 258, 65_538, (1 << 32) + 2, u64::MAX] {
         changes.push((format!("n {n}"), 1, number(0, n)));
         changes.push((format!("n {n} and no left rows"), 1, both(number(0, n), number(1, 0))));
@@ -121,7 +124,7 @@ fn sizes(changes: &mut Vec<(String, u8, Change)>) {
 }
 
 /// 4 and 3, left and right, and 4 before 3.
-fn tables(changes: &mut Vec<(String, u8, Change)>) {
+fn tables(changes: &mut Changes) {
     for (k, side) in [(0, "left"), (1, "right")] {
         for length in [1, 0] {
             changes.push((format!("{length} words on the {side}"), 4, cut(k, length)));
@@ -135,7 +138,7 @@ fn tables(changes: &mut Vec<(String, u8, Change)>) {
 }
 
 /// 12 by every clause of well-formed, in the run at place k.
-fn states(k: usize, changes: &mut Vec<(String, u8, Change)>) {
+fn states(k: usize, changes: &mut Changes) {
     for (what, at, to) in [
         ("n 0", 0, 0),
         ("n 33", 0, 33),
@@ -171,7 +174,7 @@ fn states(k: usize, changes: &mut Vec<(String, u8, Change)>) {
 }
 
 /// 9, in gates at place k.
-fn gates(k: usize, inputs: usize, changes: &mut Vec<(String, u8, Change)>) {
+fn gates(k: usize, inputs: usize, changes: &mut Changes) {
     let first = inputs as u32;
     changes.push(("a gate of two words".into(), 9, cut(k, 2)));
     changes.push(("a gate of one word".into(), 9, cut(k, 4)));
@@ -183,138 +186,167 @@ fn gates(k: usize, inputs: usize, changes: &mut Vec<(String, u8, Change)>) {
     changes.push(("INV with a second word".into(), 9, both(word(k, 0, 2), word(k, 2, 1))));
 }
 
-/// The changes of a function, with the number that each leads to.
-fn changes(function: Function) -> Vec<(String, u8, Change)> {
-    let mut list: Vec<(String, u8, Change)> = vec![];
+/// One change more.
+fn add(list: &mut Changes, what: &str, number: u8, change: Change) {
+    list.push((what.into(), number, change));
+}
+
+/// The texts' 1, 2, 5 and 6, then 4, left and right.
+fn read_pair(list: &mut Changes) {
+    for (k, side) in [(0, "left"), (1, "right")] {
+        add(list, &format!("{side} n 33"), 1, text(k, b"p cnf 33 1\n1 0\n".to_vec()));
+        add(list, &format!("{side} n 0"), 1, text(k, b"p cnf 0 1\n1 0\n".to_vec()));
+        add(list, &format!("{side} 129 rows"), 2, text(k, b"p cnf 2 129\n1 0\n".to_vec()));
+        add(list, &format!("{side} no rows"), 2, text(k, b"p cnf 2 0\n".to_vec()));
+        add(list, &format!("{side} without a last 0"), 5, text(k, b"p cnf 2 1\n1 2\n".to_vec()));
+        add(list, &format!("{side} empty"), 5, text(k, vec![]));
+        let mut long = TEXTS[k].to_vec();
+        long.resize(TEXT_LIMIT + 1, b'\n');
+        add(list, &format!("{side} overlong"), 5, text(k, long));
+        add(list, &format!("{side} n 3"), 6, text(k, b"p cnf 3 1\n1 0\n".to_vec()));
+        add(list, &format!("{side} words short"), 4, cut(2 + k, 1));
+        add(list, &format!("{side} no words"), 4, cut(2 + k, 0));
+    }
+    let (left, right) = (b"p cnf 2 1\n1 2\n".to_vec(), b"p cnf 33 1\n1 0\n".to_vec());
+    add(list, "left 5 before right 1", 5, both(text(0, left), text(1, right.clone())));
+    add(list, "right 1 before words short", 1, both(text(1, right), cut(2, 0)));
+    add(list, "6 before words short", 6, both(text(1, b"p cnf 3 1\n1 0\n".to_vec()), cut(2, 0)));
+}
+
+/// 1, then 12.
+fn fresh(list: &mut Changes) {
+    for n in [0, 33, 257, 258, (1 << 32) + 2, u64::MAX] {
+        add(list, &format!("n {n}"), 1, number(0, n));
+    }
+    add(list, "n 0 and no room", 1, both(number(0, 0), cut(0, 0)));
+    add(list, "a word short", 12, cut(0, RUN_WORDS - 1));
+    add(list, "no room", 12, cut(0, 0));
+}
+
+/// 13, and a run's 12.
+fn step(list: &mut Changes) {
+    add(list, "a run of n 3", 13, word(2, 0, 3));
+    add(list, "12 before 13", 12, both(word(2, 0, 3), word(2, 1, 3)));
+    add(list, "3 before 12", 3, both(word(0, 0, 8), word(2, 1, 3)));
+    states(2, list);
+}
+
+/// 14, and a run's 12.
+fn model_wanted(list: &mut Changes) {
+    add(list, "an open run", 14, word(0, 1, 0));
+    add(list, "a refuted run", 14, word(0, 1, 2));
+    add(list, "12 before 14", 12, both(word(0, 1, 0), word(0, 3, 1)));
+    states(0, list);
+}
+
+/// 7.
+fn generate(list: &mut Changes) {
+    add(list, "a word short", 7, cut(0, 3 * model::ceiling(2, 2) - 1));
+    add(list, "no words", 7, cut(0, 0));
+    add(list, "2 before 7", 2, both(number(1, 0), cut(0, 0)));
+}
+
+/// 10 and 13, and a run's 12.
+fn pack(list: &mut Changes) {
     let inputs = memory::input_wires(SIZE);
+    add(list, "a byte short", 10, cut(3, inputs - 1));
+    add(list, "no bytes", 10, cut(3, 0));
+    add(list, "a run of n 3", 13, word(2, 0, 3));
+    add(list, "10 before 12", 10, both(cut(3, 0), word(2, 1, 3)));
+    add(list, "3 before 10", 3, both(cut(3, 0), word(0, 0, 8)));
+    states(2, list);
+}
+
+/// 10, and 9 by every clause of it.
+fn evaluate(list: &mut Changes) {
+    let inputs = memory::input_wires(SIZE);
+    add(list, "a wire short", 10, Box::new(|call| shorten(call, 2)));
+    add(list, "no wires", 10, cut(2, 0));
+    add(list, "an input of 2", 10, byte(1, 0, 2));
+    add(list, "a last input of 255", 10, byte(1, inputs - 1, 255));
+    add(list, "an input fewer", 9, cut(1, 1));
+    add(list, "9 before 10", 9, both(word(0, 0, 3), cut(2, 0)));
+    gates(0, inputs, list);
+}
+
+/// 1 and 10, then 12 by every clause of it.
+fn read_back(list: &mut Changes) {
     let state = forkhemit_tests::wires::state_width(2);
-    let has_size = !matches!(
-        function,
-        Function::ReadPair
-            | Function::Fresh
-            | Function::Model
-            | Function::Evaluate
-            | Function::ReadBack
-            | Function::ReadBudget
-            | Function::Answer
-    );
-    if has_size {
-        sizes(&mut list);
+    for n in [0, 33, 257, 258, u64::MAX] {
+        add(list, &format!("n {n}"), 1, number(0, n));
     }
-    if matches!(function, Function::Accept | Function::Step | Function::Solve | Function::Pack | Function::Apply) {
-        tables(&mut list);
+    add(list, "n 3", 10, number(0, 3));
+    add(list, "a byte short", 10, cut(0, state - 1));
+    add(list, "10 before 12", 10, both(cut(0, state - 1), cut(1, 0)));
+    add(list, "a byte of 2", 12, byte(0, 0, 2));
+    add(list, "two depth wires", 12, byte(0, 4, 1));
+    add(list, "no depth wire", 12, byte(0, 5, 0));
+    add(list, "both closing bits", 12, both(byte(0, state - 2, 1), byte(0, state - 1, 1)));
+    add(list, "a variable true and false", 12, byte(0, 2, 1));
+    add(list, "an unused level", 12, byte(0, 13, 1));
+    add(list, "two variables chosen", 12, byte(0, 12, 1));
+    add(list, "a run a word short", 12, cut(1, RUN_WORDS - 1));
+    add(list, "no run", 12, cut(1, 0));
+}
+
+/// 10 and 13, then 9, and a run's 12.
+fn apply(list: &mut Changes) {
+    let inputs = memory::input_wires(SIZE);
+    add(list, "packed bytes a byte short", 10, cut(4, inputs - 1));
+    add(list, "a wire short", 10, Box::new(|call| shorten(call, 5)));
+    add(list, "a run of n 3", 13, word(3, 0, 3));
+    add(list, "packing's 10 before 12", 10, both(cut(4, 0), word(3, 1, 3)));
+    add(list, "packing's 13 before 9", 13, both(word(3, 0, 3), word(2, 0, 3)));
+    add(list, "9 before the wires' 10", 9, both(word(2, 0, 3), cut(5, 0)));
+    gates(2, inputs, list);
+    states(3, list);
+}
+
+/// 11, and 9 by every clause of it.
+fn write(list: &mut Changes) {
+    let inputs = memory::input_wires(SIZE);
+    add(list, "a byte for a line", 11, cut(1, 1));
+    add(list, "no bytes", 11, cut(1, 0));
+    add(list, "9 before 11", 9, both(word(0, 0, 3), cut(1, 0)));
+    gates(0, inputs, list);
+}
+
+/// 8.
+fn read_budget(list: &mut Changes) {
+    for line in ["", "\n", "9", "9\r\n", " 9\n", "9 \n", "-9\n", "+9\n", "0x9\n", "18446744073709551616\n"] {
+        add(list, &format!("the line {line:?}"), 8, text(0, line.into()));
     }
-    let mut add = |what: &str, number: u8, change: Change| list.push((what.into(), number, change));
-    match function {
-        Function::ReadPair => {
-            for (k, side) in [(0, "left"), (1, "right")] {
-                add(&format!("{side} n 33"), 1, text(k, b"p cnf 33 1\n1 0\n".to_vec()));
-                add(&format!("{side} n 0"), 1, text(k, b"p cnf 0 1\n1 0\n".to_vec()));
-                add(&format!("{side} 129 rows"), 2, text(k, b"p cnf 2 129\n1 0\n".to_vec()));
-                add(&format!("{side} no rows"), 2, text(k, b"p cnf 2 0\n".to_vec()));
-                add(&format!("{side} without a last 0"), 5, text(k, b"p cnf 2 1\n1 2\n".to_vec()));
-                add(&format!("{side} empty"), 5, text(k, vec![]));
-                let mut long = TEXTS[k].to_vec();
-                long.resize(TEXT_LIMIT + 1, b'\n');
-                add(&format!("{side} overlong"), 5, text(k, long));
-                add(&format!("{side} n 3"), 6, text(k, b"p cnf 3 1\n1 0\n".to_vec()));
-                add(&format!("{side} words short"), 4, cut(2 + k, 1));
-                add(&format!("{side} no words"), 4, cut(2 + k, 0));
-            }
-            let (left, right) = (b"p cnf 2 1\n1 2\n".to_vec(), b"p cnf 33 1\n1 0\n".to_vec());
-            add("left 5 before right 1", 5, both(text(0, left), text(1, right.clone())));
-            add("right 1 before words short", 1, both(text(1, right), cut(2, 0)));
-            add("6 before words short", 6, both(text(1, b"p cnf 3 1\n1 0\n".to_vec()), cut(2, 0)));
-        }
-        Function::Fresh => {
-            for n in [0, 33, 257, 258, (1 << 32) + 2, u64::MAX] {
-                add(&format!("n {n}"), 1, number(0, n));
-            }
-            add("n 0 and no room", 1, both(number(0, 0), cut(0, 0)));
-            add("a word short", 12, cut(0, RUN_WORDS - 1));
-            add("no room", 12, cut(0, 0));
-        }
-        Function::Step => {
-            add("a run of n 3", 13, word(2, 0, 3));
-            add("12 before 13", 12, both(word(2, 0, 3), word(2, 1, 3)));
-            add("3 before 12", 3, both(word(0, 0, 8), word(2, 1, 3)));
-            states(2, &mut list);
-        }
-        Function::Model => {
-            add("an open run", 14, word(0, 1, 0));
-            add("a refuted run", 14, word(0, 1, 2));
-            add("12 before 14", 12, both(word(0, 1, 0), word(0, 3, 1)));
-            states(0, &mut list);
-        }
-        Function::Generate => {
-            add("a word short", 7, cut(0, 3 * model::ceiling(2, 2) - 1));
-            add("no words", 7, cut(0, 0));
-            add("2 before 7", 2, both(number(1, 0), cut(0, 0)));
-        }
-        Function::Pack => {
-            add("a byte short", 10, cut(3, inputs - 1));
-            add("no bytes", 10, cut(3, 0));
-            add("a run of n 3", 13, word(2, 0, 3));
-            add("10 before 12", 10, both(cut(3, 0), word(2, 1, 3)));
-            add("3 before 10", 3, both(cut(3, 0), word(0, 0, 8)));
-            states(2, &mut list);
-        }
-        Function::Evaluate => {
-            add("a wire short", 10, Box::new(|call| shorten(call, 2)));
-            add("no wires", 10, cut(2, 0));
-            add("an input of 2", 10, byte(1, 0, 2));
-            add("a last input of 255", 10, byte(1, inputs - 1, 255));
-            add("an input fewer", 9, cut(1, 1));
-            add("9 before 10", 9, both(word(0, 0, 3), cut(2, 0)));
-            gates(0, inputs, &mut list);
-        }
-        Function::ReadBack => {
-            for n in [0, 33, 257, 258, u64::MAX] {
-                add(&format!("n {n}"), 1, number(0, n));
-            }
-            add("n 3", 10, number(0, 3));
-            add("a byte short", 10, cut(0, state - 1));
-            add("10 before 12", 10, both(cut(0, state - 1), cut(1, 0)));
-            add("a byte of 2", 12, byte(0, 0, 2));
-            add("two depth wires", 12, byte(0, 4, 1));
-            add("no depth wire", 12, byte(0, 5, 0));
-            add("both closing bits", 12, both(byte(0, state - 2, 1), byte(0, state - 1, 1)));
-            add("a variable true and false", 12, byte(0, 2, 1));
-            add("an unused level", 12, byte(0, 13, 1));
-            add("two variables chosen", 12, byte(0, 12, 1));
-            add("a run a word short", 12, cut(1, RUN_WORDS - 1));
-            add("no run", 12, cut(1, 0));
-        }
-        Function::Apply => {
-            add("packed bytes a byte short", 10, cut(4, inputs - 1));
-            add("a wire short", 10, Box::new(|call| shorten(call, 5)));
-            add("a run of n 3", 13, word(3, 0, 3));
-            add("packing's 10 before 12", 10, both(cut(4, 0), word(3, 1, 3)));
-            add("packing's 13 before 9", 13, both(word(3, 0, 3), word(2, 0, 3)));
-            add("9 before the wires' 10", 9, both(word(2, 0, 3), cut(5, 0)));
-            gates(2, inputs, &mut list);
-            states(3, &mut list);
-        }
-        Function::WriteLine | Function::WriteLines => {
-            add("a byte for a line", 11, cut(1, 1));
-            add("no bytes", 11, cut(1, 0));
-            add("9 before 11", 9, both(word(0, 0, 3), cut(1, 0)));
-            gates(0, inputs, &mut list);
-        }
-        Function::ReadBudget => {
-            for line in ["", "\n", "9", "9\r\n", " 9\n", "9 \n", "-9\n", "+9\n", "0x9\n", "18446744073709551616\n"] {
-                add(&format!("the line {line:?}"), 8, text(0, line.into()));
-            }
-            add("101 bytes", 8, text(0, [&b"0".repeat(100)[..], b"\n"].concat()));
-            add("no LF in 101 bytes", 8, text(0, b"0".repeat(101)));
-        }
-        Function::Answer => {
-            // `c steps 3`, `s SATISFIABLE` and `v -1 2 0` are 33 bytes with their line ends
-            add("a byte short", 11, cut(0, 32));
-            add("no bytes", 11, cut(0, 0));
-        }
-        Function::Sizes | Function::Accept | Function::Solve => (),
-    }
+    add(list, "101 bytes", 8, text(0, [&b"0".repeat(100)[..], b"\n"].concat()));
+    add(list, "no LF in 101 bytes", 8, text(0, b"0".repeat(101)));
+}
+
+/// 11.
+fn answer(list: &mut Changes) {
+    // `c steps 3`, `s SATISFIABLE` and `v -1 2 0` are 33 bytes with their line ends
+    add(list, "a byte short", 11, cut(0, 32));
+    add(list, "no bytes", 11, cut(0, 0));
+}
+
+/// The changes of a function, with the number that each leads to.
+fn changes(function: Function) -> Changes {
+    let groups: &[fn(&mut Changes)] = match function {
+        Function::Sizes => &[sizes],
+        Function::ReadPair => &[read_pair],
+        Function::Accept | Function::Solve => &[sizes, tables],
+        Function::Fresh => &[fresh],
+        Function::Step => &[sizes, tables, step],
+        Function::Model => &[model_wanted],
+        Function::Generate => &[sizes, generate],
+        Function::Pack => &[sizes, tables, pack],
+        Function::Evaluate => &[evaluate],
+        Function::ReadBack => &[read_back],
+        Function::Apply => &[sizes, tables, apply],
+        Function::WriteLine | Function::WriteLines => &[sizes, write],
+        Function::ReadBudget => &[read_budget],
+        Function::Answer => &[answer],
+    };
+    let mut list = vec![];
+    groups.iter().for_each(|group| group(&mut list));
     list
 }
 

@@ -36,6 +36,7 @@ pub fn of<T>(work: impl FnOnce() -> T) -> (T, f64) {
     (result, thread_now() - start)
 }
 
+/// The middle value, or the mean of the two in the middle.
 pub fn median(mut values: Vec<f64>) -> f64 {
     values.sort_by(f64::total_cmp);
     (values[(values.len() - 1) / 2] + values[values.len() / 2]) / 2.0

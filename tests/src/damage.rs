@@ -83,7 +83,7 @@ fn listed() -> Vec<Test> {
     tests
 }
 
-/// The lines of the list, and lines of 99 to 102 bytes, of zeros or with a digit first or last.
+/// The lines of the list, and lines around each limit of length: of zeros, with another digit first or last, or with a letter last.
 fn lines() -> Vec<Vec<u8>> {
     let mut lines: Vec<Vec<u8>> = LINES.iter().map(|line| line.to_vec()).collect();
     for length in [20, 21, 64, 98, 99, 100, 101, 127, 128, 255, 256, 65_535, 65_536, 70_000] {
@@ -203,6 +203,7 @@ fn tests(number: usize) -> Vec<Test> {
     vec![Test::new(format!("damage {number}, seed {seed}"), left, right, line)]
 }
 
+/// The listed tests, and the random ones.
 pub fn groups() -> [Group<'static>; 2] {
     let list = listed();
     let count = list.len();

@@ -62,6 +62,7 @@ fn word(values: &[Value], to: bool) -> u32 {
     values.iter().enumerate().filter(|(_, &value)| value == Some(to)).fold(0, |word, (v, _)| word | 1 << v)
 }
 
+/// The 101 words of a run.
 pub fn run_words(run: &Run) -> Vec<u32> {
     let standing = match run.standing {
         Standing::Open => 0,

@@ -207,35 +207,68 @@ impl Plan {
     }
 }
 
-/// The picture, with a heading.
-pub fn draw(heading: &str, source: &str, nodes: &[Node], way: Way) -> String {
-    let mut plan = plan(nodes, way);
-    plan.order();
-    plan.place();
-    let height = |k: usize| plan.spots[k].node.map_or(0.0, |node| 26.0 + 14.0 * nodes[node].lines.len() as f64);
-    let tall: Vec<f64> = plan.rows.iter().map(|row| row.iter().map(|&k| height(k)).fold(0.0, f64::max)).collect();
-    let before = |row: usize| if way == Way::Uses { &tall[row + 1..] } else { &tall[..row] };
-    let top = |row: usize| MARGIN + HEADING + before(row).iter().map(|tall| tall + LAYER_GAP).sum::<f64>();
-    let row_of = |k: usize| plan.rows.iter().position(|row| row.contains(&k)).expect("every spot is in a row");
-    let right = plan.spots.iter().map(|spot| spot.x + spot.width / 2.0).fold(0.0, f64::max);
-    let wide = (right + MARGIN).max(8.2 * heading.chars().count() as f64 + 2.0 * MARGIN);
-    let high = MARGIN + HEADING + tall.iter().map(|tall| tall + LAYER_GAP).sum::<f64>() - LAYER_GAP + MARGIN;
-    let mut svg = format!(
-        "<svg xmlns=\"http://www.w3.org/2000/svg\" width=\"{wide:.0}\" height=\"{high:.0}\" viewBox=\"0 0 {wide:.0} {high:.0}\" font-family=\"sans-serif\">\n\
-         <!-- drawn by make pictures from {source} -->\n<title>{heading}</title>\n\
-         <rect width=\"100%\" height=\"100%\" fill=\"#ffffff\"/>\n\
-         <text x=\"{MARGIN}\" y=\"{:.0}\" font-size=\"15\" fill=\"#222222\">{heading}</text>\n",
-        MARGIN + 8.0
-    );
-    for path in &plan.paths {
-        let path: Vec<usize> = if way == Way::Uses { path.clone() } else { path.iter().rev().copied().collect() };
-        // where an edge leaves the box or the layer above, and where it comes to the one below
-        let end_of = |k: usize, side: f64| {
-            let row = row_of(k);
-            let high = if plan.spots[k].node.is_some() { height(k) } else { tall[row] };
-            (plan.spots[k].x, top(row) + (tall[row] + side * high) / 2.0)
-        };
-        let (leaves, comes) = (|k| end_of(k, 1.0), |k| end_of(k, -1.0));
+/// A plan with its heights: where each spot stands on the page.
+struct Page<'a> {
+    nodes: &'a [Node],
+    way: Way,
+    plan: Plan,
+    /// Each layer's height.
+    tall: Vec<f64>,
+}
+
+impl<'a> Page<'a> {
+    /// The boxes in order, each in its place.
+    fn new(nodes: &'a [Node], way: Way) -> Page<'a> {
+        let mut plan = plan(nodes, way);
+        plan.order();
+        plan.place();
+        let mut page = Page { nodes, way, plan, tall: vec![] };
+        let tall = |row: &Vec<usize>| row.iter().map(|&k| page.height(k)).fold(0.0, f64::max);
+        page.tall = page.plan.rows.iter().map(tall).collect();
+        page
+    }
+
+    /// A box's height; a bend has none.
+    fn height(&self, k: usize) -> f64 {
+        self.plan.spots[k].node.map_or(0.0, |node| 26.0 + 14.0 * self.nodes[node].lines.len() as f64)
+    }
+
+    /// The layer of a spot.
+    fn row_of(&self, k: usize) -> usize {
+        self.plan.rows.iter().position(|row| row.contains(&k)).expect("every spot is in a row")
+    }
+
+    /// Where a layer begins.
+    fn top(&self, row: usize) -> f64 {
+        let before = if self.way == Way::Uses { &self.tall[row + 1..] } else { &self.tall[..row] };
+        MARGIN + HEADING + before.iter().map(|tall| tall + LAYER_GAP).sum::<f64>()
+    }
+
+    /// Where an edge leaves the box or the layer (side 1), or comes to it (side -1).
+    fn end_of(&self, k: usize, side: f64) -> (f64, f64) {
+        let row = self.row_of(k);
+        let high = if self.plan.spots[k].node.is_some() { self.height(k) } else { self.tall[row] };
+        (self.plan.spots[k].x, self.top(row) + (self.tall[row] + side * high) / 2.0)
+    }
+
+    /// The opening of the picture, and its heading.
+    fn heading(&self, heading: &str, source: &str) -> String {
+        let right = self.plan.spots.iter().map(|spot| spot.x + spot.width / 2.0).fold(0.0, f64::max);
+        let wide = (right + MARGIN).max(8.2 * heading.chars().count() as f64 + 2.0 * MARGIN);
+        let high = MARGIN + HEADING + self.tall.iter().map(|tall| tall + LAYER_GAP).sum::<f64>() - LAYER_GAP + MARGIN;
+        format!(
+            "<svg xmlns=\"http://www.w3.org/2000/svg\" width=\"{wide:.0}\" height=\"{high:.0}\" viewBox=\"0 0 {wide:.0} {high:.0}\" font-family=\"sans-serif\">\n\
+             <!-- drawn by make pictures from {source} -->\n<title>{heading}</title>\n\
+             <rect width=\"100%\" height=\"100%\" fill=\"#ffffff\"/>\n\
+             <text x=\"{MARGIN}\" y=\"{:.0}\" font-size=\"15\" fill=\"#222222\">{heading}</text>\n",
+            MARGIN + 8.0
+        )
+    }
+
+    /// An edge through its spots, with the head of its arrow.
+    fn edge(&self, path: &[usize]) -> String {
+        let path: Vec<usize> = if self.way == Way::Uses { path.to_vec() } else { path.iter().rev().copied().collect() };
+        let (leaves, comes) = (|k| self.end_of(k, 1.0), |k| self.end_of(k, -1.0));
         let start = leaves(path[0]);
         let mut line = format!("M{:.0} {:.0}", start.0, start.1);
         for pair in path.windows(2) {
@@ -245,17 +278,22 @@ pub fn draw(heading: &str, source: &str, nodes: &[Node], way: Way) -> String {
                 &format!(" L{:.0} {:.0} C{:.0} {half:.0} {:.0} {half:.0} {:.0} {:.0}", a.0, a.1, a.0, b.0, b.0, b.1);
         }
         let end = comes(path[path.len() - 1]);
-        svg += &format!("<path d=\"{line}\" fill=\"none\" stroke=\"#777777\" stroke-width=\"1.2\"/>\n");
-        svg += &format!("<path d=\"M{:.0} {:.0} l-4 -8 l8 0 z\" fill=\"#777777\"/>\n", end.0, end.1);
+        format!(
+            "<path d=\"{line}\" fill=\"none\" stroke=\"#777777\" stroke-width=\"1.2\"/>\n\
+             <path d=\"M{:.0} {:.0} l-4 -8 l8 0 z\" fill=\"#777777\"/>\n",
+            end.0, end.1
+        )
     }
-    for (k, node) in nodes.iter().enumerate() {
-        let (spot, row) = (&plan.spots[k], row_of(k));
-        let y = top(row) + (tall[row] - height(k)) / 2.0;
-        svg += &format!(
+
+    /// A box with its name and lines.
+    fn node(&self, k: usize) -> String {
+        let (node, spot, row) = (&self.nodes[k], &self.plan.spots[k], self.row_of(k));
+        let y = self.top(row) + (self.tall[row] - self.height(k)) / 2.0;
+        let mut svg = format!(
             "<rect x=\"{:.0}\" y=\"{y:.0}\" width=\"{:.0}\" height=\"{:.0}\" rx=\"5\" fill=\"{}\" stroke=\"#444444\"/>\n",
             spot.x - spot.width / 2.0,
             spot.width,
-            height(k),
+            self.height(k),
             node.fill
         );
         let text = |y: f64, size: usize, text: &str| {
@@ -265,8 +303,16 @@ pub fn draw(heading: &str, source: &str, nodes: &[Node], way: Way) -> String {
         for (at, line) in node.lines.iter().enumerate() {
             svg += &text(y + 33.0 + 14.0 * at as f64, 11, line);
         }
+        svg
     }
-    svg + "</svg>\n"
+}
+
+/// The picture, with a heading.
+pub fn draw(heading: &str, source: &str, nodes: &[Node], way: Way) -> String {
+    let page = Page::new(nodes, way);
+    let edges: String = page.plan.paths.iter().map(|path| page.edge(path)).collect();
+    let boxes: String = (0..nodes.len()).map(|k| page.node(k)).collect();
+    page.heading(heading, source) + &edges + &boxes + "</svg>\n"
 }
 
 const LIBRARY: &str = "#e3edf9";

@@ -121,6 +121,7 @@ fn tests(file: &File) -> Vec<Test> {
     tests
 }
 
+/// The tests of the public files.
 pub fn group(files: &[File]) -> Group<'_> {
     Group {
         title: format!("{} public files", files.len()),

@@ -137,6 +137,7 @@ fn tests(number: usize) -> Vec<Test> {
     budgets.into_iter().map(test).collect()
 }
 
+/// The tests of random tables.
 pub fn group() -> Group<'static> {
     Group { title: format!("{COUNT} random tables, seeds from {SEED}"), count: COUNT, make: Box::new(tests) }
 }

@@ -2,6 +2,7 @@
 
 use crate::model::{Row, Run, Standing};
 
+/// How many wires a state of n variables has.
 pub fn state_width(n: usize) -> usize {
     3 * n * n + 3 * n + 3
 }
