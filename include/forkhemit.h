@@ -146,8 +146,8 @@ uint8_t forkhemit_write_lines(uint64_t n, uint64_t left_rows, uint64_t right_row
 /* budget: the number of a budget line, digits and LF, at most 100 bytes; bytes behind the LF are not looked at. 8. */
 uint8_t forkhemit_read_budget(const uint8_t *line, size_t line_length, uint64_t *budget, size_t budget_length);
 
-/* bytes: the answer as the pair program prints it. length: its bytes, at most 256. A verdict that is no forkhemit_verdict is unknown; with satisfiable,
- * the first n variables of the model are printed, 32 at most. 11. */
+/* bytes: the answer as the pair program prints it. length: its bytes, at most 256. A verdict that is no forkhemit_verdict is unknown;
+ * with satisfiable, the first n variables of the model are printed, 32 at most. 11. */
 uint8_t forkhemit_answer(uint64_t n, uint64_t count, uint64_t verdict, uint64_t model,
                          uint8_t *bytes, size_t bytes_length, uint64_t *length, size_t length_length);
 

@@ -104,6 +104,7 @@ impl Tables {
     }
 }
 
+/// The printed answer: repeats of the circuit beside the plain run, and the budgeted run to compare with.
 fn answer_of(left: &[u8], right: &[u8], budget: u64) -> Result<Vec<u8>, Fault> {
     let tables = Tables::read(left, right)?;
     let (gates, inputs) = tables.circuit()?;

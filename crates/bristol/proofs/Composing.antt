@@ -2,11 +2,12 @@
 -- Assumes nothing.
 use mathlib.Core.Path.{_≡_, refl, sym, ap, ap₂, _∙_}
 use mathlib.Core.List.{List, [], _∷_, _++_, append-assoc}
-use Prim.Native.Nat.{ℕ, suc, _+_, _-_, _*_, _/_, _%_, _^_, _≤_, _<_}
+use Prim.Native.Nat.{ℕ, _+_, _-_, _*_, _/_, _%_, _^_, _≤_, _<_}
 use native.Mathlib.Omega.{arith}
 use borrow.Rule.Slice.PartMut.{midOf, putMid}
 use lib.ListN.{length, take, drop, set, length-append}
 use lib.Seq.{sets, sets-eq, length-sets, take-length, take-append-seam, drop-drop}
+use Rattle.words.proofs.Stores.{sets-append}
 use Rattle.lexer.specs.Spelling.{bytes}
 use Rattle.text.specs.Decimal.{decimal}
 use Rattle.text.proofs.Decimals.{decimal-digit, decimal-step, decimal-length}
@@ -62,12 +63,6 @@ gate-length wire (INV a) =
 
 -- ---- lines from their pieces
 
-pub sets-append : (l : List ℕ) (i : ℕ) (a b : List ℕ) → sets (sets l i a) (i + length a) b ≡ sets l i (a ++ b)
-sets-append l i [] b = let none : i + 0 ≡ i = omega arith in ap (λ (k : ℕ). sets l k b) none
-sets-append l i (x ∷ a) b =
-    let one : i + suc (length a) ≡ suc i + length a = omega arith in
-    ap (λ (k : ℕ). sets (sets (set l i x) (suc i) a) k b) one ∙ sets-append (set l i x) (suc i) a b
-
 -- bytes copied to the part from a place on are stored there
 pub copied : (l more : List ℕ) (at : ℕ) → at + length more ≤ length l
     → putMid at (length l - at) l (take (length more) more ++ drop (length more) (midOf at (length l - at) l)) ≡ sets l at more
@@ -85,7 +80,7 @@ Piece l at out end more = (end ≡ at + length more) × (out ≡ sets l at more)
 pub further : (l t out front more : List ℕ) (i at end : ℕ) → Piece l i t at front → Piece t at out end more → Piece l i out end (front ++ more)
 further l t out front more i at end p q = (
   omega (arith, length-append front more, p .0, q .0),
-  q .1 ∙ ap₂ (λ (x : List ℕ) (k : ℕ). sets x k more) (p .1) (p .0) ∙ sets-append l i front more,
+  q .1 ∙ ap₂ (λ (x : List ℕ) (k : ℕ). sets x k more) (p .1) (p .0) ∙ sym (sets-append front more l i),
 )
 
 -- a byte behind a piece

@@ -5,14 +5,13 @@
 use mathlib.Core.Path.{_≡_, refl, sym, ap, ap₂, _∙_}
 use mathlib.Core.Bool.{Bool, true, false, cond}
 use mathlib.Core.List.{List, [], _∷_, _++_, append-assoc, append-nil, flatten}
-use Prim.Native.Nat.{ℕ, zero, suc, _+_, _-_, _/_, _≤_, _<_}
+use Prim.Native.Nat.{ℕ, zero, suc, _+_, _/_, _≤_, _<_}
 use native.Mathlib.Omega.{arith}
 use borrow.Author.Tests.{le-ltb, ltb-true, ltb-false}
 use lib.Dec.{ltb}
-use lib.ListN.{length, take, drop, drop-of-length-le, List·getD-eq-default}
+use lib.ListN.{length, take, drop, drop-of-length-le}
 use lib.Seq.{take-append-seam, drop-cons, drop-drop}
 use Rattle.refusals.specs.declared.Refusal.the-variants.{LineBuffer}
-use Rattle.refusals.specs.declared.Outcome.{Outcome}
 use Rattle.refusals.specs.declared.Outcome.the-variants.{Taken, Refused}
 use Rattle.refusals.specs.Checks.{outcome}
 use Rattle.dimensions.specs.declared.Dimensions.{Dimensions}
@@ -23,10 +22,10 @@ use Rattle.bristol.specs.declared.Written.the-variants as W
 use Rattle.bristol.specs.declared.WrittenLines.{WrittenLines}
 use Rattle.bristol.specs.declared.WrittenLines.the-variants as lines
 use Rattle.bristol.specs.Lines.{linesOf, circuitText}
-use Rattle.bristol.specs.Writing.{circuitChecks, lineAt, written, filled, fitting, linesAt, writtenLines, filledLines}
+use Rattle.bristol.specs.Writing.{circuitChecks, lineAt, written, filled, linesAt, writtenLines, filledLines}
 use Rattle.bristol.proofs.Numbering.{lines-of-words, lines-length}
-use Rattle.bristol.proofs.Fitting.{fitting-past, fitting-next, fitting-none, fitting-front}
-use Rattle.bristol.proofs.Requests.{taken-accepted, refuse-circuit, refuse-lines, past-last, line-put, lines-lead}
+use Rattle.bristol.proofs.Fitting.{fitting-past, fitting-next, fitting-front}
+use Rattle.bristol.proofs.Requests.{taken-accepted, past-last, line-put, lines-lead}
 
 -- ---- requests in a row, whatever each puts
 
@@ -150,65 +149,3 @@ module _ (d : Dimensions) (ws : List ℕ) (e : outcome (circuitChecks d ws) ≡ 
         given-lines i .0 ∙ ap (λ (x : List (List ℕ)). lines.Lines (length x) (length (flatten x))) none,
         given-lines i .1 ∙ ap (λ (x : List (List ℕ)). over (flatten x) (lent i)) none,
       )
-
--- ---- both entries
-
--- the answer for a line as the answer for lines
-abbrev pub asLines : Written → WrittenLines
-asLines (W.Line k) = lines.Lines 1 k
-asLines W.Past = lines.Lines 0 0
-asLines (W.Refused r) = lines.Refused r
-
--- with no room for two lines, both entries answer and leave the same
-module _ (d : Dimensions) (ws : List ℕ) (i : ℕ) (lent : List ℕ)
-    (room : suc i < length (linesOf d (gatesOf ws)) → length lent < length (lineAt d ws i) + length (lineAt d ws (suc i))) where
-  -- a first line that has room is the only one
-  only : i < length (linesOf d (gatesOf ws)) → length (lineAt d ws i) ≤ length lent → linesAt d ws i lent ≡ lineAt d ws i ∷ []
-  only h f =
-      fitting-next (linesOf d (gatesOf ws)) i (length lent) h f
-      ∙ ap (λ (x : List (List ℕ)). lineAt d ws i ∷ x) (go (ltb (suc i) (length (linesOf d (gatesOf ws)))) refl)
-    where
-      go : (b : Bool) → ltb (suc i) (length (linesOf d (gatesOf ws))) ≡ b → fitting (length lent - length (lineAt d ws i)) (drop (suc i) (linesOf d (gatesOf ws))) ≡ []
-      go true e =
-          let there : suc i < length (linesOf d (gatesOf ws)) = ltb-true _ _ e in
-          fitting-none (linesOf d (gatesOf ws)) (suc i) (length lent - length (lineAt d ws i)) there (omega (arith, room there, f))
-      go false e = fitting-past (linesOf d (gatesOf ws)) (suc i) _ (ltb-false _ _ e)
-
-  taken : outcome (circuitChecks d ws) ≡ Taken → (writtenLines d ws i lent ≡ asLines (written d ws i lent)) × (filledLines d ws i lent ≡ filled d ws i lent)
-  unfolding flatten
-  taken e = go (ltb i (length (linesOf d (gatesOf ws)))) refl (ltb (length lent) (length (lineAt d ws i))) refl
-    where
-      go : (b : Bool) → ltb i (length (linesOf d (gatesOf ws))) ≡ b → (c : Bool) → ltb (length lent) (length (lineAt d ws i)) ≡ c
-          → (writtenLines d ws i lent ≡ asLines (written d ws i lent)) × (filledLines d ws i lent ≡ filled d ws i lent)
-      go true h true q =
-          let p = line-put d ws i lent e (ltb-true _ _ h) in
-          let l = lines-lead d ws i lent e true q in (
-            l .0 ∙ ap (λ (x : Bool). asLines (cond x (W.Refused LineBuffer) (W.Line (length (lineAt d ws i))))) (sym q) ∙ ap asLines (p .0),
-            l .1 ∙ ap (λ (x : Bool). cond x lent (over (lineAt d ws i) lent)) (sym q) ∙ p .1,
-          )
-      go true h false q =
-          let p = line-put d ws i lent e (ltb-true _ _ h) in
-          let l = lines-lead d ws i lent e false q in
-          let one : flatten (linesAt d ws i lent) ≡ lineAt d ws i = ap flatten (only (ltb-true _ _ h) (ltb-false _ _ q)) ∙ append-nil (lineAt d ws i) in (
-            l .0 ∙ ap₂ lines.Lines (ap length (only (ltb-true _ _ h) (ltb-false _ _ q))) (ap length one)
-                ∙ ap (λ (x : Bool). asLines (cond x (W.Refused LineBuffer) (W.Line (length (lineAt d ws i))))) (sym q) ∙ ap asLines (p .0),
-            l .1 ∙ ap (λ (x : List ℕ). over x lent) one ∙ ap (λ (x : Bool). cond x lent (over (lineAt d ws i) lent)) (sym q) ∙ p .1,
-          )
-      go false h c q =
-          let p = past-last d ws i lent e (ltb-false _ _ h) in
-          let short : lineAt d ws i ≡ [] = List·getD-eq-default (linesOf d (gatesOf ws)) [] (ltb-false _ _ h) in
-          let l = lines-lead d ws i lent e false (ap (λ (x : List ℕ). ltb (length lent) (length x)) short ∙ le-ltb (length lent) 0 (omega arith)) in
-          let none : linesAt d ws i lent ≡ [] = fitting-past (linesOf d (gatesOf ws)) i (length lent) (ltb-false _ _ h) in (
-            l .0 ∙ ap (λ (x : List (List ℕ)). lines.Lines (length x) (length (flatten x))) none ∙ ap asLines (p .0),
-            l .1 ∙ ap (λ (x : List (List ℕ)). over (flatten x) lent) none ∙ p .1,
-          )
-
-  pub one-line-alike : (writtenLines d ws i lent ≡ asLines (written d ws i lent)) × (filledLines d ws i lent ≡ filled d ws i lent)
-  one-line-alike = go (outcome (circuitChecks d ws)) refl
-    where
-      go : (o : Outcome) → outcome (circuitChecks d ws) ≡ o → (writtenLines d ws i lent ≡ asLines (written d ws i lent)) × (filledLines d ws i lent ≡ filled d ws i lent)
-      go Taken e = taken e
-      go (Refused q) e =
-          let p = refuse-circuit d ws i lent q e in
-          let l = refuse-lines d ws i lent q e in
-          (sym (l .0) ∙ ap asLines (p .0), sym (l .1) ∙ p .1)

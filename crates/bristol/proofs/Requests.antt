@@ -16,7 +16,7 @@ use Rattle.refusals.specs.declared.Refusal.{Refusal}
 use Rattle.refusals.specs.declared.Refusal.the-variants.{Variables, RowCount, Gates, LineBuffer}
 use Rattle.refusals.specs.declared.Outcome.{Outcome}
 use Rattle.refusals.specs.declared.Outcome.the-variants.{Taken, Refused}
-use Rattle.refusals.specs.Checks.{check, unless, outcome, given}
+use Rattle.refusals.specs.Checks.{check, outcome, given}
 use Rattle.refusals.proofs.Outcomes.{outcome-taken, outcome-refused, unless-passed, unless-taken}
 use Rattle.dimensions.specs.declared.Dimensions.{Dimensions}
 use Rattle.dimensions.specs.Sizes.{outside, sizeChecks, inputWires}
@@ -47,8 +47,8 @@ module _ (d : Dimensions) (ws : List ℕ) where
   -- a circuit that is taken has accepted gates
   pub taken-accepted : outcome (circuitChecks d ws) ≡ Taken → accepted (inputWires d) ws ≡ true
   taken-accepted e =
-      let gates = unless (not (accepted (inputWires d) ws)) (Refused Gates) Taken in
-      let rows = unless (outside 128 (d .left) || outside 128 (d .right)) (Refused RowCount) gates in
+      let gates = cond (not (accepted (inputWires d) ws)) (Refused Gates) Taken in
+      let rows = cond (outside 128 (d .left) || outside 128 (d .right)) (Refused RowCount) gates in
       not-false _ (unless-passed (not (accepted (inputWires d) ws)) Gates Taken (unless-taken (outside 128 (d .left) || outside 128 (d .right)) RowCount gates (unless-taken (outside 32 (d .n)) Variables rows e)))
 
   module _ (i : ℕ) (lent : List ℕ) where

@@ -33,6 +33,7 @@ gateFields wire (XOR a b) = bytes "2" ∷ bytes "1" ∷ decimal a ∷ decimal b 
 gateFields wire (AND a b) = bytes "2" ∷ bytes "1" ∷ decimal a ∷ decimal b ∷ decimal wire ∷ bytes "AND" ∷ []
 gateFields wire (INV a) = bytes "1" ∷ bytes "1" ∷ decimal a ∷ decimal wire ∷ bytes "INV" ∷ []
 
+-- the line of a gate that drives a wire
 abbrev pub gateLine : ℕ → Gate → List ℕ
 gateLine wire gate = line (gateFields wire gate)
 

@@ -55,6 +55,7 @@ fn print_circuit(d: Dimensions) {
     }
 }
 
+// Reads the line and prints what it gives.
 fn main() {
     let mut line = [0u8; 101];
     let length = input::read_line(STDIN_FILENO, &mut line);

@@ -1,7 +1,7 @@
 -- Every text ends in exactly one of accepted, 1, 2 and 5, and every pair of texts in one of these and 6. By the cases of the definitions.
 -- Assumes nothing.
 use mathlib.Core.Path.{_≡_, refl, sym, ap, _∙_}
-use mathlib.Core.Bool.{Bool, true, false, not, _&&_}
+use mathlib.Core.Bool.{Bool, true, false, not, _&&_, cond}
 use mathlib.Core.List.{List, [], _∷_}
 use Prim.Native.Nat.{ℕ, _+_}
 use native.Mathlib.Nat.{add-zero}
@@ -14,7 +14,7 @@ use Rattle.words.proofs.Truth.{on}
 use Rattle.lexer.specs.Pieces.{Piece, behind, linesFrom}
 use Rattle.lexer.specs.Numbers.{number, malformed}
 use Rattle.refusals.specs.Numbers.{numberOf}
-use Rattle.refusals.specs.Checks.{unless, given}
+use Rattle.refusals.specs.Checks.{given}
 use Rattle.refusals.specs.declared.Refusal.the-variants.{TextsDiffer}
 use Rattle.refusals.specs.declared.Outcome.{Outcome}
 use Rattle.refusals.specs.declared.Outcome.the-variants.{Taken, Refused}
@@ -73,7 +73,7 @@ tables-ending : (a b : Table) → oneOf (ending (a .outcome)) ≡ 1 → oneOf (e
 tables-ending a b ha hb = go (a .outcome) (b .outcome) (not (eqb (a .n) (b .n))) ha hb
   where
     go : (o p : Outcome) (t : Bool) → oneOf (ending o) ≡ 1 → oneOf (ending p) ≡ 1
-        → oneOfPair (ending (given (given o (given p (unless t (Refused TextsDiffer) Taken) Refused) Refused) (acceptedPair a b) refusedPair .outcome)) ≡ 1
+        → oneOfPair (ending (given (given o (given p (cond t (Refused TextsDiffer) Taken) Refused) Refused) (acceptedPair a b) refusedPair .outcome)) ≡ 1
     go (Refused x) p t ho hp = not-six (numberOf x) ho
     go Taken (Refused x) t ho hp = not-six (numberOf x) hp
     go Taken Taken true ho hp = refl

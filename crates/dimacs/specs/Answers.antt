@@ -1,4 +1,4 @@
--- The code's answers against the definitions.
+-- What the reader's own functions answer, by the definitions; no entry's contract cites this.
 use Prim.Native.Nat.{ℕ, zero, suc}
 use mathlib.Core.Bool.{Bool, true, false, cond}
 use mathlib.Core.List.{List, [], _∷_}
@@ -27,10 +27,11 @@ first (clause ls from to rest) = Read (rowOf ls) from to
 first ended = End
 first unreadable = Unreadable
 
--- a row without literals, and a row with all literals of a list more
+-- a row without literals
 abbrev pub emptyRow : Row
 emptyRow = record { positive = 0; negative = 0 }
 
+-- a row with all literals of a list more
 abbrev pub withLiterals : Row → List Literal → Row
 withLiterals r [] = r
 withLiterals r (l ∷ ls) = withLiterals (withLiteral (l .minus) (l .bit) r) ls

@@ -27,10 +27,12 @@ before n t malformed rest = unreadable
 before n t (number s zero) rest = clause [] (t .at) (behind t) rest
 before n t (number s (suc i)) rest = cond (ltb i n) (joined (record { minus = s; bit = i }) (t .at) rest) unreadable
 
+-- the clauses of some tokens
 unfoldable pub clauses : ℕ → List Piece → Reading
 clauses n [] = ended
 clauses n (t ∷ ts) = before n t (numberOf (t .bytes)) (clauses n ts)
 
+-- the rows of the clauses that could be read
 abbrev pub rowsOf : Reading → List Row
 rowsOf (clause ls from to rest) = rowOf ls ∷ rowsOf rest
 rowsOf ended = []

@@ -19,7 +19,7 @@ use Rattle.dimacs.specs.declared.Table.{Table}
 abbrev pub refused : Refusal → Table
 refused r = record { outcome = Refused r; n = 0; rows = 0; words = replicate 256 0 }
 
--- the words past the rows are zero
+-- a table of rows; the words past them are zero
 abbrev pub accepted : ℕ → List Row → Table
 accepted n rs = record { outcome = Taken; n = n; rows = length rs; words = wordsOf rs ++ replicate (256 - 2 * length rs) 0 }
 

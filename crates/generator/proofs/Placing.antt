@@ -3,14 +3,15 @@
 use mathlib.Core.Path.{_≡_, refl, ap, ap₂, sym, _∙_}
 use mathlib.Core.Bool.{true, _&&_, cond}
 use mathlib.Core.List.{List, [], _∷_, _++_}
-use Prim.Native.Nat.{ℕ, zero, suc, _+_, _*_, _-_, _/_, _≤_, _<_}
-use native.Mathlib.Nat.{add-zero, add-suc, suc-add, not-suc-le-zero, le-of-suc-le-suc, mul-le-mul, mul-le-mul-left}
+use Prim.Native.Nat.{ℕ, zero, suc, _+_, _*_, _/_, _≤_, _<_}
+use native.Mathlib.Nat.{not-suc-le-zero, le-of-suc-le-suc, mul-le-mul, mul-le-mul-left}
 use native.Mathlib.Numerals.{add-one, add-two, add-three}
 use native.Mathlib.Omega.{arith}
 use lib.Dec.{eqb}
 use lib.ListN.{length, getD, drop, set, length-set, length-drop, drop-of-length-le}
 use lib.Seq.{sets}
 use Rattle.words.proofs.Truth.{and-l, and-r}
+use Rattle.words.proofs.Stores.{sets-append}
 use Rattle.gates.specs.Gates.{Gate}
 use Rattle.gates.specs.Memory.{gateWords, wordsOf, gateOf, gatesOf, drives, accepted}
 use Rattle.gates.proofs.InMemory.{words-append, words-length, accepted-length}
@@ -18,12 +19,6 @@ use Rattle.gates.proofs.Judging.{drop-three, accepted-at, drives-below}
 use Rattle.netlist.specs.Templates.{sum}
 use Rattle.netlist.specs.Arrays.{operand, placed, cell, rows, along, none, cells, line, array}
 use Rattle.netlist.proofs.Sizes.{rows-length, cell-length, cells-length, line-length}
-
--- stores one after the other are one run of stores
-pub sets-append : (xs ys l : List ℕ) (i : ℕ) → sets l i (xs ++ ys) ≡ sets (sets l i xs) (i + length xs) ys
-sets-append [] ys l i = ap (λ (k : ℕ). sets l k ys) (sym (add-zero i))
-sets-append (x ∷ xs) ys l i =
-    sets-append xs ys (set l i x) (suc i) ∙ ap (λ (k : ℕ). sets (sets (set l i x) (suc i) xs) k ys) (suc-add i (length xs) ∙ sym (add-suc i (length xs)))
 
 -- the words of a placed gate
 placed-words : (s : List ℕ) (b k x y : ℕ) → k < 3

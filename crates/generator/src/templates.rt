@@ -1,4 +1,5 @@
 // The templates of the cells, three words a gate: kind, then operands. An operand below 8 is a slot, 8 + k the cell's own gate k.
+// What each computes stands beside its namesake in netlist's definitions.
 
 // XOR of slots 0 and 1; on unused slots a gate that is 0.
 pub(crate) const SUM: [u32; 3] = [0, 0, 1];

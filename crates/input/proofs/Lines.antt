@@ -1,5 +1,6 @@
 -- Bytes without an LF are the start of their line: by the definition of a line, a byte more at a time.
-use Prim.Native.Nat.{ℕ, suc, _+_, _<_}
+-- Assumes nothing.
+use Prim.Native.Nat.{ℕ, _+_, _<_}
 use mathlib.Core.Path.{_≡_, refl, sym, _∙_, ap}
 use mathlib.Core.Bool.{Bool, true, false, cond}
 use mathlib.Core.List.{List, [], _∷_, _++_, append-assoc}

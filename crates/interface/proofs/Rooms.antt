@@ -3,13 +3,12 @@
 use mathlib.Core.Path.{_≡_, refl, sym, ap, _∙_}
 use mathlib.Core.Bool.{Bool, true, false, cond}
 use mathlib.Core.List.{List, [], _∷_, _++_}
-use Prim.Native.Nat.{ℕ, _-_, min}
+use Prim.Native.Nat.{ℕ, min}
 use native.Mathlib.Omega.{arith}
 use lib.Dec.{ltb}
-use lib.ListN.{length, take, drop, replicate}
-use lib.Seq.{take-append-seam}
+use lib.ListN.{length, drop}
 use Rattle.words.proofs.Truth.{on}
-use Rattle.refusals.specs.Checks.{unless, outcome, given}
+use Rattle.refusals.specs.Checks.{outcome, given}
 use Rattle.refusals.specs.declared.Refusal.{Refusal}
 use Rattle.refusals.specs.declared.Refusal.the-variants.{Variables, State}
 use Rattle.refusals.specs.declared.Outcome.{Outcome}
@@ -33,7 +32,7 @@ module _ (run : Run) (words : List ℕ) where
   unfolding stored
   stored-room = go (ltb (length words) 101)
     where
-      go : (b : Bool) → cond b words (wordsOf run ++ drop 101 words) ≡ given (unless b (Refused State) Taken) (cond b words (wordsOf run ++ drop 101 words)) (λ r. words)
+      go : (b : Bool) → cond b words (wordsOf run ++ drop 101 words) ≡ given (cond b (Refused State) Taken) (cond b words (wordsOf run ++ drop 101 words)) (λ r. words)
       go true = refl
       go false = refl
 
@@ -77,9 +76,3 @@ module _ (n : ℕ) (bytes words : List ℕ) (read : Read) (k : ℕ) (held : k �
       on (outside 32 n)
       (λ g. absurd (refused-taken (sym (read-refused n bytes g) ∙ (sym reads-alike ∙ h))))
       (λ g. ap (λ (r : Read). r .run) is ∙ ap (λ (x : ℕ). readBack x bytes .run) (held ∙ inside-held 32 n (omega arith) g))
-
--- ---- a text
-
--- a text by value gives its bytes back
-pub text-back : (bytes : List ℕ) → take (length bytes) (bytes ++ replicate (256 - length bytes) 0) ≡ bytes
-text-back bytes = take-append-seam bytes (replicate (256 - length bytes) 0)

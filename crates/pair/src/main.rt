@@ -70,9 +70,9 @@ fn answer_long(left_file: i32, left: &[u8], right_file: i32, right: &[u8], line:
     answer(&left_text[..l], &right_text[..r], line);
 }
 
-// Standard input comes first: were it closed, a file would get its number. A file that does not open has the descriptor -1, of which
-// every read fails. `answer_long` is called in two places, since a function that is called in one is compiled into its caller, large
-// buffers and all.
+// Reads the line and both texts and prints the reply. Standard input comes first: were it closed, a file would get its number. A file
+// that does not open has the descriptor -1, of which every read fails. `answer_long` is called in two places, since a function that is
+// called in one is compiled into its caller, large buffers and all.
 fn main() {
     let mut left = [0u8; SHORT];
     let mut right = [0u8; SHORT];

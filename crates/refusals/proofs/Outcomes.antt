@@ -1,24 +1,24 @@
 -- Laws of checks in order. By induction on the checks, each passed or failed.
 -- Assumes nothing.
 use mathlib.Core.Path.{_≡_, refl}
-use mathlib.Core.Bool.{Bool, true, false}
+use mathlib.Core.Bool.{Bool, true, false, cond}
 use mathlib.Core.List.{List, [], _∷_, _++_}
 use Prim.Native.Nat.{ℕ}
 use native.Mathlib.Omega.{arith}
 use Rattle.refusals.specs.declared.Refusal.{Refusal}
 use Rattle.refusals.specs.declared.Outcome.{Outcome}
 use Rattle.refusals.specs.declared.Outcome.the-variants.{Taken, Refused}
-use Rattle.refusals.specs.Checks.{Check, unless, outcome}
+use Rattle.refusals.specs.Checks.{Check, outcome}
 
 pub refused-taken : {r : Refusal} → Refused r ≡ Taken → ⊥
 refused-taken e = let z : _≡_ {A = ℕ} 0 1 = cc in omega arith
 
 -- a check that is passed, and what follows it
-pub unless-passed : (b : Bool) (r : Refusal) (o : Outcome) → unless b (Refused r) o ≡ Taken → b ≡ false
+pub unless-passed : (b : Bool) (r : Refusal) (o : Outcome) → cond b (Refused r) o ≡ Taken → b ≡ false
 unless-passed true r o e = absurd (refused-taken e)
 unless-passed false r o e = refl
 
-pub unless-taken : (b : Bool) (r : Refusal) (o : Outcome) → unless b (Refused r) o ≡ Taken → o ≡ Taken
+pub unless-taken : (b : Bool) (r : Refusal) (o : Outcome) → cond b (Refused r) o ≡ Taken → o ≡ Taken
 unless-taken true r o e = absurd (refused-taken e)
 unless-taken false r o e = e
 
@@ -27,7 +27,7 @@ pub outcome-taken : (xs ys : List Check) → outcome xs ≡ Taken → outcome (x
 outcome-taken [] ys e = refl
 outcome-taken (c ∷ cs) ys e = go (c .fails) (c .refusal) (outcome cs) (outcome (cs ++ ys)) (λ h. outcome-taken cs ys h) e
   where
-    go : (b : Bool) (r : Refusal) (o p : Outcome) → (o ≡ Taken → p ≡ outcome ys) → unless b (Refused r) o ≡ Taken → unless b (Refused r) p ≡ outcome ys
+    go : (b : Bool) (r : Refusal) (o p : Outcome) → (o ≡ Taken → p ≡ outcome ys) → cond b (Refused r) o ≡ Taken → cond b (Refused r) p ≡ outcome ys
     go true r o p f e = absurd (refused-taken e)
     go false r o p f e = f e
 
@@ -36,6 +36,6 @@ pub outcome-refused : (xs ys : List Check) (q : Refusal) → outcome xs ≡ Refu
 outcome-refused [] ys q e = let z : _≡_ {A = ℕ} 0 1 = cc in absurd (omega arith)
 outcome-refused (c ∷ cs) ys q e = go (c .fails) (c .refusal) (outcome cs) (outcome (cs ++ ys)) (λ h. outcome-refused cs ys q h) e
   where
-    go : (b : Bool) (r : Refusal) (o p : Outcome) → (o ≡ Refused q → p ≡ Refused q) → unless b (Refused r) o ≡ Refused q → unless b (Refused r) p ≡ Refused q
+    go : (b : Bool) (r : Refusal) (o p : Outcome) → (o ≡ Refused q → p ≡ Refused q) → cond b (Refused r) o ≡ Refused q → cond b (Refused r) p ≡ Refused q
     go true r o p f e = e
     go false r o p f e = f e

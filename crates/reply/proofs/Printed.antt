@@ -9,7 +9,6 @@ use Rattle.refusals.specs.declared.Outcome.{Outcome}
 use Rattle.refusals.specs.declared.Outcome.the-variants.{Taken, Refused}
 use Rattle.tables.specs.Rows.{rowsOf}
 use Rattle.dimacs.specs.declared.Pair.{Pair}
-use Rattle.solver.specs.declared.Solved.{Solved}
 use Rattle.solver.specs.declared.Solved.the-variants as solved
 use Rattle.lines.specs.Numbers.{budgetOf}
 use Rattle.lines.specs.Answers.{solvedText}

@@ -14,6 +14,7 @@ use Rattle.lines.specs.Answers.{solvedText}
 use Rattle.lines.specs.declared.Budget.{Budget}
 use Rattle.lines.specs.declared.Budget.the-variants as budget
 
+-- n and the row counts of a pair
 abbrev pub dimensionsOf : Pair → Dimensions
 dimensionsOf p = record { n = p .n; left = p .«left_rows»; right = p .«right_rows» }
 
@@ -26,5 +27,6 @@ answered p (budget.Refused r) = Refused r
 abbrev pub replied : Pair → List ℕ → Solved
 replied p line = given (p .outcome) (answered p (budgetOf line)) Refused
 
+-- what is printed for the two texts and the line
 unfoldable pub replyText : List ℕ → List ℕ → List ℕ → List ℕ
 replyText left right line = let p = pairOf (tableOf left) (tableOf right) in solvedText (p .n) (replied p line)

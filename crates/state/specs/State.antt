@@ -8,13 +8,14 @@ use Rattle.state.specs.declared.Run.{Run}
 use Rattle.state.specs.declared.Standing.{Standing}
 use Rattle.state.specs.declared.Standing.the-variants.{Open, Satisfied, Refuted}
 
--- the used levels, the last one first
+-- a state: its standing, T, F, and the used levels, the last one first
 pub record State : Type 0 where
   pub standing : Standing
   pub t : ℕ
   pub f : ℕ
   pub levels : List Level
 
+-- T, F and levels empty, open
 abbrev pub fresh : State
 fresh = record { standing = Open; t = 0; f = 0; levels = [] }
 

@@ -16,9 +16,11 @@ use Rattle.state.specs.declared.Level.{Level}
 use Rattle.state.specs.declared.Run.{Run}
 use Rattle.state.specs.State.{State, stateOf}
 
+-- no variable below n is in both
 unfoldable pub disjoint : ℕ → ℕ → ℕ → Bool
 disjoint n t f = all (λ i. not (bit t i && bit f i)) n
 
+-- each variable below n that a has, b has too
 unfoldable pub within : ℕ → ℕ → ℕ → Bool
 within n a b = all (λ i. imp (bit a i) (bit b i)) n
 
@@ -39,6 +41,7 @@ unfolding precedes
 chain n t f [] = true
 chain n t f (l ∷ ls) = precedes n l t f && chain n (l .t) (l .f) ls
 
+-- a well-formed state of n: its sets, at most n levels, and each level before the next
 unfoldable pub wellFormedState : ℕ → State → Bool
 unfolding sets chain
 wellFormedState n s = sets n (s .t) (s .f) && leb (length (s .levels)) n && chain n (s .t) (s .f) (s .levels)

@@ -1,13 +1,13 @@
 -- Laws of the loops over the levels: what is left to read or to store gives what the whole gives. One turn takes three words apart.
 -- Assumes nothing.
-use mathlib.Core.Path.{_≡_, refl, sym, ap, _∙_}
+use mathlib.Core.Path.{_≡_, sym, ap, _∙_}
 use mathlib.Core.List.{List, [], _∷_, _++_, append-assoc, append-nil}
-use Prim.Native.Nat.{ℕ, zero, suc, _+_, _*_, _-_, _≤_, _<_}
+use Prim.Native.Nat.{ℕ, suc, _+_, _*_, _-_, _<_}
 use native.Mathlib.Omega.{arith}
 use native.Mathlib.Nat.{add-zero}
 use native.Mathlib.Numerals.{add-one}
 use lib.ListN.{length, getD, take, drop, set}
-use lib.Seq.{sets, drop-cons, drop-length, take-suc-set, take-length, append-snoc, getD-drop, drop-drop}
+use lib.Seq.{sets, drop-cons, drop-length, take-suc-set, take-length, getD-drop, drop-drop}
 use Rattle.state.specs.declared.Level.{Level}
 use Rattle.state.specs.State.{none}
 use Rattle.stored.specs.Words.{levelWords, levelsIn}

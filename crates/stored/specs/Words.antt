@@ -10,16 +10,18 @@ use Rattle.state.specs.declared.Standing.{Standing}
 use Rattle.state.specs.declared.Standing.the-variants.{Open, Satisfied, Refuted}
 use Rattle.state.specs.State.{fresh, runOf}
 
+-- the number of a standing
 abbrev pub numberOf : Standing → ℕ
 numberOf Open = 0
 numberOf Satisfied = 1
 numberOf Refuted = 2
 
+-- three words a level: T, F, the chosen variable
 unfoldable pub levelWords : List Level → List ℕ
 levelWords [] = []
 levelWords (l ∷ ls) = l .t ∷ (l .f ∷ (l .chosen ∷ levelWords ls))
 
--- a depth that no word holds, which no well-formed run has, becomes the largest word
+-- a run's words; a depth that no word holds, which no well-formed run has, becomes the largest word
 unfoldable pub wordsOf : Run → List ℕ
 unfolding levelWords
 wordsOf run = run .n ∷ (numberOf (run .standing) ∷ (run .t ∷ (run .f ∷ (min (run .depth) (2 ^ 32 - 1) ∷ levelWords (run .levels)))))
@@ -29,6 +31,7 @@ unfoldable pub stored : Run → List ℕ → List ℕ
 unfolding wordsOf
 stored run words = cond (ltb (length words) 101) words (wordsOf run ++ drop 101 words)
 
+-- the standing of a number below 3
 abbrev pub standingOf : ℕ → Standing
 standingOf k = cond (eqb k 1) Satisfied (cond (eqb k 2) Refuted Open)
 

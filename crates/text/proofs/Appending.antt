@@ -60,11 +60,8 @@ appended-text xs (y ∷ ys) h =
     ∙ ap textOf (append-assoc xs (y ∷ []) ys)
 
 -- a text by value gives back its bytes
-pub text-injective : (xs ys : List ℕ) → textOf xs ≡ textOf ys → xs ≡ ys
-text-injective xs ys e = sym (front xs) ∙ ap (λ (t : Text). take (t .length) (t .bytes)) e ∙ front ys
-  where
-    front : (zs : List ℕ) → take (length zs) (zs ++ replicate (256 - length zs) 0) ≡ zs
-    front zs = take-append-seam zs (replicate (256 - length zs) 0)
+pub text-back : (xs : List ℕ) → take (length xs) (xs ++ replicate (256 - length xs) 0) ≡ xs
+text-back xs = take-append-seam xs (replicate (256 - length xs) 0)
 
 -- the bytes of a text are all there
 pub text-within : (t : Text) (xs : List ℕ) → t ≡ textOf xs → t .length ≤ length (t .bytes)

@@ -5,3 +5,4 @@ pub mod Bits
 pub mod Operations
 pub mod WordOf
 pub mod Ones
+pub mod Stores

@@ -124,7 +124,7 @@ pub shr-zero : (n w : ℕ) → eqb (w / 2 ^ n) 0 ≡ ltb w (2 ^ n)
 shr-zero n w =
     on (ltb w (2 ^ n))
     (λ e. eq-eqb _ 0 (div-eq-of-lt (ltb-true w (2 ^ n) e)) ∙ sym e)
-    (λ e. ne-eqb _ 0 (λ z. omega (arith, ltb-false w (2 ^ n) e, low z)) ∙ sym e)
+    (λ e. ne-eqb _ 0 (λ (z : w / 2 ^ n ≡ 0). omega (arith, ltb-false w (2 ^ n) e, low z)) ∙ sym e)
   where
     low : w / 2 ^ n ≡ 0 → w < 2 ^ n
     low z = rw one-mul at (div-lt-iff-lt-mul {x = w} {y = 1} (pow-pos n) .0 (rw z (zero-lt-suc 0)))

@@ -1,6 +1,6 @@
 -- Laws of Booleans. A tautology is proved by computing its truth table.
 -- Assumes nothing.
-use mathlib.Core.Path.{_≡_, refl, sym, _∙_}
+use mathlib.Core.Path.{_≡_, refl, sym}
 use mathlib.Core.Bool.{Bool, true, false, not, _&&_, _||_, true≢false, false≢true}
 use lib.Dec.{T}
 use Rattle.words.specs.Booleans.{imp}

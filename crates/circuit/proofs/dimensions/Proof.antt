@@ -1,4 +1,4 @@
--- `circuit::dimensions` meets its contract: what the line gives, case by case.
+-- `dimensions` meets its contract: what the line gives, case by case.
 -- Assumes nothing.
 use mathlib.Core.Path.{sym, ap, _∙_}
 use Rattle.circuit.specs.Line.{dimensionsFrom}

@@ -1,4 +1,4 @@
--- `circuit::print_circuit` is safe and ends: the generated gates are within the words.
+-- `print_circuit` is safe and ends: the generated gates are within the words.
 -- Assumes nothing.
 use mathlib.Core.Path.{sym, _∙_}
 use Prim.Native.Nat.{ℕ}

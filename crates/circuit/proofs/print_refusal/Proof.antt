@@ -1,4 +1,4 @@
--- `circuit::print_refusal` is safe and ends: a text's length is within its bytes.
+-- `print_refusal` is safe and ends: a text's length is within its bytes.
 -- Assumes nothing.
 use native.Mathlib.Omega.{arith}
 use lib.ListN.{length-take}

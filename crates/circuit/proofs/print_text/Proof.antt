@@ -1,4 +1,4 @@
--- `circuit::print_text` is safe and ends: the lines that are written are within the bytes, which keep their length, and at least one while there is one.
+-- `print_text` is safe and ends: the lines that are written are within the bytes, which keep their length, and at least one while there is one.
 -- Assumes nothing.
 use mathlib.Core.Path.{_≡_, sym, _∙_}
 use Prim.Native.Nat.{_+_, _-_, _/_}

@@ -1,4 +1,4 @@
--- `input::read_line` meets its contract. The invariant: what was read is within the buffer and has no LF, and the bytes behind are as they were.
+-- `read_line` meets its contract. The invariant: what was read is within the buffer and has no LF, and the bytes behind are as they were.
 -- Assumes nothing.
 use Prim.Native.Nat.{_≤_, _-_}
 use mathlib.Core.Path.{_≡_, refl}

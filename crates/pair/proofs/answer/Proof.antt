@@ -1,4 +1,4 @@
--- `pair::answer` is safe and ends: a text's length is within its bytes.
+-- `answer` is safe and ends: a text's length is within its bytes.
 -- Assumes nothing.
 use native.Mathlib.Omega.{arith}
 use lib.ListN.{length-take}

@@ -1,4 +1,4 @@
--- `pair::extend` meets its contract: the copy puts the start into the buffer, and `fill` keeps it there.
+-- `extend` meets its contract: the copy puts the start into the buffer, and `fill` keeps it there.
 -- Assumes nothing.
 use Prim.Native.Nat.{ℕ}
 use mathlib.Core.Path.{_≡_, _∙_, ap, sym}

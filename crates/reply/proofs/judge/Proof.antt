@@ -1,4 +1,4 @@
--- `reply::judge` meets its contract: each case of the pair's outcome is the definition's.
+-- `judge` meets its contract: each case of the pair's outcome is the definition's.
 -- Assumes nothing.
 use mathlib.Core.Path.{sym, ap, _∙_}
 use Rattle.refusals.specs.Checks.{given}

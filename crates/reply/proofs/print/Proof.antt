@@ -1,4 +1,4 @@
--- `reply::print` meets its contract: each case is its callee's.
+-- `print` meets its contract: each case is its callee's.
 -- Assumes nothing.
 use mathlib.Core.Path.{sym, ap, _∙_}
 use Prim.Native.Nat.{min}

@@ -1,4 +1,4 @@
--- `reply::reply` meets its contract: what was read is the definition's pair, whose n is at most 32.
+-- `reply` meets its contract: what was read is the definition's pair, whose n is at most 32.
 -- Assumes nothing.
 use mathlib.Core.Path.{ap, _∙_}
 use Prim.Native.Nat.{min}

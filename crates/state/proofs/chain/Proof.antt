@@ -1,4 +1,4 @@
--- `state::chain` meets its contract. The loop's invariant: the first i levels before the present T and F decide what the whole decides.
+-- `chain` meets its contract. The loop's invariant: the first i levels before the present T and F decide what the whole decides.
 -- The measure is i. Assumes nothing.
 use mathlib.Core.Path.{_≡_, sym, _∙_}
 use Prim.Native.Nat.{_≤_}

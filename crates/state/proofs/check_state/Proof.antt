@@ -1,4 +1,4 @@
--- `state::check_state` meets its contract: a check that fails decides.
+-- `check_state` meets its contract: a check that fails decides.
 -- Assumes nothing.
 use mathlib.Core.Path.{sym, _∙_}
 use borrow.Author.Tests.{not-true, not-false}

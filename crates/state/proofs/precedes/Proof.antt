@@ -1,4 +1,4 @@
--- `state::precedes` meets its contract: each test of words is the definition's test of variables.
+-- `precedes` meets its contract: each test of words is the definition's test of variables.
 -- Assumes nothing.
 use mathlib.Core.Path.{sym, _∙_}
 use native.Mathlib.Omega.{arith}

@@ -1,4 +1,4 @@
--- `state::sets` meets its contract: each test that fails makes the definition false, and no common digit is a test of every variable.
+-- `sets` meets its contract: each test that fails makes the definition false, and no common digit is a test of every variable.
 -- Assumes nothing.
 use mathlib.Core.Path.{sym, _∙_}
 use borrow.Author.Needs.{needs}

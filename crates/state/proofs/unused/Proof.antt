@@ -1,4 +1,4 @@
--- `state::unused` meets its contract. The loop's invariant: the levels from i on decide what the whole decides.
+-- `unused` meets its contract. The loop's invariant: the levels from i on decide what the whole decides.
 -- The measure is what is left of the 32 levels. Assumes nothing.
 use mathlib.Core.Path.{_≡_, _∙_}
 use Prim.Native.Nat.{_-_}

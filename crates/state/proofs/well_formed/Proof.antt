@@ -1,4 +1,4 @@
--- `state::well_formed` meets its contract: each test that fails makes the definition false, and the unused levels decide where all hold.
+-- `well_formed` meets its contract: each test that fails makes the definition false, and the unused levels decide where all hold.
 -- Assumes nothing.
 use mathlib.Core.Path.{sym, _∙_}
 use borrow.Author.Needs.{needs}

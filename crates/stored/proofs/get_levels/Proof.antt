@@ -1,4 +1,4 @@
--- `stored::get_levels` meets its contract. The loop's invariant: the levels read so far, with those left, are those of the whole.
+-- `get_levels` meets its contract. The loop's invariant: the levels read so far, with those left, are those of the whole.
 -- The measure is how many levels are left. Assumes nothing.
 use mathlib.Core.Path.{_≡_, refl, sym, _∙_}
 use native.Mathlib.Omega.{arith}

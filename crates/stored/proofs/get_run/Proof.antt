@@ -1,6 +1,5 @@
--- `stored::get_run` meets its contract: its parts are the words, which are 101, and those of its callees.
+-- `get_run` meets its contract: its parts are the words, which are 101, and those of its callees.
 -- Assumes nothing.
-use mathlib.Core.Path.{sym, _∙_}
 use native.Mathlib.Omega.{arith}
 use lib.ListN.{getD}
 use Rattle.stored.specs.Words.{heldRun}

@@ -1,4 +1,4 @@
--- `stored::holds` meets its contract: each test that fails makes the definition false, and the standing decides where the others hold.
+-- `holds` meets its contract: each test that fails makes the definition false, and the standing decides where the others hold.
 -- Assumes nothing.
 use mathlib.Core.Path.{sym}
 use borrow.Author.Needs.{needs}

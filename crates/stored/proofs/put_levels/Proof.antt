@@ -1,4 +1,4 @@
--- `stored::put_levels` meets its contract. The loop's invariant: with the levels that are left, the words are those of the whole.
+-- `put_levels` meets its contract. The loop's invariant: with the levels that are left, the words are those of the whole.
 -- The measure is how many levels are left. Assumes nothing.
 use mathlib.Core.Path.{_≡_, refl, sym, _∙_}
 use native.Mathlib.Omega.{arith}

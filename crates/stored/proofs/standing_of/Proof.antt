@@ -1,7 +1,7 @@
--- `stored::standing_of` meets its contract: each arm's number decides the definition's tests.
+-- `standing_of` meets its contract: each arm's number decides the definition's tests.
 -- Assumes nothing.
 use mathlib.Core.Path.{sym, ap}
-use borrow.Author.Tests.{eq-eqb, ne-eqb}
+use borrow.Author.Tests.{ne-eqb}
 use Rattle.stored.specs.Words.{standingOf}
 use Rattle.stored.proofs.standing_of.Statement.{statement}
 use Rattle.stored.proofs.standing_of.Tie as tie

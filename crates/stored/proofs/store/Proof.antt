@@ -1,6 +1,6 @@
--- `stored::store` meets its contract: five stores and the levels' are the stores of the run's words.
+-- `store` meets its contract: five stores and the levels' are the stores of the run's words.
 -- Assumes nothing.
-use mathlib.Core.Path.{_≡_, sym, ap, _∙_}
+use mathlib.Core.Path.{sym, ap, _∙_}
 use native.Mathlib.Omega.{arith}
 use lib.ListN.{length, length-set, length-map}
 use lib.Seq.{length-sets}

@@ -1,13 +1,13 @@
 -- `forkhemit_read_pair` meets its contract: tables and sizes of the pair are written where its texts are taken and its rows have room.
 -- Assumes nothing.
-use mathlib.Core.Path.{_≡_, ap, _∙_}
+use mathlib.Core.Path.{ap, _∙_}
 use Prim.Native.Nat.{_*_}
-use lib.ListN.{length, take}
+use lib.ListN.{take}
 use Rattle.dimacs.specs.declared.Pair.{Pair}
 use Rattle.refusals.specs.declared.Outcome.{Outcome}
 use Rattle.lent.specs.Codes.{codeOf}
-use Rattle.lent.specs.Lent.{frontIf, pairRoom}
-use Rattle.interface.specs.Lent.{pairIn, pairOutcome, pairNumbers}
+use Rattle.lent.specs.Lent.{frontIf}
+use Rattle.interface.specs.Lent.{pairOutcome, pairNumbers}
 use borrow.Author.Needs.{needs}
 use Rattle.interface.proofs.pairs.forkhemit_read_pair.Statement.{statement}
 use Rattle.interface.proofs.pairs.forkhemit_read_pair.Tie as tie

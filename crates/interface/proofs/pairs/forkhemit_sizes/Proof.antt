@@ -1,6 +1,6 @@
 -- `forkhemit_sizes` meets its contract: the numbers are those of the dimensions, written where they are within the limits.
 -- Assumes nothing.
-use mathlib.Core.Path.{sym, ap, _∙_}
+use mathlib.Core.Path.{ap, _∙_}
 use mathlib.Core.List.{[], _∷_}
 use Prim.Native.Nat.{_*_}
 use native.Mathlib.Omega.{arith}

@@ -2,7 +2,6 @@
 -- Assumes nothing.
 use mathlib.Core.Path.{sym, ap, _∙_}
 use mathlib.Core.List.{[], _∷_}
-use Prim.Native.Nat.{ℕ}
 use Rattle.solver.specs.declared.Solved.{Solved}
 use Rattle.interface.specs.Codes.{solvedCode, solvedNumbers}
 use Rattle.lent.specs.Lent.{front}

@@ -12,7 +12,7 @@ use Rattle.lines.specs.Answers.{answerText}
 use Rattle.lent.specs.Codes.{codeOf}
 use Rattle.interface.specs.Codes.{answerFrom}
 use Rattle.lent.specs.Lent.{frontIf, textOutcome}
-use Rattle.interface.proofs.Rooms.{text-back}
+use Rattle.text.proofs.Appending.{text-back}
 use borrow.Author.Needs.{needs}
 use Rattle.interface.proofs.texts.forkhemit_answer.Statement.{statement}
 use Rattle.interface.proofs.texts.forkhemit_answer.Tie as tie

@@ -1,4 +1,4 @@
--- `state::Run::fresh` meets its contract: the definition computes.
+-- `Run::fresh` meets its contract: the definition computes.
 -- Assumes nothing.
 use mathlib.Core.Path.{refl}
 use Rattle.state.specs.State.{runOf}

@@ -1,4 +1,4 @@
--- `text::Text::append` meets its contract. The invariant: appending what is left gives what appending the whole gives.
+-- `Text::append` meets its contract. The invariant: appending what is left gives what appending the whole gives.
 -- Assumes nothing.
 use mathlib.Core.Path.{_≡_, refl, sym, ap, _∙_}
 use mathlib.Core.List.{List}

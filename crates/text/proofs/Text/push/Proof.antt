@@ -1,4 +1,4 @@
--- `text::Text::push` meets its contract: the test is the definition's, and the store is its.
+-- `Text::push` meets its contract: the test is the definition's, and the store is its.
 -- Assumes nothing.
 use borrow.Author.Needs.{needs}
 use borrow.Author.Tests.{le-ltb, lt-ltb}
