@@ -29,13 +29,13 @@ satisfiedHere p q f o = (p ⊕ (f && (p ⊕ q))) ⊕ positiveHere p q o
 -- ---- row: satisfied; an odd number of free literals; more than one
 
 abbrev pub fewOf : Bool → Bool → Bool
-fewOf sat many = not sat && not many
+fewOf satisfied many = not satisfied && not many
 
 abbrev pub unitOf : Bool → Bool → Bool → Bool
-unitOf sat odd many = fewOf sat many && odd
+unitOf satisfied odd many = fewOf satisfied many && odd
 
 abbrev pub conflictOf : Bool → Bool → Bool → Bool
-conflictOf sat odd many = fewOf sat many ⊕ unitOf sat odd many
+conflictOf satisfied odd many = fewOf satisfied many ⊕ unitOf satisfied odd many
 
 -- the first unit row, if before it there was none
 abbrev pub firstOf : Bool → Bool → Bool
@@ -43,15 +43,15 @@ firstOf unit before = unit ⊕ (unit && before)
 
 -- the rows that count: the first unit row if there is one, else all unsatisfied ones
 abbrev pub countsOf : Bool → Bool → Bool → Bool
-countsOf unsat first anyunit = unsat ⊕ (anyunit && (first ⊕ unsat))
+countsOf unsatisfied first anyUnit = unsatisfied ⊕ (anyUnit && (first ⊕ unsatisfied))
 
 -- ---- rule: open; some row unsatisfied, in conflict, unit; the first unit row's sign; depth 0
 
 abbrev pub openOf : Bool → Bool → Bool
-openOf sat ref = not (sat ⊕ ref)
+openOf satisfied refuted = not (satisfied ⊕ refuted)
 
 abbrev pub doneOf : Bool → Bool → Bool
-doneOf o unsat = o && not unsat
+doneOf o unsatisfied = o && not unsatisfied
 
 abbrev pub clashOf : Bool → Bool → Bool
 clashOf o conflict = o && conflict
@@ -64,16 +64,16 @@ popOf o conflict d = clashOf o conflict ⊕ refuteOf o conflict d
 
 -- neither done nor a conflict: a literal is made true
 abbrev pub actOf : Bool → Bool → Bool → Bool
-actOf o unsat conflict = (o ⊕ doneOf o unsat) ⊕ clashOf o conflict
+actOf o unsatisfied conflict = (o ⊕ doneOf o unsatisfied) ⊕ clashOf o conflict
 
 abbrev pub forceOf : Bool → Bool → Bool → Bool → Bool
-forceOf o unsat conflict unit = actOf o unsat conflict && unit
+forceOf o unsatisfied conflict unit = actOf o unsatisfied conflict && unit
 
 abbrev pub pushOf : Bool → Bool → Bool → Bool → Bool
-pushOf o unsat conflict unit = actOf o unsat conflict ⊕ forceOf o unsat conflict unit
+pushOf o unsatisfied conflict unit = actOf o unsatisfied conflict ⊕ forceOf o unsatisfied conflict unit
 
-abbrev pub negOf : Bool → Bool → Bool → Bool → Bool → Bool
-negOf o unsat conflict unit positive = forceOf o unsat conflict unit && not positive
+abbrev pub setFOf : Bool → Bool → Bool → Bool → Bool → Bool
+setFOf o unsatisfied conflict unit positive = forceOf o unsatisfied conflict unit && not positive
 
-abbrev pub posOf : Bool → Bool → Bool → Bool → Bool → Bool
-posOf o unsat conflict unit positive = actOf o unsat conflict ⊕ negOf o unsat conflict unit positive
+abbrev pub setTOf : Bool → Bool → Bool → Bool → Bool → Bool
+setTOf o unsatisfied conflict unit positive = actOf o unsatisfied conflict ⊕ setFOf o unsatisfied conflict unit positive

@@ -30,12 +30,12 @@ same-by : (n : ℕ) (f g : ℕ → Bool) → ((k : ℕ) → f k ≡ g k) → Sam
 same-by n f g h = record {
   same-T = λ i b. h _;
   same-F = λ i b. h _;
-  same-D = λ k b. h _;
-  same-LT = λ l i b k. h _;
-  same-LF = λ l i b k. h _;
-  same-LV = λ l i b k. h _;
-  same-SAT = h _;
-  same-REF = h _;
+  same-depth = λ k b. h _;
+  same-levelT = λ l i b k. h _;
+  same-levelF = λ l i b k. h _;
+  same-chosen = λ l i b k. h _;
+  same-satisfied = h _;
+  same-refuted = h _;
 }
 
 module _ (n : ℕ) (rows : List Row) (s : State) where

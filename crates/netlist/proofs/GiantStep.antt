@@ -54,31 +54,31 @@ module _ (n : ℕ) (rows : List Row) (w : Wires) where
     followed : (ls : List Level) (k : Rule) → OnState n rows (state Open t f ls) w → Shows n m w k → Ruled n rows t f k → Same n (w .next) (bitsIn (follow (state Open t f ls) k))
     followed ls AllSatisfied c e h =
         moved-by n rows (state Open t f ls) w c _
-        (rule-wires n rows (state Open t f ls) w c ∙ (λ i. signals true (e .0 i) (e .1 i) (w .anyunit m) (w .positive m) (eqb 0 (length ls))))
-        refl _ (moved-closing n t f ls (w .var) Open Satisfied true false refl refl)
+        (rule-wires n rows (state Open t f ls) w c ∙ (λ i. signals true (e .0 i) (e .1 i) (w .anyUnit m) (w .positive m) (eqb 0 (length ls))))
+        refl _ (moved-closing n t f ls (w .variable) Open Satisfied true false refl refl)
     followed [] Conflict c e h =
         moved-by n rows (state Open t f []) w c _
-        (rule-wires n rows (state Open t f []) w c ∙ (λ i. signals true (e .0 i) (e .1 i) (w .anyunit m) (w .positive m) true))
-        refl _ (moved-closing n t f [] (w .var) Open Refuted false true refl refl)
+        (rule-wires n rows (state Open t f []) w c ∙ (λ i. signals true (e .0 i) (e .1 i) (w .anyUnit m) (w .positive m) true))
+        refl _ (moved-closing n t f [] (w .variable) Open Refuted false true refl refl)
     followed (l ∷ ls) Conflict c e h =
         let few : length ls < n = c .formed .few in
         moved-by n rows (state Open t f (l ∷ ls)) w c _
-        (rule-wires n rows (state Open t f (l ∷ ls)) w c ∙ (λ i. signals true (e .0 i) (e .1 i) (w .anyunit m) (w .positive m) (eqb·zero-suc (length ls) i)))
-        refl _ (moved-back n t f l ls (w .var) few (free-f (l .t) (l .f) (l .chosen) (chain-head n l t f ls (c .formed .linked) .was-free)))
+        (rule-wires n rows (state Open t f (l ∷ ls)) w c ∙ (λ i. signals true (e .0 i) (e .1 i) (w .anyUnit m) (w .positive m) (eqb·zero-suc (length ls) i)))
+        refl _ (moved-back n t f l ls (w .variable) few (free-f (l .t) (l .f) (l .chosen) (chain-head n l t f ls (c .formed .linked) .was-free)))
     followed ls (Unit v true) c e h =
         moved-by n rows (state Open t f ls) w c _
         (rule-wires n rows (state Open t f ls) w c ∙ (λ i. signals true (e .0 i) (e .1 i) (e .2 i) (e .3 i) (eqb 0 (length ls))))
-        refl _ (moved-true n t f ls (w .var) v (e .4) (free-t t f v (unit-settable n rows t f h .is-free)))
+        refl _ (moved-true n t f ls (w .variable) v (e .4) (free-t t f v (unit-settable n rows t f h .is-free)))
     followed ls (Unit v false) c e h =
         moved-by n rows (state Open t f ls) w c _
         (rule-wires n rows (state Open t f ls) w c ∙ (λ i. signals true (e .0 i) (e .1 i) (e .2 i) (e .3 i) (eqb 0 (length ls))))
-        refl _ (moved-false n t f ls (w .var) v (e .4) (free-f t f v (unit-settable n rows t f h .is-free)))
+        refl _ (moved-false n t f ls (w .variable) v (e .4) (free-f t f v (unit-settable n rows t f h .is-free)))
     followed ls (Choice v) c e h =
         let settable = choice-settable n rows t f h in
         let few : length ls < n = settable-depth n rows (state Open t f ls) v (c .formed) settable in
         moved-by n rows (state Open t f ls) w c _
         (rule-wires n rows (state Open t f ls) w c ∙ (λ i. signals true (e .0 i) (e .1 i) (e .2 i) (w .positive m) (eqb 0 (length ls))))
-        (ne-eqb n (length ls) (λ q. omega arith)) _ (moved-choice n t f ls (w .var) v (e .3) (free-t t f v (settable .is-free)))
+        (ne-eqb n (length ls) (λ q. omega arith)) _ (moved-choice n t f ls (w .variable) v (e .3) (free-t t f v (settable .is-free)))
 
   -- ---- any state
 
@@ -86,9 +86,9 @@ module _ (n : ℕ) (rows : List Row) (w : Wires) where
   unfolding step
   stepped Open t f ls c = followed t f ls (rule n rows t f) c (shown n rows (state Open t f ls) w c) (ruled n rows t f)
   stepped Satisfied t f ls c =
-      moved-by n rows (state Satisfied t f ls) w c _ (rule-wires n rows (state Satisfied t f ls) w c) refl _ (moved-closing n t f ls (w .var) Satisfied Satisfied false false refl refl)
+      moved-by n rows (state Satisfied t f ls) w c _ (rule-wires n rows (state Satisfied t f ls) w c) refl _ (moved-closing n t f ls (w .variable) Satisfied Satisfied false false refl refl)
   stepped Refuted t f ls c =
-      moved-by n rows (state Refuted t f ls) w c _ (rule-wires n rows (state Refuted t f ls) w c) refl _ (moved-closing n t f ls (w .var) Refuted Refuted false false refl refl)
+      moved-by n rows (state Refuted t f ls) w c _ (rule-wires n rows (state Refuted t f ls) w c) refl _ (moved-closing n t f ls (w .variable) Refuted Refuted false false refl refl)
 
 -- the closing bits together say whether the standing is closed
 closed-bits : (st : Standing) → isSatisfied st ⊕ isRefuted st ≡ ifOpen st false true
@@ -105,4 +105,4 @@ module _ (n : ℕ) (rows : List Row) (s : State) (w : Wires) (formed : wellForme
   circuit-steps =
       ap₂ (λ (bits : List Bool) (x : Bool). bits ++ (x ∷ []))
       (order-cong n _ _ next-same)
-      (cells .closing-is ∙ ap₂ _⊕_ (next-same .same-SAT) (next-same .same-REF) ∙ closed-bits (step n rows s .standing))
+      (cells .closing-is ∙ ap₂ _⊕_ (next-same .same-satisfied) (next-same .same-refuted) ∙ closed-bits (step n rows s .standing))

@@ -13,7 +13,7 @@ use Rattle.state.specs.State.{State}
 use Rattle.state.proofs.WellFormedLaws.{Formed}
 use Rattle.wires.specs.Bits.{Bits, bitsIn}
 use Rattle.wires.proofs.Addresses.{Same, rowOf}
-use Rattle.netlist.proofs.Equations.{or, freeOf, freeHere, positiveHere, satisfiedHere, unitOf, conflictOf, firstOf, countsOf, openOf, doneOf, refuteOf, popOf, pushOf, negOf, posOf}
+use Rattle.netlist.proofs.Equations.{or, freeOf, freeHere, positiveHere, satisfiedHere, unitOf, conflictOf, firstOf, countsOf, openOf, doneOf, refuteOf, popOf, pushOf, setFOf, setTOf}
 
 -- what the cell `rule` says
 pub record Signals : Type 0 where
@@ -21,8 +21,8 @@ pub record Signals : Type 0 where
   pub refute : Bool
   pub pop : Bool
   pub push : Bool
-  pub neg : Bool
-  pub pos : Bool
+  pub setF : Bool
+  pub setT : Bool
 
 pub record Wires : Type 0 where
   -- inputs: a row's positive and negative wires, then the state
@@ -32,38 +32,38 @@ pub record Wires : Type 0 where
   -- variable
   pub free : ℕ → Bool
   -- literal: row, then variable
-  pub x : ℕ → ℕ → Bool
-  pub sat : ℕ → ℕ → Bool
+  pub literal : ℕ → ℕ → Bool
+  pub satisfied : ℕ → ℕ → Bool
   pub odd : ℕ → ℕ → Bool
   pub many : ℕ → ℕ → Bool
   pub sign : ℕ → ℕ → Bool
   -- row
-  pub unsat : ℕ → Bool
+  pub unsatisfied : ℕ → Bool
   pub first : ℕ → Bool
-  pub anyunsat : ℕ → Bool
-  pub anyconflict : ℕ → Bool
-  pub anyunit : ℕ → Bool
+  pub anyUnsatisfied : ℕ → Bool
+  pub anyConflict : ℕ → Bool
+  pub anyUnit : ℕ → Bool
   pub positive : ℕ → Bool
   -- pick: variable, then row; lowest
-  pub w : ℕ → Bool
-  pub z : ℕ → ℕ → Bool
+  pub weight : ℕ → Bool
+  pub picked : ℕ → ℕ → Bool
   pub seen : ℕ → Bool
-  pub var : ℕ → Bool
+  pub variable : ℕ → Bool
   -- rule
   pub rule : Signals
   -- depth select: the pair of level l is number l + 1, number 0 and number n + 1 are zero
-  pub pd : ℕ → Bool
-  pub ps : ℕ → Bool
+  pub popAt : ℕ → Bool
+  pub pushAt : ℕ → Bool
   -- level: level, then variable; the chains: variable, then level
-  pub δLT : ℕ → ℕ → Bool
-  pub δLF : ℕ → ℕ → Bool
-  pub δLV : ℕ → ℕ → Bool
-  pub rT : ℕ → ℕ → Bool
-  pub rF : ℕ → ℕ → Bool
+  pub δlevelT : ℕ → ℕ → Bool
+  pub δlevelF : ℕ → ℕ → Bool
+  pub δchosen : ℕ → ℕ → Bool
+  pub restoredT : ℕ → ℕ → Bool
+  pub restoredF : ℕ → ℕ → Bool
   -- assignment, depth
   pub δT : ℕ → Bool
   pub δF : ℕ → Bool
-  pub δD : ℕ → Bool
+  pub δdepth : ℕ → Bool
   -- outputs
   pub next : Bits
   pub closing : Bool
@@ -78,9 +78,9 @@ pub record Inputs (n : ℕ) (rows : List Row) (s : State) (w : Wires) : Type 0 w
 pub record Cells (n m : ℕ) (w : Wires) : Type 0 where
   pub free-is : (i : ℕ) → i < n → w .free i ≡ freeOf (w .now .T i) (w .now .F i)
   -- literal
-  pub x-is : (j i : ℕ) → j < m → i < n → w .x j i ≡ freeHere (w .p j i) (w .q j i) (w .free i)
-  pub sat-zero : (j : ℕ) → j < m → w .sat j 0 ≡ false
-  pub sat-suc : (j i : ℕ) → j < m → i < n → w .sat j (suc i) ≡ or (w .sat j i) (satisfiedHere (w .p j i) (w .q j i) (w .now .F i) (w .free i))
+  pub literal-is : (j i : ℕ) → j < m → i < n → w .literal j i ≡ freeHere (w .p j i) (w .q j i) (w .free i)
+  pub satisfied-zero : (j : ℕ) → j < m → w .satisfied j 0 ≡ false
+  pub satisfied-suc : (j i : ℕ) → j < m → i < n → w .satisfied j (suc i) ≡ or (w .satisfied j i) (satisfiedHere (w .p j i) (w .q j i) (w .now .F i) (w .free i))
   pub odd-zero : (j : ℕ) → j < m → w .odd j 0 ≡ false
   pub odd-suc : (j i : ℕ) → j < m → i < n → w .odd j (suc i) ≡ w .odd j i ⊕ freeHere (w .p j i) (w .q j i) (w .free i)
   pub many-zero : (j : ℕ) → j < m → w .many j 0 ≡ false
@@ -88,62 +88,62 @@ pub record Cells (n m : ℕ) (w : Wires) : Type 0 where
   pub sign-zero : (j : ℕ) → j < m → w .sign j 0 ≡ false
   pub sign-suc : (j i : ℕ) → j < m → i < n → w .sign j (suc i) ≡ w .sign j i ⊕ positiveHere (w .p j i) (w .q j i) (w .free i)
   -- row
-  pub unsat-is : (j : ℕ) → j < m → w .unsat j ≡ not (w .sat j n)
-  pub first-is : (j : ℕ) → j < m → w .first j ≡ firstOf (unitOf (w .sat j n) (w .odd j n) (w .many j n)) (w .anyunit j)
-  pub anyunsat-zero : w .anyunsat 0 ≡ false
-  pub anyunsat-suc : (j : ℕ) → j < m → w .anyunsat (suc j) ≡ or (w .anyunsat j) (not (w .sat j n))
-  pub anyconflict-zero : w .anyconflict 0 ≡ false
-  pub anyconflict-suc : (j : ℕ) → j < m → w .anyconflict (suc j) ≡ or (w .anyconflict j) (conflictOf (w .sat j n) (w .odd j n) (w .many j n))
-  pub anyunit-zero : w .anyunit 0 ≡ false
-  pub anyunit-suc : (j : ℕ) → j < m → w .anyunit (suc j) ≡ w .anyunit j ⊕ firstOf (unitOf (w .sat j n) (w .odd j n) (w .many j n)) (w .anyunit j)
+  pub unsatisfied-is : (j : ℕ) → j < m → w .unsatisfied j ≡ not (w .satisfied j n)
+  pub first-is : (j : ℕ) → j < m → w .first j ≡ firstOf (unitOf (w .satisfied j n) (w .odd j n) (w .many j n)) (w .anyUnit j)
+  pub anyUnsatisfied-zero : w .anyUnsatisfied 0 ≡ false
+  pub anyUnsatisfied-suc : (j : ℕ) → j < m → w .anyUnsatisfied (suc j) ≡ or (w .anyUnsatisfied j) (not (w .satisfied j n))
+  pub anyConflict-zero : w .anyConflict 0 ≡ false
+  pub anyConflict-suc : (j : ℕ) → j < m → w .anyConflict (suc j) ≡ or (w .anyConflict j) (conflictOf (w .satisfied j n) (w .odd j n) (w .many j n))
+  pub anyUnit-zero : w .anyUnit 0 ≡ false
+  pub anyUnit-suc : (j : ℕ) → j < m → w .anyUnit (suc j) ≡ w .anyUnit j ⊕ firstOf (unitOf (w .satisfied j n) (w .odd j n) (w .many j n)) (w .anyUnit j)
   pub positive-zero : w .positive 0 ≡ false
   pub positive-suc : (j : ℕ) → j < m
-      → w .positive (suc j) ≡ w .positive j ⊕ (firstOf (unitOf (w .sat j n) (w .odd j n) (w .many j n)) (w .anyunit j) && w .sign j n)
+      → w .positive (suc j) ≡ w .positive j ⊕ (firstOf (unitOf (w .satisfied j n) (w .odd j n) (w .many j n)) (w .anyUnit j) && w .sign j n)
   -- pick
-  pub w-is : (j : ℕ) → j < m → w .w j ≡ countsOf (w .unsat j) (w .first j) (w .anyunit m)
-  pub z-zero : (i : ℕ) → i < n → w .z i 0 ≡ false
-  pub z-suc : (i j : ℕ) → i < n → j < m → w .z i (suc j) ≡ or (w .z i j) (w .w j && w .x j i)
+  pub weight-is : (j : ℕ) → j < m → w .weight j ≡ countsOf (w .unsatisfied j) (w .first j) (w .anyUnit m)
+  pub picked-zero : (i : ℕ) → i < n → w .picked i 0 ≡ false
+  pub picked-suc : (i j : ℕ) → i < n → j < m → w .picked i (suc j) ≡ or (w .picked i j) (w .weight j && w .literal j i)
   -- lowest
   pub seen-zero : w .seen 0 ≡ false
-  pub seen-suc : (i : ℕ) → i < n → w .seen (suc i) ≡ w .seen i ⊕ (w .z i m && not (w .seen i))
-  pub var-is : (i : ℕ) → i < n → w .var i ≡ w .z i m && not (w .seen i)
+  pub seen-suc : (i : ℕ) → i < n → w .seen (suc i) ≡ w .seen i ⊕ (w .picked i m && not (w .seen i))
+  pub variable-is : (i : ℕ) → i < n → w .variable i ≡ w .picked i m && not (w .seen i)
   -- rule
-  pub done-is : w .rule .done ≡ doneOf (openOf (w .now .SAT) (w .now .REF)) (w .anyunsat m)
-  pub refute-is : w .rule .refute ≡ refuteOf (openOf (w .now .SAT) (w .now .REF)) (w .anyconflict m) (w .now .D 0)
-  pub pop-is : w .rule .pop ≡ popOf (openOf (w .now .SAT) (w .now .REF)) (w .anyconflict m) (w .now .D 0)
-  pub push-is : w .rule .push ≡ pushOf (openOf (w .now .SAT) (w .now .REF)) (w .anyunsat m) (w .anyconflict m) (w .anyunit m)
-  pub neg-is : w .rule .neg ≡ negOf (openOf (w .now .SAT) (w .now .REF)) (w .anyunsat m) (w .anyconflict m) (w .anyunit m) (w .positive m)
-  pub pos-is : w .rule .pos ≡ posOf (openOf (w .now .SAT) (w .now .REF)) (w .anyunsat m) (w .anyconflict m) (w .anyunit m) (w .positive m)
+  pub done-is : w .rule .done ≡ doneOf (openOf (w .now .satisfied) (w .now .refuted)) (w .anyUnsatisfied m)
+  pub refute-is : w .rule .refute ≡ refuteOf (openOf (w .now .satisfied) (w .now .refuted)) (w .anyConflict m) (w .now .depth 0)
+  pub pop-is : w .rule .pop ≡ popOf (openOf (w .now .satisfied) (w .now .refuted)) (w .anyConflict m) (w .now .depth 0)
+  pub push-is : w .rule .push ≡ pushOf (openOf (w .now .satisfied) (w .now .refuted)) (w .anyUnsatisfied m) (w .anyConflict m) (w .anyUnit m)
+  pub setF-is : w .rule .setF ≡ setFOf (openOf (w .now .satisfied) (w .now .refuted)) (w .anyUnsatisfied m) (w .anyConflict m) (w .anyUnit m) (w .positive m)
+  pub setT-is : w .rule .setT ≡ setTOf (openOf (w .now .satisfied) (w .now .refuted)) (w .anyUnsatisfied m) (w .anyConflict m) (w .anyUnit m) (w .positive m)
   -- depth select
-  pub pd-zero : w .pd 0 ≡ false
-  pub pd-suc : (l : ℕ) → l < n → w .pd (suc l) ≡ w .rule .pop && w .now .D (suc l)
-  pub pd-end : w .pd (suc n) ≡ false
-  pub ps-zero : w .ps 0 ≡ false
-  pub ps-suc : (l : ℕ) → l < n → w .ps (suc l) ≡ w .rule .push && w .now .D l
-  pub ps-end : w .ps (suc n) ≡ false
+  pub popAt-zero : w .popAt 0 ≡ false
+  pub popAt-suc : (l : ℕ) → l < n → w .popAt (suc l) ≡ w .rule .pop && w .now .depth (suc l)
+  pub popAt-end : w .popAt (suc n) ≡ false
+  pub pushAt-zero : w .pushAt 0 ≡ false
+  pub pushAt-suc : (l : ℕ) → l < n → w .pushAt (suc l) ≡ w .rule .push && w .now .depth l
+  pub pushAt-end : w .pushAt (suc n) ≡ false
   -- level
-  pub δLT-is : (l i : ℕ) → l < n → i < n → w .δLT l i ≡ (w .pd (suc l) && w .now .LT l i) ⊕ (w .ps (suc l) && w .now .T i)
-  pub δLF-is : (l i : ℕ) → l < n → i < n → w .δLF l i ≡ (w .pd (suc l) && w .now .LF l i) ⊕ (w .ps (suc l) && w .now .F i)
-  pub δLV-is : (l i : ℕ) → l < n → i < n → w .δLV l i ≡ (w .pd (suc l) && w .now .LV l i) ⊕ (w .ps (suc l) && w .var i)
-  pub rT-zero : (i : ℕ) → i < n → w .rT i 0 ≡ false
-  pub rT-suc : (i l : ℕ) → i < n → l < n → w .rT i (suc l) ≡ w .rT i l ⊕ (w .pd (suc l) && w .now .LT l i)
-  pub rF-zero : (i : ℕ) → i < n → w .rF i 0 ≡ false
-  pub rF-suc : (i l : ℕ) → i < n → l < n → w .rF i (suc l) ≡ (w .rF i l ⊕ (w .pd (suc l) && w .now .LF l i)) ⊕ (w .pd (suc l) && w .now .LV l i)
+  pub δlevelT-is : (l i : ℕ) → l < n → i < n → w .δlevelT l i ≡ (w .popAt (suc l) && w .now .levelT l i) ⊕ (w .pushAt (suc l) && w .now .T i)
+  pub δlevelF-is : (l i : ℕ) → l < n → i < n → w .δlevelF l i ≡ (w .popAt (suc l) && w .now .levelF l i) ⊕ (w .pushAt (suc l) && w .now .F i)
+  pub δchosen-is : (l i : ℕ) → l < n → i < n → w .δchosen l i ≡ (w .popAt (suc l) && w .now .chosen l i) ⊕ (w .pushAt (suc l) && w .variable i)
+  pub restoredT-zero : (i : ℕ) → i < n → w .restoredT i 0 ≡ false
+  pub restoredT-suc : (i l : ℕ) → i < n → l < n → w .restoredT i (suc l) ≡ w .restoredT i l ⊕ (w .popAt (suc l) && w .now .levelT l i)
+  pub restoredF-zero : (i : ℕ) → i < n → w .restoredF i 0 ≡ false
+  pub restoredF-suc : (i l : ℕ) → i < n → l < n → w .restoredF i (suc l) ≡ (w .restoredF i l ⊕ (w .popAt (suc l) && w .now .levelF l i)) ⊕ (w .popAt (suc l) && w .now .chosen l i)
   -- assignment
-  pub δT-is : (i : ℕ) → i < n → w .δT i ≡ ((w .rule .pop && w .now .T i) ⊕ w .rT i n) ⊕ (w .rule .pos && w .var i)
-  pub δF-is : (i : ℕ) → i < n → w .δF i ≡ ((w .rule .pop && w .now .F i) ⊕ w .rF i n) ⊕ (w .rule .neg && w .var i)
+  pub δT-is : (i : ℕ) → i < n → w .δT i ≡ ((w .rule .pop && w .now .T i) ⊕ w .restoredT i n) ⊕ (w .rule .setT && w .variable i)
+  pub δF-is : (i : ℕ) → i < n → w .δF i ≡ ((w .rule .pop && w .now .F i) ⊕ w .restoredF i n) ⊕ (w .rule .setF && w .variable i)
   -- depth
-  pub δD-is : (k : ℕ) → k ≤ n → w .δD k ≡ ((w .pd k ⊕ w .ps k) ⊕ w .pd (suc k)) ⊕ w .ps (suc k)
+  pub δdepth-is : (k : ℕ) → k ≤ n → w .δdepth k ≡ ((w .popAt k ⊕ w .pushAt k) ⊕ w .popAt (suc k)) ⊕ w .pushAt (suc k)
   -- output
   pub T-is : (i : ℕ) → i < n → w .next .T i ≡ w .now .T i ⊕ w .δT i
   pub F-is : (i : ℕ) → i < n → w .next .F i ≡ w .now .F i ⊕ w .δF i
-  pub D-is : (k : ℕ) → k ≤ n → w .next .D k ≡ w .now .D k ⊕ w .δD k
-  pub LT-is : (l i : ℕ) → l < n → i < n → w .next .LT l i ≡ w .now .LT l i ⊕ w .δLT l i
-  pub LF-is : (l i : ℕ) → l < n → i < n → w .next .LF l i ≡ w .now .LF l i ⊕ w .δLF l i
-  pub LV-is : (l i : ℕ) → l < n → i < n → w .next .LV l i ≡ w .now .LV l i ⊕ w .δLV l i
-  pub SAT-is : w .next .SAT ≡ w .now .SAT ⊕ w .rule .done
-  pub REF-is : w .next .REF ≡ w .now .REF ⊕ w .rule .refute
-  pub closing-is : w .closing ≡ w .next .SAT ⊕ w .next .REF
+  pub depth-is : (k : ℕ) → k ≤ n → w .next .depth k ≡ w .now .depth k ⊕ w .δdepth k
+  pub levelT-is : (l i : ℕ) → l < n → i < n → w .next .levelT l i ≡ w .now .levelT l i ⊕ w .δlevelT l i
+  pub levelF-is : (l i : ℕ) → l < n → i < n → w .next .levelF l i ≡ w .now .levelF l i ⊕ w .δlevelF l i
+  pub chosen-is : (l i : ℕ) → l < n → i < n → w .next .chosen l i ≡ w .now .chosen l i ⊕ w .δchosen l i
+  pub satisfied-is : w .next .satisfied ≡ w .now .satisfied ⊕ w .rule .done
+  pub refuted-is : w .next .refuted ≡ w .now .refuted ⊕ w .rule .refute
+  pub closing-is : w .closing ≡ w .next .satisfied ⊕ w .next .refuted
 
 -- the circuit on rows and a well-formed state
 pub record OnState (n : ℕ) (rows : List Row) (s : State) (w : Wires) : Type 0 where

@@ -16,8 +16,8 @@ use Rattle.tables.specs.declared.Row.{Row}
 use Rattle.tables.specs.Rows.{satisfied, freeIn, freeLiterals}
 use Rattle.tables.proofs.Rows.{satisfies, satisfied-any, unsatisfied-none, unsatisfied-literals}
 use Rattle.state.specs.State.{State}
-use Rattle.scan.specs.Rules.{left}
-use Rattle.solver.proofs.RuleLaws.{left-unsatisfied, left-count}
+use Rattle.scan.specs.Rules.{unsatisfiedWith}
+use Rattle.solver.proofs.RuleLaws.{with-unsatisfied, with-count}
 use Rattle.wires.proofs.Addresses.{rowOf}
 use Rattle.netlist.proofs.Equations.{or, freeOf, freeHere, satisfiedHere, unitOf, conflictOf}
 use Rattle.netlist.proofs.Interface.{Wires, OnState}
@@ -59,20 +59,20 @@ module _ (n : ℕ) (rows : List Row) (s : State) (w : Wires) (on-state : OnState
     here-wire : (i : ℕ) → i < n → freeHere (w .p j i) (w .q j i) (w .free i) ≡ freeBit r t f i
     here-wire i b = λ k. freeHere (on-state .inputs .p-is j i h b k) (on-state .inputs .q-is j i h b k) (free-wire i b k)
 
-    pub x-row : (i : ℕ) → i < n → w .x j i ≡ freeBit r t f i
-    x-row i b = on-state .cells .x-is j i h b ∙ here-wire i b
+    pub literal-row : (i : ℕ) → i < n → w .literal j i ≡ freeBit r t f i
+    literal-row i b = on-state .cells .literal-is j i h b ∙ here-wire i b
 
     -- in an unsatisfied row it is a free literal
-    x-free : satisfied n r t f ≡ false → (i : ℕ) → i < n → freeBit r t f i ≡ freeIn r t f i
-    x-free e i b = free-here r t f i (on-state .formed .own .apart i b) (unsatisfied-none n r t f e i b)
+    literal-free : satisfied n r t f ≡ false → (i : ℕ) → i < n → freeBit r t f i ≡ freeIn r t f i
+    literal-free e i b = free-here r t f i (on-state .formed .own .apart i b) (unsatisfied-none n r t f e i b)
 
-    pub x-unsatisfied : satisfied n r t f ≡ false → (i : ℕ) → i < n → w .x j i ≡ freeIn r t f i
-    x-unsatisfied e i b = x-row i b ∙ x-free e i b
+    pub literal-unsatisfied : satisfied n r t f ≡ false → (i : ℕ) → i < n → w .literal j i ≡ freeIn r t f i
+    literal-unsatisfied e i b = literal-row i b ∙ literal-free e i b
 
-    pub sat-row : w .sat j n ≡ satisfied n r t f
-    sat-row =
-        or-chain (w .sat j) (λ i. satisfies r t f i) n (on-state .cells .sat-zero j h)
-        (λ i b. on-state .cells .sat-suc j i h b ∙ ap (λ (x : Bool). or (w .sat j i) x)
+    pub satisfied-row : w .satisfied j n ≡ satisfied n r t f
+    satisfied-row =
+        or-chain (w .satisfied j) (λ i. satisfies r t f i) n (on-state .cells .satisfied-zero j h)
+        (λ i b. on-state .cells .satisfied-suc j i h b ∙ ap (λ (x : Bool). or (w .satisfied j i) x)
         ((λ k. satisfiedHere (on-state .inputs .p-is j i h b k) (on-state .inputs .q-is j i h b k) (on-state .inputs .now-is .same-F i b k) (free-wire i b k))
         ∙ satisfied-here r t f i (on-state .formed .own .apart i b)))
         n (le-refl n)
@@ -86,26 +86,26 @@ module _ (n : ℕ) (rows : List Row) (s : State) (w : Wires) (on-state : OnState
         n (le-refl n)
 
     literals : satisfied n r t f ≡ false → count (λ i. freeBit r t f i) n ≡ freeLiterals n r t f
-    literals e = count-cong _ _ n (x-free e) ∙ sym (unsatisfied-literals n r t f e)
+    literals e = count-cong _ _ n (literal-free e) ∙ sym (unsatisfied-literals n r t f e)
 
-    pub unit-row : unitOf (w .sat j n) (w .odd j n) (w .many j n) ≡ left 1 n t f r
-    unfolding left
+    pub unit-row : unitOf (w .satisfied j n) (w .odd j n) (w .many j n) ≡ unsatisfiedWith 1 n t f r
+    unfolding unsatisfiedWith
     unit-row =
-        (λ k. unitOf (sat-row k) (counted .0 k) (counted .1 k))
+        (λ k. unitOf (satisfied-row k) (counted .0 k) (counted .1 k))
         ∙ on (satisfied n r t f) (λ e. rw e) (λ e. rw e (count-one (count (λ i. freeBit r t f i) n) ∙ ap (λ (c : ℕ). eqb c 1) (literals e)))
 
-    pub conflict-row : conflictOf (w .sat j n) (w .odd j n) (w .many j n) ≡ left 0 n t f r
-    unfolding left
+    pub conflict-row : conflictOf (w .satisfied j n) (w .odd j n) (w .many j n) ≡ unsatisfiedWith 0 n t f r
+    unfolding unsatisfiedWith
     conflict-row =
-        (λ k. conflictOf (sat-row k) (counted .0 k) (counted .1 k))
+        (λ k. conflictOf (satisfied-row k) (counted .0 k) (counted .1 k))
         ∙ on (satisfied n r t f) (λ e. rw e) (λ e. rw e (count-zero (count (λ i. freeBit r t f i) n) ∙ ap (λ (c : ℕ). eqb c 0) (literals e)))
 
     -- a unit row's sign is its one free literal's
-    pub sign-row : left 1 n t f r ≡ true → w .sign j n ≡ bit (r .positive) (lowest (λ i. freeIn r t f i) n)
+    pub sign-row : unsatisfiedWith 1 n t f r ≡ true → w .sign j n ≡ bit (r .positive) (lowest (λ i. freeIn r t f i) n)
     sign-row e =
-        let u = left-unsatisfied 1 n t f r e in
+        let u = with-unsatisfied 1 n t f r e in
         xor-chain (w .sign j) (λ i. freeBit r t f i && bit (r .positive) i) n (on-state .cells .sign-zero j h)
         (λ i b. on-state .cells .sign-suc j i h b ∙ (λ k. w .sign j i ⊕ (here-wire i b k && on-state .inputs .p-is j i h b k)))
         n (le-refl n)
-        ∙ parity-single (λ i. freeBit r t f i) (λ i. bit (r .positive) i) n (count-cong _ _ n (x-free u) ∙ left-count 1 n t f r e)
-        ∙ ap (λ (v : ℕ). bit (r .positive) v) (lowest-cong _ _ n (x-free u))
+        ∙ parity-single (λ i. freeBit r t f i) (λ i. bit (r .positive) i) n (count-cong _ _ n (literal-free u) ∙ with-count 1 n t f r e)
+        ∙ ap (λ (v : ℕ). bit (r .positive) v) (lowest-cong _ _ n (literal-free u))

@@ -23,27 +23,27 @@ use Rattle.netlist.proofs.Interface.{Signals}
 use Rattle.netlist.proofs.Chains.{xor-false, parity, parity-none, parity-at}
 use Rattle.netlist.proofs.Levels.{level-last, level-added, level-removed}
 
-module _ (n : ℕ) (g : Signals) (var : ℕ → Bool) (s : State) where
+module _ (n : ℕ) (g : Signals) (variable : ℕ → Bool) (s : State) where
   abbrev now : Bits
   now = bitsIn s
 
-  -- the wires pd and ps of number k
+  -- the wires popAt and pushAt of number k
   abbrev pub popAt : ℕ → Bool
-  popAt k = g .pop && now .D k
+  popAt k = g .pop && now .depth k
 
   abbrev pub pushAt : ℕ → Bool
   pushAt k = g .push && eqb k (suc (length (s .levels)))
 
   abbrev pub moved : Bits
   moved = record {
-    T = λ i. now .T i ⊕ (((g .pop && now .T i) ⊕ parity (λ l. popAt (suc l) && now .LT l i) n) ⊕ (g .pos && var i));
-    F = λ i. now .F i ⊕ (((g .pop && now .F i) ⊕ parity (λ l. popAt (suc l) && (now .LF l i ⊕ now .LV l i)) n) ⊕ (g .neg && var i));
-    D = λ k. now .D k ⊕ (((popAt k ⊕ pushAt k) ⊕ popAt (suc k)) ⊕ pushAt (suc k));
-    LT = λ l i. now .LT l i ⊕ ((popAt (suc l) && now .LT l i) ⊕ (pushAt (suc l) && now .T i));
-    LF = λ l i. now .LF l i ⊕ ((popAt (suc l) && now .LF l i) ⊕ (pushAt (suc l) && now .F i));
-    LV = λ l i. now .LV l i ⊕ ((popAt (suc l) && now .LV l i) ⊕ (pushAt (suc l) && var i));
-    SAT = now .SAT ⊕ g .done;
-    REF = now .REF ⊕ g .refute;
+    T = λ i. now .T i ⊕ (((g .pop && now .T i) ⊕ parity (λ l. popAt (suc l) && now .levelT l i) n) ⊕ (g .setT && variable i));
+    F = λ i. now .F i ⊕ (((g .pop && now .F i) ⊕ parity (λ l. popAt (suc l) && (now .levelF l i ⊕ now .chosen l i)) n) ⊕ (g .setF && variable i));
+    depth = λ k. now .depth k ⊕ (((popAt k ⊕ pushAt k) ⊕ popAt (suc k)) ⊕ pushAt (suc k));
+    levelT = λ l i. now .levelT l i ⊕ ((popAt (suc l) && now .levelT l i) ⊕ (pushAt (suc l) && now .T i));
+    levelF = λ l i. now .levelF l i ⊕ ((popAt (suc l) && now .levelF l i) ⊕ (pushAt (suc l) && now .F i));
+    chosen = λ l i. now .chosen l i ⊕ ((popAt (suc l) && now .chosen l i) ⊕ (pushAt (suc l) && variable i));
+    satisfied = now .satisfied ⊕ g .done;
+    refuted = now .refuted ⊕ g .refute;
   }
 
 -- a wire that no level changes
@@ -62,74 +62,74 @@ put-xor w v i h =
 
 -- ---- no level added or removed
 
-module _ (n t f : ℕ) (ls : List Level) (var : ℕ → Bool) where
+module _ (n t f : ℕ) (ls : List Level) (variable : ℕ → Bool) where
   -- nothing changes but the closing bits
   pub moved-closing : (from to : Standing) (d r : Bool) → isSatisfied from ⊕ d ≡ isSatisfied to → isRefuted from ⊕ r ≡ isRefuted to
-      → Same n (moved n (record { done = d; refute = r; pop = false; push = false; neg = false; pos = false }) var (record { standing = from; t = t; f = f; levels = ls }))
+      → Same n (moved n (record { done = d; refute = r; pop = false; push = false; setF = false; setT = false }) variable (record { standing = from; t = t; f = f; levels = ls }))
       (bitsIn (record { standing = to; t = t; f = f; levels = ls }))
   moved-closing from to d r hs hr = record {
     same-T = λ i b. kept-all (bit t i) n;
     same-F = λ i b. kept-all (bit f i) n;
-    same-D = λ k b. xor-false _;
-    same-LT = λ l i b c. xor-false _;
-    same-LF = λ l i b c. xor-false _;
-    same-LV = λ l i b c. xor-false _;
-    same-SAT = hs;
-    same-REF = hr;
+    same-depth = λ k b. xor-false _;
+    same-levelT = λ l i b c. xor-false _;
+    same-levelF = λ l i b c. xor-false _;
+    same-chosen = λ l i b c. xor-false _;
+    same-satisfied = hs;
+    same-refuted = hr;
   }
 
-  module _ (v : ℕ) (picks : (i : ℕ) → i < n → var i ≡ eqb i v) where
-    put-in : (x i : ℕ) → i < n → bit x v ≡ false → bit x i ⊕ (parity (λ l. false) n ⊕ var i) ≡ bit (put x v) i
-    put-in x i b h = kept (bit x i) (var i) n ∙ ap (λ (y : Bool). bit x i ⊕ y) (picks i b) ∙ put-xor x v i h
+  module _ (v : ℕ) (picks : (i : ℕ) → i < n → variable i ≡ eqb i v) where
+    put-in : (x i : ℕ) → i < n → bit x v ≡ false → bit x i ⊕ (parity (λ l. false) n ⊕ variable i) ≡ bit (put x v) i
+    put-in x i b h = kept (bit x i) (variable i) n ∙ ap (λ (y : Bool). bit x i ⊕ y) (picks i b) ∙ put-xor x v i h
 
     pub moved-true : bit t v ≡ false
-        → Same n (moved n (record { done = false; refute = false; pop = false; push = false; neg = false; pos = true }) var (record { standing = Open; t = t; f = f; levels = ls }))
+        → Same n (moved n (record { done = false; refute = false; pop = false; push = false; setF = false; setT = true }) variable (record { standing = Open; t = t; f = f; levels = ls }))
         (bitsIn (record { standing = Open; t = put t v; f = f; levels = ls }))
     moved-true h = record {
       same-T = λ i b. put-in t i b h;
       same-F = λ i b. kept-all (bit f i) n;
-      same-D = λ k b. xor-false _;
-      same-LT = λ l i b c. xor-false _;
-      same-LF = λ l i b c. xor-false _;
-      same-LV = λ l i b c. xor-false _;
-      same-SAT = refl;
-      same-REF = refl;
+      same-depth = λ k b. xor-false _;
+      same-levelT = λ l i b c. xor-false _;
+      same-levelF = λ l i b c. xor-false _;
+      same-chosen = λ l i b c. xor-false _;
+      same-satisfied = refl;
+      same-refuted = refl;
     }
 
     pub moved-false : bit f v ≡ false
-        → Same n (moved n (record { done = false; refute = false; pop = false; push = false; neg = true; pos = false }) var (record { standing = Open; t = t; f = f; levels = ls }))
+        → Same n (moved n (record { done = false; refute = false; pop = false; push = false; setF = true; setT = false }) variable (record { standing = Open; t = t; f = f; levels = ls }))
         (bitsIn (record { standing = Open; t = t; f = put f v; levels = ls }))
     moved-false h = record {
       same-T = λ i b. kept-all (bit t i) n;
       same-F = λ i b. put-in f i b h;
-      same-D = λ k b. xor-false _;
-      same-LT = λ l i b c. xor-false _;
-      same-LF = λ l i b c. xor-false _;
-      same-LV = λ l i b c. xor-false _;
-      same-SAT = refl;
-      same-REF = refl;
+      same-depth = λ k b. xor-false _;
+      same-levelT = λ l i b c. xor-false _;
+      same-levelF = λ l i b c. xor-false _;
+      same-chosen = λ l i b c. xor-false _;
+      same-satisfied = refl;
+      same-refuted = refl;
     }
 
     -- ---- a level added
 
     pub moved-choice : bit t v ≡ false
-        → Same n (moved n (record { done = false; refute = false; pop = false; push = true; neg = false; pos = true }) var (record { standing = Open; t = t; f = f; levels = ls }))
+        → Same n (moved n (record { done = false; refute = false; pop = false; push = true; setF = false; setT = true }) variable (record { standing = Open; t = t; f = f; levels = ls }))
         (bitsIn (record { standing = Open; t = put t v; f = f; levels = record { t = t; f = f; chosen = v } ∷ ls }))
     moved-choice h = record {
       same-T = λ i b. put-in t i b h;
       same-F = λ i b. kept-all (bit f i) n;
-      same-D = λ k b. simp eqb·suc-suc (same-eq (taut2 (λ a b. same (a ⊕ ((b ⊕ false) ⊕ a)) b) refl (eqb k (length ls)) (eqb k (suc (length ls)))));
-      same-LT = λ l i b c. simp eqb·suc-suc (level-added (λ x. bit (x .t) i) (record { t = t; f = f; chosen = v }) ls l);
-      same-LF = λ l i b c. simp eqb·suc-suc (level-added (λ x. bit (x .f) i) (record { t = t; f = f; chosen = v }) ls l);
-      same-LV = λ l i b c. simp eqb·suc-suc (ap (λ (y : Bool). onLevel (λ x. eqb i (x .chosen)) ls l ⊕ (eqb l (length ls) && y)) (picks i c)
+      same-depth = λ k b. simp eqb·suc-suc (same-eq (taut2 (λ a b. same (a ⊕ ((b ⊕ false) ⊕ a)) b) refl (eqb k (length ls)) (eqb k (suc (length ls)))));
+      same-levelT = λ l i b c. simp eqb·suc-suc (level-added (λ x. bit (x .t) i) (record { t = t; f = f; chosen = v }) ls l);
+      same-levelF = λ l i b c. simp eqb·suc-suc (level-added (λ x. bit (x .f) i) (record { t = t; f = f; chosen = v }) ls l);
+      same-chosen = λ l i b c. simp eqb·suc-suc (ap (λ (y : Bool). onLevel (λ x. eqb i (x .chosen)) ls l ⊕ (eqb l (length ls) && y)) (picks i c)
           ∙ level-added (λ x. eqb i (x .chosen)) (record { t = t; f = f; chosen = v }) ls l);
-      same-SAT = refl;
-      same-REF = refl;
+      same-satisfied = refl;
+      same-refuted = refl;
     }
 
 -- ---- the last level removed
 
-module _ (n t f : ℕ) (l : Level) (ls : List Level) (var : ℕ → Bool) (few : length ls < n) where
+module _ (n t f : ℕ) (l : Level) (ls : List Level) (variable : ℕ → Bool) (few : length ls < n) where
   abbrev d : ℕ
   d = length ls
 
@@ -147,16 +147,16 @@ module _ (n t f : ℕ) (l : Level) (ls : List Level) (var : ℕ → Bool) (few :
   removed g k = ap (λ (x : Bool). onLevel g (l ∷ ls) k ⊕ x) (xor-false (eqb k d && onLevel g (l ∷ ls) k)) ∙ level-removed g l ls k
 
   pub moved-back : bit (l .f) (l .chosen) ≡ false
-      → Same n (moved n (record { done = false; refute = false; pop = true; push = false; neg = false; pos = false }) var (record { standing = Open; t = t; f = f; levels = l ∷ ls }))
+      → Same n (moved n (record { done = false; refute = false; pop = true; push = false; setF = false; setT = false }) variable (record { standing = Open; t = t; f = f; levels = l ∷ ls }))
       (bitsIn (record { standing = Open; t = l .t; f = put (l .f) (l .chosen); levels = ls }))
   moved-back h = record {
     same-T = λ i b. simp eqb·suc-suc (ap (λ (x : Bool). bit t i ⊕ ((bit t i ⊕ x) ⊕ false)) (restored (λ x. bit (x .t) i)) ∙ taken (bit t i) (bit (l .t) i));
     same-F = λ i b. simp eqb·suc-suc (ap (λ (x : Bool). bit f i ⊕ ((bit f i ⊕ x) ⊕ false)) (restored-two (λ x. bit (x .f) i) (λ x. eqb i (x .chosen)))
         ∙ taken (bit f i) (bit (l .f) i ⊕ eqb i (l .chosen)) ∙ put-xor (l .f) (l .chosen) i h);
-    same-D = λ k b. simp eqb·suc-suc (same-eq (taut2 (λ a b. same (a ⊕ (((a ⊕ false) ⊕ b) ⊕ false)) b) refl (eqb k (suc d)) (eqb k d)));
-    same-LT = λ k i b c. simp eqb·suc-suc (removed (λ x. bit (x .t) i) k);
-    same-LF = λ k i b c. simp eqb·suc-suc (removed (λ x. bit (x .f) i) k);
-    same-LV = λ k i b c. simp eqb·suc-suc (removed (λ x. eqb i (x .chosen)) k);
-    same-SAT = refl;
-    same-REF = refl;
+    same-depth = λ k b. simp eqb·suc-suc (same-eq (taut2 (λ a b. same (a ⊕ (((a ⊕ false) ⊕ b) ⊕ false)) b) refl (eqb k (suc d)) (eqb k d)));
+    same-levelT = λ k i b c. simp eqb·suc-suc (removed (λ x. bit (x .t) i) k);
+    same-levelF = λ k i b c. simp eqb·suc-suc (removed (λ x. bit (x .f) i) k);
+    same-chosen = λ k i b c. simp eqb·suc-suc (removed (λ x. eqb i (x .chosen)) k);
+    same-satisfied = refl;
+    same-refuted = refl;
   }

@@ -11,7 +11,7 @@ use Rattle.tables.specs.declared.Row.{Row}
 use Rattle.tables.specs.Rows.{freeIn}
 use Rattle.scan.specs.declared.Rule.{Rule}
 use Rattle.scan.specs.declared.Rule.the-variants.{Unit}
-use Rattle.scan.specs.Rules.{allRows, anyRow, left, unitOr}
+use Rattle.scan.specs.Rules.{allRows, anyRow, unsatisfiedWith, unitOr}
 use Rattle.wires.proofs.Addresses.{rowOf}
 
 module _ (p : Row → Bool) where
@@ -28,11 +28,11 @@ module _ (p : Row → Bool) where
       ∙ same-eq (taut2 (λ a b. same (a && not b) (not (not a || b))) refl (p r) (any (λ j. not (p (rowOf rs j))) (length rs)))
 
 module _ (n t f : ℕ) (other : Rule) where
-  pub no-unit : (rows : List Row) → any (λ j. left 1 n t f (rowOf rows j)) (length rows) ≡ false → unitOr n t f rows other ≡ other
+  pub no-unit : (rows : List Row) → any (λ j. unsatisfiedWith 1 n t f (rowOf rows j)) (length rows) ≡ false → unitOr n t f rows other ≡ other
   unfolding unitOr any
   no-unit [] e = refl
   no-unit (r ∷ rs) e =
-      on (left 1 n t f r)
+      on (unsatisfiedWith 1 n t f r)
       (λ h. absurd (true≢false (rw h at e)))
       (λ h. rw (h, unitOr) (no-unit rs (rw h at e)))
 
@@ -40,11 +40,11 @@ module _ (n t f : ℕ) (other : Rule) where
   abbrev pub forced : Row → Rule
   forced r = Unit (lowest (λ i. freeIn r t f i) n) (bit (r .positive) (lowest (λ i. freeIn r t f i) n))
 
-  pub first-unit : (rows : List Row) → any (λ j. left 1 n t f (rowOf rows j)) (length rows) ≡ true
-      → unitOr n t f rows other ≡ forced (rowOf rows (lowest (λ j. left 1 n t f (rowOf rows j)) (length rows)))
+  pub first-unit : (rows : List Row) → any (λ j. unsatisfiedWith 1 n t f (rowOf rows j)) (length rows) ≡ true
+      → unitOr n t f rows other ≡ forced (rowOf rows (lowest (λ j. unsatisfiedWith 1 n t f (rowOf rows j)) (length rows)))
   unfolding unitOr any lowest
   first-unit [] e = absurd (false≢true e)
   first-unit (r ∷ rs) e =
-      on (left 1 n t f r)
+      on (unsatisfiedWith 1 n t f r)
       (λ h. rw (h, unitOr, lowest))
       (λ h. rw (h, unitOr, lowest) (first-unit rs (rw h at e)))

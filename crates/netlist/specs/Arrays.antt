@@ -12,11 +12,13 @@ use Rattle.netlist.specs.Templates.{sum}
 abbrev pub operand : List ℕ → ℕ → ℕ → ℕ
 operand slots b x = cond (ltb x 8) (getD slots x 0) (b + (x - 8))
 
+-- a template's gate in such a cell
 abbrev pub placed : List ℕ → ℕ → Gate → Gate
 placed slots b (XOR x y) = XOR (operand slots b x) (operand slots b y)
 placed slots b (AND x y) = AND (operand slots b x) (operand slots b y)
 placed slots b (INV x) = INV (operand slots b x)
 
+-- a template placed: its slots are these wires, its first gate drives wire b
 abbrev pub cell : List ℕ → ℕ → List Gate → List Gate
 cell slots b template = map (placed slots b) template
 
@@ -35,6 +37,7 @@ along (x ∷ slots) (d ∷ steps) i = (x + d * i) ∷ along slots steps i
 unfoldable pub cells : List Gate → List ℕ → List ℕ → ℕ → ℕ → List Gate
 cells t slots steps b n = rows (λ i. cell (along slots steps i) (b + length t * i) t) n
 
+-- unused slots: two of them give a gate that is 0
 abbrev pub none : List ℕ
 none = 0 ∷ 0 ∷ 0 ∷ 0 ∷ 0 ∷ 0 ∷ 0 ∷ 0 ∷ []
 

@@ -46,6 +46,7 @@ addressesOf n m nm nn =
       wires = outputs + 3 * n + 4 + 3 * nn;
     }
 
+-- the addresses for n variables and m rows
 abbrev pub addresses : ℕ → ℕ → Addresses
 addresses n m = addressesOf n m (n * m) (n * n)
 

@@ -35,8 +35,8 @@ pick = AND 0 1 ∷ XOR 2 8 ∷ AND 2 8 ∷ XOR 9 10 ∷ []
 abbrev pub lowest : List Gate
 lowest = INV 1 ∷ AND 0 8 ∷ XOR 1 9 ∷ []
 
--- slots SAT, REF, any unsatisfied, any conflict, any unit, positive, depth 0.
--- Gates: 1 open, 3 done, 4 clash, 5 refute, 6 pop, 8 act, 9 force, 10 push, 12 neg, 13 pos
+-- slots satisfied, refuted, any unsatisfied, any conflict, any unit, positive, depth 0.
+-- Gates: 1 open, 3 done, 4 conflict, 5 refute, 6 pop, 8 neither done nor conflict, 9 force, 10 push, 12 set F, 13 set T
 abbrev pub rule : List Gate
 rule =
     XOR 0 1 ∷ INV 8 ∷ INV 2 ∷ AND 9 10 ∷ AND 9 3 ∷ AND 12 6 ∷ XOR 12 13 ∷ XOR 9 11 ∷ XOR 15 12 ∷ AND 16 4 ∷ XOR 16 17
@@ -58,6 +58,6 @@ assignment = AND 0 1 ∷ AND 4 5 ∷ XOR 2 3 ∷ XOR 8 10 ∷ XOR 11 9 ∷ []
 abbrev pub depth : List Gate
 depth = XOR 0 1 ∷ XOR 8 2 ∷ XOR 9 3 ∷ []
 
--- slots SAT, done, REF, refute: the next SAT, the next REF, and whether the next state is closed
+-- slots satisfied, done, refuted, refute: the next satisfied, the next refuted, and whether the next state is closed
 abbrev pub standing : List Gate
 standing = XOR 0 1 ∷ XOR 2 3 ∷ XOR 8 9 ∷ []

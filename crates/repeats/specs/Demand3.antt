@@ -33,6 +33,7 @@ pub record Follows (d : Dimensions) (left right : List ℕ) (budget : ℕ) (h : 
 
 -- ---- end
 
+-- the budgeted run's answer
 abbrev pub answerFor : Dimensions → List ℕ → List ℕ → ℕ → Answer
 answerFor d left right budget = answerOf (d .n) (rowsOf d left right) budget
 
@@ -51,6 +52,7 @@ seen d left right budget attempts =
 
 -- ---- the demand
 
+-- tables of these dimensions that none of 1 to 4 turns back
 abbrev pub Accepts : Dimensions → List ℕ → List ℕ → Type 0
 Accepts d left right = outcome (tableChecks d left right) ≡ Taken
 

@@ -32,6 +32,7 @@ pub record History : Type 0 where
 abbrev pub marked : Bool → History → History
 marked mark h = record { run = h .run; marks = mark ∷ h .marks }
 
+-- no repeat from this run on
 abbrev pub noRepeat : Run → History
 noRepeat run = record { run = run; marks = [] }
 

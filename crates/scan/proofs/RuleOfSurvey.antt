@@ -13,7 +13,7 @@ use Rattle.tables.specs.declared.Row.{Row}
 use Rattle.tables.specs.Rows.{satisfied}
 use Rattle.scan.specs.declared.Rule.the-variants.{AllSatisfied, Conflict, Unit, Choice}
 use Rattle.scan.specs.declared.Survey.{Survey}
-use Rattle.scan.specs.Rules.{rowsIn, left, allRows, anyRow, unitOr, choice, rule}
+use Rattle.scan.specs.Rules.{rowsIn, unsatisfiedWith, allRows, anyRow, unitOr, choice, rule}
 use Rattle.scan.specs.Scan.{ruleAfter, Adds}
 use Rattle.scan.proofs.RowLaws.{any-row-e}
 
@@ -22,10 +22,10 @@ abbrev pub none : Survey
 none = record { conflict = false; unit = 0; positive = 0; free = 0 }
 
 -- with a conflict, not all rows are satisfied
-conflict-open : (n t f : ℕ) (rows : List Row) → anyRow (left 0 n t f) rows ≡ true → allRows (λ r. satisfied n r t f) rows ≡ false
-unfolding left
+conflict-open : (n t f : ℕ) (rows : List Row) → anyRow (unsatisfiedWith 0 n t f) rows ≡ true → allRows (λ r. satisfied n r t f) rows ≡ false
+unfolding unsatisfiedWith
 conflict-open n t f rows e =
-    let x = any-row-e (left 0 n t f) rows e in
+    let x = any-row-e (unsatisfiedWith 0 n t f) rows e in
     on (allRows (λ r. satisfied n r t f) rows)
     (λ a. absurd (true≢false (sym (x .1 (λ r. satisfied n r t f) a) ∙ not-f _ (and-l (not (satisfied n (x .0) t f)) _ (x .2)))))
     (λ a. a)
@@ -33,7 +33,7 @@ conflict-open n t f rows e =
 after-none : (t f : ℕ) (rows : List Row) → ruleAfter none rows t f ≡ rule 32 rows t f
 unfolding ruleAfter rule choice
 after-none t f rows =
-    on (anyRow (left 0 32 t f) rows)
+    on (anyRow (unsatisfiedWith 0 32 t f) rows)
     (λ e. rw e (rw (conflict-open 32 t f rows e, rule) (rw e)))
     (λ e. rw e (on (allRows (λ r. satisfied 32 r t f) rows)
     (λ a. rw a (rw (a, rule)))

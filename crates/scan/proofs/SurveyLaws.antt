@@ -1,6 +1,6 @@
 -- One more row in a survey: what its satisfaction and the word of its free variables say of the rule.
 -- Assumes nothing.
-use mathlib.Core.Path.{_≡_, refl, sym, ap, _∙_}
+use mathlib.Core.Path.{_≡_, sym, ap, _∙_}
 use mathlib.Core.Bool.{Bool, true, false, not, _&&_, _||_, cond, or-assoc}
 use mathlib.Core.List.{List, [], _∷_, _++_}
 use Prim.Native.Nat.{ℕ, suc, _+_, _-_, _≤_, _<_}
@@ -24,7 +24,7 @@ use Rattle.tables.proofs.Rows.{unsatisfied-literals}
 use Rattle.scan.specs.declared.Rule.{Rule}
 use Rattle.scan.specs.declared.Rule.the-variants.{AllSatisfied, Conflict, Unit, Choice}
 use Rattle.scan.specs.declared.Survey.{Survey}
-use Rattle.scan.specs.Rules.{left, allRows, anyRow, unitOr}
+use Rattle.scan.specs.Rules.{unsatisfiedWith, allRows, anyRow, unitOr}
 use Rattle.scan.specs.Scan.{added, ruleAfter, Adds}
 
 same-rule : {c c′ a a′ : Bool} {x x′ : Rule} → c ≡ c′ → a ≡ a′ → x ≡ x′ → cond c Conflict (cond a AllSatisfied x) ≡ cond c′ Conflict (cond a′ AllSatisfied x′)
@@ -39,7 +39,7 @@ module _ (t f : ℕ) (r : Row) (j : Judged) (e : j ≡ judged 32 r t f) (s : Sur
 
   -- a satisfied row changes nothing
   pub after-satisfied : j .satisfied ≡ true → ruleAfter s rest t f ≡ ruleAfter s (r ∷ rest) t f
-  unfolding ruleAfter allRows anyRow unitOr left
+  unfolding ruleAfter allRows anyRow unitOr unsatisfiedWith
   after-satisfied h = let q = satisfied-is true h in rw (q, unitOr) (simp q)
 
   module _ (h : j .satisfied ≡ false) where
@@ -49,9 +49,9 @@ module _ (t f : ℕ) (r : Row) (j : Judged) (e : j ≡ judged 32 r t f) (s : Sur
     free-bit : (i : ℕ) → i < 32 → bit (j .variables) i ≡ freeIn r t f i
     free-bit i b = ap (λ (w : ℕ). bit w i) variables-is ∙ bit-wordOf (λ i. freeIn r t f i) 32 i b
 
-    left-is : (k : ℕ) → left k 32 t f r ≡ eqb (count (bit (j .variables)) 32) k
-    unfolding left
-    left-is k =
+    with-is : (k : ℕ) → unsatisfiedWith k 32 t f r ≡ eqb (count (bit (j .variables)) 32) k
+    unfolding unsatisfiedWith
+    with-is k =
         rw unsatisfied
         (ap (λ (x : ℕ). eqb x k) (unsatisfied-literals 32 r t f unsatisfied ∙ sym (count-cong (bit (j .variables)) (λ i. freeIn r t f i) 32 free-bit)))
 
@@ -59,15 +59,15 @@ module _ (t f : ℕ) (r : Row) (j : Judged) (e : j ≡ judged 32 r t f) (s : Sur
     pub after-conflict : j .variables ≡ 0 → ruleAfter (record { conflict = true; unit = s .unit; positive = s .positive; free = s .free }) rest t f ≡ ruleAfter s (r ∷ rest) t f
     unfolding ruleAfter anyRow
     after-conflict z =
-        let l : left 0 32 t f r ≡ true = left-is 0 ∙ ap (λ (w : ℕ). eqb (count (bit w) 32) 0) z ∙ eq-eqb _ 0 (count-zero 32) in
+        let l : unsatisfiedWith 0 32 t f r ≡ true = with-is 0 ∙ ap (λ (w : ℕ). eqb (count (bit w) 32) 0) z ∙ eq-eqb _ 0 (count-zero 32) in
         rw (l, or-true)
 
     module _ (z : j .variables ≡ 0 → ⊥) where
       free-more : eqb (bitOr (s .free) (j .variables)) 0 ≡ false
       free-more = ne-eqb (bitOr (s .free) (j .variables)) 0 (λ k. z (omega (arith, or-add-and (s .free) (j .variables), and-le-l (s .free) (j .variables))))
 
-      no-conflict : left 0 32 t f r ≡ false
-      no-conflict = left-is 0 ∙ ne-eqb _ 0 (λ k. z (bit-ext 32 _ 0 (rw variables-is (wordOf-lt (λ i. freeIn r t f i) 32)) (pow-pos 32) (λ i b. count-none (bit (j .variables)) 32 k i b ∙ sym (bit-zero i))))
+      no-conflict : unsatisfiedWith 0 32 t f r ≡ false
+      no-conflict = with-is 0 ∙ ne-eqb _ 0 (λ k. z (bit-ext 32 _ 0 (rw variables-is (wordOf-lt (λ i. freeIn r t f i) 32)) (pow-pos 32) (λ i b. count-none (bit (j .variables)) 32 k i b ∙ sym (bit-zero i))))
 
       choices : (i : ℕ) → i < 32
           → bit (bitOr (s .free) (j .variables)) i || anyRow (λ x. not (satisfied 32 x t f) && freeIn x t f i) rest
@@ -75,7 +75,7 @@ module _ (t f : ℕ) (r : Row) (j : Judged) (e : j ≡ judged 32 r t f) (s : Sur
       unfolding anyRow
       choices i b = rw unsatisfied (rw (bit-or, free-bit i b) (or-assoc (bit (s .free) i) (freeIn r t f i) _))
 
-      conflicts : s .conflict || anyRow (left 0 32 t f) rest ≡ s .conflict || anyRow (left 0 32 t f) (r ∷ rest)
+      conflicts : s .conflict || anyRow (unsatisfiedWith 0 32 t f) rest ≡ s .conflict || anyRow (unsatisfiedWith 0 32 t f) (r ∷ rest)
       unfolding anyRow
       conflicts = rw no-conflict
 
@@ -90,7 +90,7 @@ module _ (t f : ℕ) (r : Row) (j : Judged) (e : j ≡ judged 32 r t f) (s : Sur
       more u =
           same-rule conflicts open-rows
           (on (eqb (s .unit) 0)
-          (λ q. let l : left 1 32 t f r ≡ false = left-is 1 ∙ (rw q at u) in
+          (λ q. let l : unsatisfiedWith 1 32 t f r ≡ false = with-is 1 ∙ (rw q at u) in
           rw (q, l, unitOr) (ap (λ (v : ℕ). unitOr 32 t f rest (Choice v)) (lowest-cong _ _ 32 choices)))
           (λ q. rw q))
 
@@ -100,7 +100,7 @@ module _ (t f : ℕ) (r : Row) (j : Judged) (e : j ≡ judged 32 r t f) (s : Sur
       unfolding ruleAfter unitOr
       first u =
           same-rule conflicts open-rows
-          (rw (and-l (eqb (s .unit) 0) _ u, left-is 1 ∙ and-r (eqb (s .unit) 0) _ u, unitOr, ne-eqb (j .variables) 0 z)
+          (rw (and-l (eqb (s .unit) 0) _ u, with-is 1 ∙ and-r (eqb (s .unit) 0) _ u, unitOr, ne-eqb (j .variables) 0 z)
           (ap (λ (v : ℕ). Unit v (bit (r .positive) v)) (lowest-cong (bit (j .variables)) (λ i. freeIn r t f i) 32 free-bit)))
 
       -- any row with a free variable

@@ -21,12 +21,12 @@ use Rattle.scan.specs.declared.Rule.{Rule}
 use Rattle.scan.specs.declared.Rule.the-variants.{AllSatisfied, Conflict, Unit, Choice}
 use Rattle.state.specs.declared.Standing.{Standing}
 use Rattle.state.specs.declared.Standing.the-variants.{Open, Satisfied, Refuted}
-use Rattle.scan.specs.Rules.{left, allRows, rule}
+use Rattle.scan.specs.Rules.{unsatisfiedWith, allRows, rule}
 use Rattle.state.specs.State.{State, fresh}
 use Rattle.solver.specs.Step.{back, assign, follow, ifOpen, step, after}
 use Rattle.solver.specs.Truth.{allTrue}
 use Rattle.scan.proofs.RowLaws.{In}
-use Rattle.solver.proofs.RuleLaws.{Ruled, ruled, Forces, left-unsatisfied, left-count}
+use Rattle.solver.proofs.RuleLaws.{Ruled, ruled, Forces, with-unsatisfied, with-count}
 use Rattle.solver.proofs.StepLaws.{after-keeps}
 use Rattle.solver.proofs.LowRows.{lowRow}
 use Rattle.solver.proofs.TruthLaws.{literal, all-true-e}
@@ -62,21 +62,21 @@ module _ (n : ℕ) (a : ℕ → Bool) (t f : ℕ) (g : Agrees n a t f) where
       (and-i (and-i h (not-t (unsatisfied-none n r t f e i b))) (g i b))
 
   -- rule 2: a row in conflict is not true
-  conflict-false : (r : Row) → left 0 n t f r ≡ true → any (λ i. literal a r i) n ≡ true → ⊥
+  conflict-false : (r : Row) → unsatisfiedWith 0 n t f r ≡ true → any (λ i. literal a r i) n ≡ true → ⊥
   conflict-false r e h =
       let x = any-e (λ i. literal a r i) n h in
       true≢false
-      (sym (by-free r (x .0) (x .1) (left-unsatisfied 0 n t f r e) (x .2))
-      ∙ count-none (λ i. freeIn r t f i) n (left-count 0 n t f r e) (x .0) (x .1))
+      (sym (by-free r (x .0) (x .1) (with-unsatisfied 0 n t f r e) (x .2))
+      ∙ count-none (λ i. freeIn r t f i) n (with-count 0 n t f r e) (x .0) (x .1))
 
   -- rule 3: the one free literal is true
   forced : (rows : List Row) (v : ℕ) (positive : Bool) (w : Forces n rows t f v positive) → any (λ i. literal a (w .row) i) n ≡ true → a v ≡ positive
   forced rows v positive w h =
       let r = w .row in
       let x = any-e (λ i. literal a r i) n h in
-      let o = left-unsatisfied 1 n t f r (w .one-literal) in
+      let o = with-unsatisfied 1 n t f r (w .one-literal) in
       let same : x .0 ≡ v =
-      count-digit (λ i. freeIn r t f i) n (left-count 1 n t f r (w .one-literal)) (x .0) v (x .1) (w .low) (by-free r (x .0) (x .1) o (x .2)) (w .free-there) in
+      count-digit (λ i. freeIn r t f i) n (with-count 1 n t f r (w .one-literal)) (x .0) v (x .1) (w .low) (by-free r (x .0) (x .1) o (x .2)) (w .free-there) in
       let l : literal a r v ≡ true = rw same at (x .2) in
       beq-eq _ _ (mp _ _
       (taut5 (λ p q t f a. imp (literals p q a && not (satisfying p q t f)) (Bool·beq a p)) refl (bit (r .positive) v) (bit (r .negative) v) (bit t v) (bit f v) (a v))

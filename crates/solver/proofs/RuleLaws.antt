@@ -15,7 +15,7 @@ use Rattle.tables.specs.Rows.{padding, satisfied, free, holds, freeIn}
 use Rattle.tables.proofs.Rows.{unsatisfied-padding, unsatisfied-literals}
 use Rattle.scan.specs.declared.Rule.{Rule}
 use Rattle.scan.specs.declared.Rule.the-variants.{AllSatisfied, Conflict, Unit, Choice}
-use Rattle.scan.specs.Rules.{allRows, anyRow, left, unitOr, choice, rule}
+use Rattle.scan.specs.Rules.{allRows, anyRow, unsatisfiedWith, unitOr, choice, rule}
 use Rattle.solver.specs.Truth.{occurs}
 use Rattle.scan.proofs.RowLaws.{In, in-head, in-tail, any-row-e, any-row-i, not-all-rows, no-row}
 
@@ -25,13 +25,13 @@ use Rattle.scan.proofs.RowLaws.{In, in-head, in-tail, any-row-e, any-row-i, not
 pub record Conflicts (n : ℕ) (rows : List Row) (t f : ℕ) : Type 0 where
   pub row : Row
   pub of-rows : In row rows
-  pub no-literal : left 0 n t f row ≡ true
+  pub no-literal : unsatisfiedWith 0 n t f row ≡ true
 
 -- an unsatisfied row whose one free literal has this variable and this sign
 pub record Forces (n : ℕ) (rows : List Row) (t f v : ℕ) (positive : Bool) : Type 0 where
   pub row : Row
   pub of-rows : In row rows
-  pub one-literal : left 1 n t f row ≡ true
+  pub one-literal : unsatisfiedWith 1 n t f row ≡ true
   pub low : v < n
   pub free-there : freeIn row t f v ≡ true
   pub sign : positive ≡ bit (row .positive) v
@@ -58,18 +58,18 @@ pub record Settable (n : ℕ) (rows : List Row) (t f v : ℕ) : Type 0 where
 
 -- ---- rows with k free literals
 
-module _ (k n t f : ℕ) (r : Row) (e : left k n t f r ≡ true) where
-  pub left-unsatisfied : satisfied n r t f ≡ false
-  unfolding left
-  left-unsatisfied = not-f _ (and-l (not (satisfied n r t f)) _ e)
+module _ (k n t f : ℕ) (r : Row) (e : unsatisfiedWith k n t f r ≡ true) where
+  pub with-unsatisfied : satisfied n r t f ≡ false
+  unfolding unsatisfiedWith
+  with-unsatisfied = not-f _ (and-l (not (satisfied n r t f)) _ e)
 
-  pub left-count : count (λ i. freeIn r t f i) n ≡ k
-  unfolding left
-  left-count = sym (unsatisfied-literals n r t f left-unsatisfied) ∙ eqb-true _ k (and-r (not (satisfied n r t f)) _ e)
+  pub with-count : count (λ i. freeIn r t f i) n ≡ k
+  unfolding unsatisfiedWith
+  with-count = sym (unsatisfied-literals n r t f with-unsatisfied) ∙ eqb-true _ k (and-r (not (satisfied n r t f)) _ e)
 
-left-some : (n t f : ℕ) (r : Row) → satisfied n r t f ≡ false → left 0 n t f r ≡ false → 0 < count (λ i. freeIn r t f i) n
-unfolding left
-left-some n t f r e h = go (count (λ i. freeIn r t f i) n) refl
+with-some : (n t f : ℕ) (r : Row) → satisfied n r t f ≡ false → unsatisfiedWith 0 n t f r ≡ false → 0 < count (λ i. freeIn r t f i) n
+unfolding unsatisfiedWith
+with-some n t f r e h = go (count (λ i. freeIn r t f i) n) refl
   where
     go : (c : ℕ) → count (λ i. freeIn r t f i) n ≡ c → 0 < c
     go zero q = absurd (true≢false (sym (and-i (not-t e) (eq-eqb _ 0 (unsatisfied-literals n r t f e ∙ q))) ∙ h))
@@ -83,23 +83,23 @@ module _ (n : ℕ) (rows : List Row) (t f : ℕ) where
   unfolding unitOr
   ruled-unit [] inc other h = h
   ruled-unit (r ∷ rs) inc other h =
-      on (left 1 n t f r)
+      on (unsatisfiedWith 1 n t f r)
       (λ e. rw (e, unitOr)
-      (let c = left-count 1 n t f r e in
+      (let c = with-count 1 n t f r e in
       let i = count-some (λ i. freeIn r t f i) n (omega arith) in
       let v = lowest-hit (λ i. freeIn r t f i) n (i .0) (i .1) (i .2) in
       record { row = r; of-rows = inc r (in-head r rs); one-literal = e; low = v .0; free-there = v .1; sign = refl }))
       (λ e. rw (e, unitOr) (ruled-unit rs (λ x m. inc x (in-tail x r rs m)) other h))
 
-  module _ (e₁ : allRows (λ r. satisfied n r t f) rows ≡ false) (e₂ : anyRow (left 0 n t f) rows ≡ false) where
+  module _ (e₁ : allRows (λ r. satisfied n r t f) rows ≡ false) (e₂ : anyRow (unsatisfiedWith 0 n t f) rows ≡ false) where
     -- some row is not satisfied and none is in conflict, so some variable can be chosen
     pub choice-hit : (choice n rows t f < n) × (anyRow (λ r. not (satisfied n r t f) && freeIn r t f (choice n rows t f)) rows ≡ true)
     unfolding choice
     choice-hit =
         let x = not-all-rows (λ r. satisfied n r t f) rows e₁ in
         let r : Row = x .0 in
-        let c : left 0 n t f r ≡ false = not-f _ (x .1 (λ r. not (left 0 n t f r)) (no-row (left 0 n t f) rows e₂)) in
-        let i = count-some (λ i. freeIn r t f i) n (left-some n t f r (x .2) c) in
+        let c : unsatisfiedWith 0 n t f r ≡ false = not-f _ (x .1 (λ r. not (unsatisfiedWith 0 n t f r)) (no-row (unsatisfiedWith 0 n t f) rows e₂)) in
+        let i = count-some (λ i. freeIn r t f i) n (with-some n t f r (x .2) c) in
         lowest-hit (λ i. anyRow (λ r. not (satisfied n r t f) && freeIn r t f i) rows) n (i .0) (i .1)
         (any-row-i (λ r. not (satisfied n r t f) && freeIn r t f (i .0)) rows r (x .1) (and-i (not-t (x .2)) (i .2)))
 
@@ -120,8 +120,8 @@ module _ (n : ℕ) (rows : List Row) (t f : ℕ) where
   ruled =
       on (allRows (λ r. satisfied n r t f) rows)
       (λ e. rw (e, rule) e)
-      (λ e₁. on (anyRow (left 0 n t f) rows)
-      (λ e₂. rw (e₁, rule) (rw e₂ (let x = any-row-e (left 0 n t f) rows e₂ in record { row = x .0; of-rows = x .1; no-literal = x .2 })))
+      (λ e₁. on (anyRow (unsatisfiedWith 0 n t f) rows)
+      (λ e₂. rw (e₁, rule) (rw e₂ (let x = any-row-e (unsatisfiedWith 0 n t f) rows e₂ in record { row = x .0; of-rows = x .1; no-literal = x .2 })))
       (λ e₂. rw (e₁, rule) (rw e₂ (ruled-unit rows (λ x m. m) (Choice (choice n rows t f)) (ruled-choice e₁ e₂)))))
 
   -- ---- a rule's variable
@@ -135,7 +135,7 @@ module _ (n : ℕ) (rows : List Row) (t f : ℕ) where
   }
 
   pub unit-settable : {v : ℕ} {positive : Bool} → Forces n rows t f v positive → Settable n rows t f v
-  unit-settable {v = v} w = settable v (w .row) (w .of-rows) (left-unsatisfied 1 n t f (w .row) (w .one-literal)) (w .low) (w .free-there)
+  unit-settable {v = v} w = settable v (w .row) (w .of-rows) (with-unsatisfied 1 n t f (w .row) (w .one-literal)) (w .low) (w .free-there)
 
   pub choice-settable : {v : ℕ} → Chooses n rows t f v → Settable n rows t f v
   choice-settable {v = v} w = settable v (w .row) (w .of-rows) (w .unsatisfied) (w .low) (w .free-there)

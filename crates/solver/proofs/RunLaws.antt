@@ -1,6 +1,6 @@
--- The budgeted run against the states after k steps: what it counts and where it ends, and that a closed state stays. By induction on the steps.
+-- The budgeted run against the states after k steps: what it counts and where it ends. By induction on the steps.
 -- Assumes nothing.
-use mathlib.Core.Path.{_≡_, refl, ap, _∙_}
+use mathlib.Core.Path.{_≡_, refl, ap}
 use mathlib.Core.List.{List}
 use Prim.Native.Nat.{ℕ, zero, suc, _≤_, _<_, zero-le, suc-le-suc}
 use native.Mathlib.Nat.{not-suc-le-zero, le-of-suc-le-suc}
@@ -9,36 +9,10 @@ use Rattle.tables.specs.declared.Row.{Row}
 use Rattle.state.specs.declared.Standing.{Standing}
 use Rattle.state.specs.declared.Standing.the-variants.{Open, Satisfied, Refuted}
 use Rattle.state.specs.State.{State}
-use Rattle.scan.specs.Rules.{rule}
-use Rattle.solver.specs.Step.{follow, ifOpen, step, after}
+use Rattle.solver.specs.Step.{step, after}
 use Rattle.solver.specs.Answers.{Ran, runFrom}
 
 module _ (n : ℕ) (rows : List Row) where
-  -- ---- the states after k steps
-
-  -- the last step may be told apart instead of the first
-  pub after-suc : (k : ℕ) (s : State) → after n rows (suc k) s ≡ step n rows (after n rows k s)
-  unfolding after
-  after-suc zero s = refl
-  after-suc (suc k) s = after-suc k (step n rows s)
-
-  pub step-closed : (s : State) → (s .standing ≡ Open → ⊥) → step n rows s ≡ s
-  unfolding step
-  step-closed s h = go (s .standing) h
-    where
-      go : (st : Standing) → (st ≡ Open → ⊥) → ifOpen st (follow s (rule n rows (s .t) (s .f))) s ≡ s
-      go Open h = absurd (h refl)
-      go Satisfied h = refl
-      go Refuted h = refl
-
-  -- a closed state stays as it is
-  pub after-closed : (k : ℕ) (s : State) → (s .standing ≡ Open → ⊥) → after n rows k s ≡ s
-  unfolding after
-  after-closed zero s h = refl
-  after-closed (suc k) s h = ap (after n rows k) (step-closed s h) ∙ after-closed k s h
-
-  -- ---- the run
-
   -- what a run from s with this budget is
   pub record RunOf (budget : ℕ) (s : State) (r : Ran) : Type 0 where
     pub most : r .steps ≤ budget

@@ -50,6 +50,7 @@ verdictOf Open t = Unknown
 verdictOf Satisfied t = Satisfiable t
 verdictOf Refuted t = Unsatisfiable
 
+-- the answer of the fresh run: its count and its verdict
 unfoldable pub answerOf : ℕ → List Row → ℕ → Answer
 unfolding runFrom
 answerOf n rows budget =

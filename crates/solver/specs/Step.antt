@@ -34,6 +34,7 @@ follow s (Choice v) = record {
   levels = record { t = s .t; f = s .f; chosen = v } ∷ s .levels;
 }
 
+-- one thing of an open standing, another of a closed one
 abbrev pub ifOpen {ℓ} : {A : Type ℓ} → Standing → A → A → A
 ifOpen Open a b = a
 ifOpen Satisfied a b = b

@@ -1,6 +1,6 @@
 -- When an assignment makes rows true, and which variables occur: what demand 2 speaks of.
 use Prim.Native.Nat.{ℕ}
-use mathlib.Core.Bool.{Bool, true, false, not, _&&_, _||_}
+use mathlib.Core.Bool.{Bool, not, _&&_, _||_}
 use mathlib.Core.List.{List}
 use Rattle.words.specs.Sets.{bit, any, count}
 use Rattle.tables.specs.declared.Row.{Row}

@@ -7,7 +7,7 @@ use refusals::Refusal;
 use state::Run;
 use state::Standing;
 ghost use mathlib.Core.Path.{_≡_};
-ghost use mathlib.Core.Bool.{true, false};
+ghost use mathlib.Core.Bool.{false};
 ghost use mathlib.Core.List.{_++_};
 ghost use lib.Dec.{ltb};
 ghost use Rattle.refusals.specs.Checks.{outcome};

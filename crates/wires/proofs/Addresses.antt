@@ -22,23 +22,23 @@ use Rattle.wires.proofs.Lengths.{row-length, group-length, width-is}
 pub record Same (n : ℕ) (a b : Bits) : Type 0 where
   pub same-T : (i : ℕ) → i < n → a .T i ≡ b .T i
   pub same-F : (i : ℕ) → i < n → a .F i ≡ b .F i
-  pub same-D : (k : ℕ) → k ≤ n → a .D k ≡ b .D k
-  pub same-LT : (l i : ℕ) → l < n → i < n → a .LT l i ≡ b .LT l i
-  pub same-LF : (l i : ℕ) → l < n → i < n → a .LF l i ≡ b .LF l i
-  pub same-LV : (l i : ℕ) → l < n → i < n → a .LV l i ≡ b .LV l i
-  pub same-SAT : a .SAT ≡ b .SAT
-  pub same-REF : a .REF ≡ b .REF
+  pub same-depth : (k : ℕ) → k ≤ n → a .depth k ≡ b .depth k
+  pub same-levelT : (l i : ℕ) → l < n → i < n → a .levelT l i ≡ b .levelT l i
+  pub same-levelF : (l i : ℕ) → l < n → i < n → a .levelF l i ≡ b .levelF l i
+  pub same-chosen : (l i : ℕ) → l < n → i < n → a .chosen l i ≡ b .chosen l i
+  pub same-satisfied : a .satisfied ≡ b .satisfied
+  pub same-refuted : a .refuted ≡ b .refuted
 
 pub same-trans : (n : ℕ) (a b c : Bits) → Same n a b → Same n b c → Same n a c
 same-trans n a b c x y = record {
   same-T = λ i h. x .same-T i h ∙ y .same-T i h;
   same-F = λ i h. x .same-F i h ∙ y .same-F i h;
-  same-D = λ k h. x .same-D k h ∙ y .same-D k h;
-  same-LT = λ l i h k. x .same-LT l i h k ∙ y .same-LT l i h k;
-  same-LF = λ l i h k. x .same-LF l i h k ∙ y .same-LF l i h k;
-  same-LV = λ l i h k. x .same-LV l i h k ∙ y .same-LV l i h k;
-  same-SAT = x .same-SAT ∙ y .same-SAT;
-  same-REF = x .same-REF ∙ y .same-REF;
+  same-depth = λ k h. x .same-depth k h ∙ y .same-depth k h;
+  same-levelT = λ l i h k. x .same-levelT l i h k ∙ y .same-levelT l i h k;
+  same-levelF = λ l i h k. x .same-levelF l i h k ∙ y .same-levelF l i h k;
+  same-chosen = λ l i h k. x .same-chosen l i h k ∙ y .same-chosen l i h k;
+  same-satisfied = x .same-satisfied ∙ y .same-satisfied;
+  same-refuted = x .same-refuted ∙ y .same-refuted;
 }
 
 pub order-cong : (n : ℕ) (a b : Bits) → Same n a b → inOrder n a ≡ inOrder n b
@@ -46,11 +46,11 @@ unfolding inOrder
 order-cong n a b s =
     ap₂ _++_ (upto-cong _ _ n (s .same-T)) (
     ap₂ _++_ (upto-cong _ _ n (s .same-F)) (
-    ap₂ _++_ (upto-cong _ _ (suc n) (λ k h. s .same-D k (le-of-suc-le-suc h))) (
+    ap₂ _++_ (upto-cong _ _ (suc n) (λ k h. s .same-depth k (le-of-suc-le-suc h))) (
     ap₂ _++_
-    (joined-cong _ _ n (λ l h. ap₂ _++_ (upto-cong _ _ n (λ i k. s .same-LT l i h k)) (
-    ap₂ _++_ (upto-cong _ _ n (λ i k. s .same-LF l i h k)) (upto-cong _ _ n (λ i k. s .same-LV l i h k)))))
-    (ap₂ (λ (x y : Bool). x ∷ (y ∷ [])) (s .same-SAT) (s .same-REF)))))
+    (joined-cong _ _ n (λ l h. ap₂ _++_ (upto-cong _ _ n (λ i k. s .same-levelT l i h k)) (
+    ap₂ _++_ (upto-cong _ _ n (λ i k. s .same-levelF l i h k)) (upto-cong _ _ n (λ i k. s .same-chosen l i h k)))))
+    (ap₂ (λ (x y : Bool). x ∷ (y ∷ [])) (s .same-satisfied) (s .same-refuted)))))
 
 -- ---- rows
 
@@ -84,19 +84,19 @@ module _ (n : ℕ) (rows : List Row) (rest : List Bool) where
 
 module _ (n : ℕ) (b : Bits) where
   abbrev level : ℕ → List Bool
-  level l = upto (b .LT l) n ++ (upto (b .LF l) n ++ upto (b .LV l) n)
+  level l = upto (b .levelT l) n ++ (upto (b .levelF l) n ++ upto (b .chosen l) n)
 
   -- the parts, with the rest behind them
-  parts : (rest : List Bool) → inOrder n b ++ rest ≡ upto (b .T) n ++ (upto (b .F) n ++ (upto (b .D) (suc n) ++ (joined level n ++ (b .SAT ∷ (b .REF ∷ rest)))))
+  parts : (rest : List Bool) → inOrder n b ++ rest ≡ upto (b .T) n ++ (upto (b .F) n ++ (upto (b .depth) (suc n) ++ (joined level n ++ (b .satisfied ∷ (b .refuted ∷ rest)))))
   unfolding inOrder
   parts rest = simp append-assoc
 
   module _ (rest : List Bool) where
     abbrev W : List Bool
-    W = upto (b .T) n ++ (upto (b .F) n ++ (upto (b .D) (suc n) ++ (joined level n ++ (b .SAT ∷ (b .REF ∷ rest)))))
+    W = upto (b .T) n ++ (upto (b .F) n ++ (upto (b .depth) (suc n) ++ (joined level n ++ (b .satisfied ∷ (b .refuted ∷ rest)))))
 
-    levels-at : (k : ℕ) → wire W (n + (n + (suc n + k))) ≡ wire (joined level n ++ (b .SAT ∷ (b .REF ∷ rest))) k
-    levels-at k = upto-past (b .T) n _ (n + (suc n + k)) ∙ upto-past (b .F) n _ (suc n + k) ∙ upto-past (b .D) (suc n) _ k
+    levels-at : (k : ℕ) → wire W (n + (n + (suc n + k))) ≡ wire (joined level n ++ (b .satisfied ∷ (b .refuted ∷ rest))) k
+    levels-at k = upto-past (b .T) n _ (n + (suc n + k)) ∙ upto-past (b .F) n _ (suc n + k) ∙ upto-past (b .depth) (suc n) _ k
 
     level-at : (l i : ℕ) → l < n → i < n + (n + n) → wire W (n + (n + (suc n + (levelAt n l + i)))) ≡ wire (level l) i
     level-at l i h k = levels-at (levelAt n l + i) ∙ joined-at (n + (n + n)) level n _ l i (group-length n b) h k
@@ -105,12 +105,12 @@ module _ (n : ℕ) (b : Bits) where
     parts-at = record {
       same-T = λ i h. upto-here _ n _ i h;
       same-F = λ i h. upto-past _ n _ i ∙ upto-here _ n _ i h;
-      same-D = λ k h. upto-past _ n _ (n + k) ∙ upto-past _ n _ k ∙ upto-here _ (suc n) _ k (omega arith);
-      same-LT = λ l i h k. level-at l i h (omega arith) ∙ upto-here _ n _ i k;
-      same-LF = λ l i h k. level-at l (n + i) h (omega arith) ∙ upto-past _ n _ i ∙ upto-here _ n _ i k;
-      same-LV = λ l i h k. level-at l (n + (n + i)) h (omega arith) ∙ upto-past _ n _ (n + i) ∙ upto-past _ n _ i ∙ upto-at _ n i k;
-      same-SAT = levels-at _ ∙ joined-past (n + (n + n)) level n _ 0 (group-length n b);
-      same-REF = levels-at _ ∙ joined-past (n + (n + n)) level n _ 1 (group-length n b);
+      same-depth = λ k h. upto-past _ n _ (n + k) ∙ upto-past _ n _ k ∙ upto-here _ (suc n) _ k (omega arith);
+      same-levelT = λ l i h k. level-at l i h (omega arith) ∙ upto-here _ n _ i k;
+      same-levelF = λ l i h k. level-at l (n + i) h (omega arith) ∙ upto-past _ n _ i ∙ upto-here _ n _ i k;
+      same-chosen = λ l i h k. level-at l (n + (n + i)) h (omega arith) ∙ upto-past _ n _ (n + i) ∙ upto-past _ n _ i ∙ upto-at _ n i k;
+      same-satisfied = levels-at _ ∙ joined-past (n + (n + n)) level n _ 0 (group-length n b);
+      same-refuted = levels-at _ ∙ joined-past (n + (n + n)) level n _ 1 (group-length n b);
     }
 
     pub state-at : Same n (stateAt n (λ k. wire (inOrder n b ++ rest) k)) b

@@ -26,7 +26,7 @@ pub level-length : (n : ℕ) (x : Level) → length (levelBits n x) ≡ n + (n +
 level-length n x = simp (length-append, length-upto)
 
 -- the levels' wires of any bits
-pub group-length : (n : ℕ) (b : Bits) (l : ℕ) → length (upto (b .LT l) n ++ (upto (b .LF l) n ++ upto (b .LV l) n)) ≡ n + (n + n)
+pub group-length : (n : ℕ) (b : Bits) (l : ℕ) → length (upto (b .levelT l) n ++ (upto (b .levelF l) n ++ upto (b .chosen l) n)) ≡ n + (n + n)
 group-length n b l = simp (length-append, length-upto)
 
 -- the state's wires, part by part
@@ -43,7 +43,7 @@ width-is n = omega (arith, add-mul n (n + n) n, add-mul n n n, add-mul (n + n) n
 pub order-length : (n : ℕ) (b : Bits) → length (inOrder n b) ≡ stateWidth n
 unfolding inOrder
 order-length n b =
-    let e = length-joined (n + (n + n)) (λ l. upto (b .LT l) n ++ (upto (b .LF l) n ++ upto (b .LV l) n)) n (group-length n b) in
+    let e = length-joined (n + (n + n)) (λ l. upto (b .levelT l) n ++ (upto (b .levelF l) n ++ upto (b .chosen l) n)) n (group-length n b) in
     simp (length-append, length-upto) (ap (λ (k : ℕ). n + (n + (suc n + (k + 2)))) e)
 
 pub state-length : (n : ℕ) (s : State) → length (stateBits n s) ≡ stateWires n

@@ -52,7 +52,7 @@ module _ (n : ℕ) (bytes : List ℕ) where
   unfolding runIn runOf
   run-read st t f depth levels es et ef ed el =
       let b = stateAt n (λ k. wireIn bytes k) in
-      let d : ℕ = lowest (b .D) n in
+      let d : ℕ = lowest (b .depth) n in
       let e : depth ≡ d = ed ∙ lowest-cong _ _ n (λ j h. ap (wireIn bytes) (add-assoc n n j)) in
       let first : 3 * n * n + 3 * n + 1 ≡ n + (n + (suc n + (levelAt n n + 0))) = omega (arith, closing 0) in
       λ i. record {

@@ -49,9 +49,9 @@ older g x xs l h = rw (ne-eqb l (length xs) (λ e. absurd (omega arith)))
 
 -- the bits of a level are those of the list's
 record Agree (n : ℕ) (b : Bits) (xs : List Level) (l : ℕ) : Type 0 where
-  agree-t : (i : ℕ) → i < n → b .LT l i ≡ onLevel (λ x. bit (x .t) i) xs l
-  agree-f : (i : ℕ) → i < n → b .LF l i ≡ onLevel (λ x. bit (x .f) i) xs l
-  agree-v : (i : ℕ) → i < n → b .LV l i ≡ onLevel (λ x. eqb i (x .chosen)) xs l
+  agree-t : (i : ℕ) → i < n → b .levelT l i ≡ onLevel (λ x. bit (x .t) i) xs l
+  agree-f : (i : ℕ) → i < n → b .levelF l i ≡ onLevel (λ x. bit (x .f) i) xs l
+  agree-v : (i : ℕ) → i < n → b .chosen l i ≡ onLevel (λ x. eqb i (x .chosen)) xs l
 
 levels-back : (n t f : ℕ) (b : Bits) (xs : List Level) → chain n t f xs ≡ true → ((l : ℕ) → l < length xs → Agree n b xs l) → lastFirst (length xs) (levelOf n b) ≡ xs
 unfolding lastFirst
@@ -61,9 +61,9 @@ levels-back n t f b (x ∷ xs) c h =
     let a = h (length xs) (omega arith) in
     ap₂ (λ (y : Level) (ys : List Level). y ∷ ys)
     (λ i. record {
-      t = word-is (b .LT (length xs)) n (x .t) (o .own .low-t) (λ i k. a .agree-t i k ∙ last-level (λ y. bit (y .t) i) x xs) i;
-      f = word-is (b .LF (length xs)) n (x .f) (o .own .low-f) (λ i k. a .agree-f i k ∙ last-level (λ y. bit (y .f) i) x xs) i;
-      chosen = lowest-is (b .LV (length xs)) n (x .chosen) (omega (arith, o .low)) (λ i k. a .agree-v i k ∙ last-level (λ y. eqb i (y .chosen)) x xs) i;
+      t = word-is (b .levelT (length xs)) n (x .t) (o .own .low-t) (λ i k. a .agree-t i k ∙ last-level (λ y. bit (y .t) i) x xs) i;
+      f = word-is (b .levelF (length xs)) n (x .f) (o .own .low-f) (λ i k. a .agree-f i k ∙ last-level (λ y. bit (y .f) i) x xs) i;
+      chosen = lowest-is (b .chosen (length xs)) n (x .chosen) (omega (arith, o .low)) (λ i k. a .agree-v i k ∙ last-level (λ y. eqb i (y .chosen)) x xs) i;
     })
     (levels-back n (x .t) (x .f) b xs (chain-tail n x t f xs c) (λ l j. let a′ = h l (omega arith) in record {
       agree-t = λ i k. a′ .agree-t i k ∙ older (λ y. bit (y .t) i) x xs l j;
@@ -81,14 +81,14 @@ standing-back Refuted = refl
 pub unpacked-is : (n : ℕ) (s : State) (b : Bits) → wellFormedState n s ≡ true → Same n b (bitsIn s) → unpacked n b ≡ s
 unpacked-is n s b h e =
     let o = formed-e n s h in
-    let d : lowest (b .D) n ≡ length (s .levels) = lowest-is (b .D) n (length (s .levels)) (o .few) (λ k j. e .same-D k (omega arith)) in
+    let d : lowest (b .depth) n ≡ length (s .levels) = lowest-is (b .depth) n (length (s .levels)) (o .few) (λ k j. e .same-depth k (omega arith)) in
     λ i. record {
-      standing = (ap₂ standingOf (e .same-SAT) (e .same-REF) ∙ standing-back (s .standing)) i;
+      standing = (ap₂ standingOf (e .same-satisfied) (e .same-refuted) ∙ standing-back (s .standing)) i;
       t = word-is (b .T) n (s .t) (o .own .low-t) (e .same-T) i;
       f = word-is (b .F) n (s .f) (o .own .low-f) (e .same-F) i;
       levels = (ap (λ (k : ℕ). lastFirst k (levelOf n b)) d ∙ levels-back n (s .t) (s .f) b (s .levels) (o .linked) (λ l j. record {
-        agree-t = λ i k. e .same-LT l i (omega (arith, o .few)) k;
-        agree-f = λ i k. e .same-LF l i (omega (arith, o .few)) k;
-        agree-v = λ i k. e .same-LV l i (omega (arith, o .few)) k;
+        agree-t = λ i k. e .same-levelT l i (omega (arith, o .few)) k;
+        agree-f = λ i k. e .same-levelF l i (omega (arith, o .few)) k;
+        agree-v = λ i k. e .same-chosen l i (omega (arith, o .few)) k;
       })) i;
     }

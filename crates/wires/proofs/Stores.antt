@@ -4,21 +4,17 @@ use mathlib.Core.Path.{_≡_, refl, sym, ap, ap₂, _∙_}
 use mathlib.Core.Bool.{Bool}
 use mathlib.Core.List.{List, [], _∷_, _++_, map-append}
 use Prim.Native.Nat.{ℕ, suc, _+_, _*_, _≤_, _<_}
-use native.Mathlib.Nat.{add-zero, add-suc, suc-add, zero-add, mul-zero, mul-suc, mul-le-mul-left}
+use native.Mathlib.Nat.{zero-add, mul-zero, mul-suc, mul-le-mul-left}
 use native.Mathlib.Numerals.{add-one}
 use native.Mathlib.Omega.{arith}
 use lib.ListN.{length, set, take, drop, length-map}
 use lib.Seq.{sets, sets-eq, length-sets, take-at}
 use Rattle.words.specs.Booleans.{digit}
+use Rattle.words.proofs.Stores.{sets-append}
 use Rattle.gates.specs.Memory.{bytesOf}
 use Rattle.gates.specs.Evaluation.{over}
 use Rattle.wires.specs.Layout.{upto, joined}
 use Rattle.wires.proofs.Series.{length-upto, upto-more, length-joined, joined-more}
-
-sets-append : (xs ys l : List ℕ) (i : ℕ) → sets l i (xs ++ ys) ≡ sets (sets l i xs) (i + length xs) ys
-sets-append [] ys l i = ap (λ (k : ℕ). sets l k ys) (sym (add-zero i))
-sets-append (x ∷ xs) ys l i =
-    sets-append xs ys (set l i x) (suc i) ∙ ap (λ (k : ℕ). sets (sets (set l i x) (suc i) xs) k ys) (suc-add i (length xs) ∙ sym (add-suc i (length xs)))
 
 -- the bytes b with wires stored at a place
 abbrev pub stored : List ℕ → ℕ → List Bool → List ℕ

@@ -12,27 +12,27 @@ use Rattle.wires.specs.Layout.{upto, joined, onLevel, isRefuted}
 pub record Bits : Type 0 where
   pub T : ℕ → Bool
   pub F : ℕ → Bool
-  pub D : ℕ → Bool
-  pub LT : ℕ → ℕ → Bool
-  pub LF : ℕ → ℕ → Bool
-  pub LV : ℕ → ℕ → Bool
-  pub SAT : Bool
-  pub REF : Bool
+  pub depth : ℕ → Bool
+  pub levelT : ℕ → ℕ → Bool
+  pub levelF : ℕ → ℕ → Bool
+  pub chosen : ℕ → ℕ → Bool
+  pub satisfied : Bool
+  pub refuted : Bool
 
 abbrev pub bitsIn : State → Bits
 bitsIn s = record {
   T = λ i. bit (s .t) i;
   F = λ i. bit (s .f) i;
-  D = λ k. eqb k (length (s .levels));
-  LT = λ l i. onLevel (λ x. bit (x .t) i) (s .levels) l;
-  LF = λ l i. onLevel (λ x. bit (x .f) i) (s .levels) l;
-  LV = λ l i. onLevel (λ x. eqb i (x .chosen)) (s .levels) l;
-  SAT = isSatisfied (s .standing);
-  REF = isRefuted (s .standing);
+  depth = λ k. eqb k (length (s .levels));
+  levelT = λ l i. onLevel (λ x. bit (x .t) i) (s .levels) l;
+  levelF = λ l i. onLevel (λ x. bit (x .f) i) (s .levels) l;
+  chosen = λ l i. onLevel (λ x. eqb i (x .chosen)) (s .levels) l;
+  satisfied = isSatisfied (s .standing);
+  refuted = isRefuted (s .standing);
 }
 
 -- the wires in the order of `stateBits`
 unfoldable pub inOrder : ℕ → Bits → List Bool
 inOrder n b =
-    upto (b .T) n ++ (upto (b .F) n ++ (upto (b .D) (suc n)
-    ++ (joined (λ l. upto (b .LT l) n ++ (upto (b .LF l) n ++ upto (b .LV l) n)) n ++ (b .SAT ∷ (b .REF ∷ [])))))
+    upto (b .T) n ++ (upto (b .F) n ++ (upto (b .depth) (suc n)
+    ++ (joined (λ l. upto (b .levelT l) n ++ (upto (b .levelF l) n ++ upto (b .chosen l) n)) n ++ (b .satisfied ∷ (b .refuted ∷ [])))))

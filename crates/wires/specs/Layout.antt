@@ -27,6 +27,7 @@ joined f (suc n) = f zero ++ joined (λ i. f (suc i)) n
 abbrev pub rowBits : ℕ → Row → List Bool
 rowBits n r = upto (bit (r .positive)) n ++ upto (bit (r .negative)) n
 
+-- the wires of the rows, one row behind the other
 unfoldable pub rowsBits : ℕ → List Row → List Bool
 rowsBits n [] = []
 rowsBits n (r ∷ rs) = rowBits n r ++ rowsBits n rs

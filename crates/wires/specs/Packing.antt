@@ -21,7 +21,7 @@ use Rattle.wires.specs.Layout.{rowsBits, stateBits}
 unfoldable pub inputBits : Dimensions → List ℕ → List ℕ → State → List Bool
 inputBits d left right s = rowsBits (d .n) (rowsOf d left right) ++ stateBits (d .n) s
 
--- for so many lent bytes
+-- 1, 2, 4, 3, then 10 where so many lent bytes are too few, then 12, 13
 abbrev pub packChecks : Dimensions → List ℕ → List ℕ → Run → ℕ → List Check
 packChecks d left right run room = tableChecks d left right ++ (check (ltb room (inputWires d)) Wires ∷ stateChecks d run)
 

@@ -29,12 +29,12 @@ abbrev pub stateAt : ℕ → (ℕ → Bool) → Bits
 stateAt n f = record {
   T = λ i. f i;
   F = λ i. f (n + i);
-  D = λ k. f (n + (n + k));
-  LT = λ l i. f (n + (n + (suc n + (levelAt n l + i))));
-  LF = λ l i. f (n + (n + (suc n + (levelAt n l + (n + i)))));
-  LV = λ l i. f (n + (n + (suc n + (levelAt n l + (n + (n + i))))));
-  SAT = f (n + (n + (suc n + (levelAt n n + 0))));
-  REF = f (n + (n + (suc n + (levelAt n n + 1))));
+  depth = λ k. f (n + (n + k));
+  levelT = λ l i. f (n + (n + (suc n + (levelAt n l + i))));
+  levelF = λ l i. f (n + (n + (suc n + (levelAt n l + (n + i)))));
+  chosen = λ l i. f (n + (n + (suc n + (levelAt n l + (n + (n + i))))));
+  satisfied = f (n + (n + (suc n + (levelAt n n + 0))));
+  refuted = f (n + (n + (suc n + (levelAt n n + 1))));
 }
 
 -- open where neither closing bit is set
@@ -44,7 +44,7 @@ standingOf false true = standing.Refuted
 standingOf false false = standing.Open
 
 abbrev pub levelOf : ℕ → Bits → ℕ → Level
-levelOf n b l = record { t = wordOf (b .LT l) n; f = wordOf (b .LF l) n; chosen = lowest (b .LV l) n }
+levelOf n b l = record { t = wordOf (b .levelT l) n; f = wordOf (b .levelF l) n; chosen = lowest (b .chosen l) n }
 
 -- the first d of some levels, the last of them first
 unfoldable pub lastFirst : ℕ → (ℕ → Level) → List Level
@@ -54,10 +54,10 @@ lastFirst (suc d) a = a d ∷ lastFirst d a
 -- the state of some bits: a set is its word, one set wire of several its number, depth n where no lower one is set
 abbrev pub unpacked : ℕ → Bits → State
 unpacked n b = record {
-  standing = standingOf (b .SAT) (b .REF);
+  standing = standingOf (b .satisfied) (b .refuted);
   t = wordOf (b .T) n;
   f = wordOf (b .F) n;
-  levels = lastFirst (lowest (b .D) n) (levelOf n b);
+  levels = lastFirst (lowest (b .depth) n) (levelOf n b);
 }
 
 -- the run of n that bytes would hold

@@ -134,6 +134,7 @@ fn put_levels(n: usize, levels: [Level; 32], depth: usize, bytes: &mut [u8], at:
     next
 }
 
+// Whether the run is closed as satisfied.
 fn is_satisfied(standing: Standing) -> bool
     ensures { λ r. ⌜ r ≡ isSatisfied standing ⌝ }
 {
@@ -144,6 +145,7 @@ fn is_satisfied(standing: Standing) -> bool
     }
 }
 
+// Whether the run is closed as refuted.
 fn is_refuted(standing: Standing) -> bool
     ensures { λ r. ⌜ r ≡ isRefuted standing ⌝ }
 {

@@ -90,6 +90,7 @@ fn get_levels(n: usize, depth: usize, bytes: &[u8], at: usize) -> [Level; 32]
     levels
 }
 
+// The standing of the two closing wires; satisfied where both are set, which packs otherwise.
 fn standing(satisfied: bool, refuted: bool) -> Standing
     ensures { λ r. ⌜ r ≡ standingOf satisfied refuted ⌝ }
 {
@@ -114,10 +115,10 @@ pub(crate) fn get_run(n: u8, bytes: &[u8]) -> Run
     let last = 3 * k * k + 3 * k + 1;
     let t = get_set(k, bytes, 0);
     let f = get_set(k, bytes, k);
-    let closed = standing(bytes[last] == 1, bytes[last + 1] == 1);
+    let standing = standing(bytes[last] == 1, bytes[last + 1] == 1);
     Run {
         n,
-        standing: closed,
+        standing,
         t,
         f,
         depth,

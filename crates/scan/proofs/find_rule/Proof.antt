@@ -1,4 +1,4 @@
--- `scan::find_rule` meets its contract: the survey of the left table's rows and then the right's gives the rule, and each way out reads it off.
+-- `find_rule` meets its contract: the survey of the left table's rows and then the right's gives the rule, and each way out reads it off.
 -- Assumes nothing.
 use mathlib.Core.Path.{_≡_, _∙_}
 use mathlib.Core.List.{[], _++_}

@@ -1,4 +1,4 @@
--- `solver::check_all` meets its contract: the checks of the tables come first.
+-- `check_all` meets its contract: the checks of the tables come first.
 -- Assumes nothing.
 use denote.Ref.{now}
 use mathlib.Core.Path.{sym, _∙_}

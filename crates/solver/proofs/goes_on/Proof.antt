@@ -1,4 +1,4 @@
--- `solver::goes_on` meets its contract: by the standing.
+-- `goes_on` meets its contract: by the standing.
 -- Assumes nothing.
 use mathlib.Core.Path.{sym, ap}
 use mathlib.Core.Bool.{false}

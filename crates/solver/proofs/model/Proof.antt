@@ -1,4 +1,4 @@
--- `solver::model` meets its contract: a check that fails decides, then the standing.
+-- `model` meets its contract: a check that fails decides, then the standing.
 -- Assumes nothing.
 use mathlib.Core.Path.{sym, _∙_}
 use borrow.Author.Tests.{not-true, not-false}

@@ -1,4 +1,4 @@
--- `solver::run_to_close` meets its contract. The loop's invariant: what is left of the budget from the present run gives what the whole gives from the fresh one.
+-- `run_to_close` meets its contract. The loop's invariant: what is left of the budget from the present run gives what the whole gives from the fresh one.
 -- The measure is what is left of the budget. Assumes nothing.
 use denote.Ref.{now}
 use mathlib.Core.Path.{sym, _∙_}

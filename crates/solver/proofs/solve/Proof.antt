@@ -1,4 +1,4 @@
--- `solver::solve` meets its contract: the tables' checks decide, and accepted tables have the answer of the budgeted run.
+-- `solve` meets its contract: the tables' checks decide, and accepted tables have the answer of the budgeted run.
 -- Assumes nothing.
 use denote.Ref.{now}
 use mathlib.Core.Path.{sym, _∙_}

@@ -1,4 +1,4 @@
--- `solver::step` meets its contract: the outcome of the checks decides.
+-- `step` meets its contract: the outcome of the checks decides.
 -- Assumes nothing.
 use denote.Ref.{now}
 use Rattle.solver.proofs.Entries.{passed, step-taken, step-refused}

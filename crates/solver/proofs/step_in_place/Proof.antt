@@ -1,4 +1,4 @@
--- `solver::step_in_place` meets its contract, by a walk of its MIR: the borrow of the run is opened, the run is copied out and passed to `step`, the run
+-- `step_in_place` meets its contract, by a walk of its MIR: the borrow of the run is opened, the run is copied out and passed to `step`, the run
 -- that comes back is stored, the borrow is closed at it, and the outcome is returned.
 -- Assumes nothing.
 use mathlib.Core.Path.{_≡_, refl, ap}

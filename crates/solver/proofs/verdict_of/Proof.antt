@@ -1,4 +1,4 @@
--- `solver::verdict_of` meets its contract: by the standing.
+-- `verdict_of` meets its contract: by the standing.
 -- Assumes nothing.
 use mathlib.Core.Path.{sym, ap}
 use Rattle.state.specs.declared.Standing.{Standing}

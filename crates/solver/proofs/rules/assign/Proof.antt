@@ -1,4 +1,4 @@
--- `solver::rules::assign` meets its contract: the literal is put into T or F.
+-- `assign` meets its contract: the literal is put into T or F.
 -- Assumes nothing.
 use native.Mathlib.Omega.{arith}
 use lib.ListN.{length-map}

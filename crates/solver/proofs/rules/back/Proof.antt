@@ -1,4 +1,4 @@
--- `solver::rules::back` meets its contract: the last level is zeroed.
+-- `back` meets its contract: the last level is zeroed.
 -- Assumes nothing.
 use native.Mathlib.Omega.{arith}
 use lib.ListN.{length-map}

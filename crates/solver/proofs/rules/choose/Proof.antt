@@ -1,4 +1,4 @@
--- `solver::rules::choose` meets its contract: one more level is stored.
+-- `choose` meets its contract: one more level is stored.
 -- Assumes nothing.
 use native.Mathlib.Omega.{arith}
 use lib.ListN.{length-map}

@@ -1,4 +1,4 @@
--- `solver::rules::giant_step` meets its contract: the function of the rule that applies gives the run of the next state, and a closed run stays.
+-- `giant_step` meets its contract: the function of the rule that applies gives the run of the next state, and a closed run stays.
 -- Assumes nothing.
 use lib.ListN.{length-map}
 use Rattle.solver.proofs.HeldStep.{open-step, satisfied-stays, refuted-stays, unit-low, choice-low, choice-room}

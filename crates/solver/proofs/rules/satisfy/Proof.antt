@@ -1,4 +1,4 @@
--- `solver::rules::satisfy` meets its contract: its levels are kept.
+-- `satisfy` meets its contract: its levels are kept.
 -- Assumes nothing.
 use lib.ListN.{length-map}
 use Rattle.solver.proofs.HeldRules.{satisfied}
