@@ -19,7 +19,7 @@ use Rattle.dimensions.specs.Sizes.{outside, ceiling}
 use Rattle.text.specs.declared.Text.{Text}
 use Rattle.text.specs.Texts.{textOf}
 use Rattle.text.proofs.Appending.{text-within}
-use Rattle.lines.specs.Answers.{refusedLine}
+use Rattle.answers.specs.Answers.{refusedLine}
 use Rattle.gates.specs.Memory.{wordsOf}
 use Rattle.gates.specs.Evaluation.{over}
 use Rattle.gates.proofs.InMemory.{words-length}

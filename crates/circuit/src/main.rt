@@ -26,7 +26,7 @@ fn dimensions(line: &[u8]) -> Sized
 
 // Prints a refusal's line.
 fn print_refusal(refusal: Refusal) {
-    let text = lines::refused_line(refusal);
+    let text = answers::refused_line(refusal);
     let bytes = text.bytes;
     let length = text.length;
     io::write_all(STDOUT_FILENO, &bytes[..length]);

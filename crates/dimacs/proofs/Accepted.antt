@@ -12,7 +12,7 @@ use lib.ListN.{length, getD, replicate, length-append, length-replicate}
 use borrow.Author.Tests.{leb-true, eqb-true, eqb-false}
 use Rattle.words.proofs.Truth.{on, and-l, and-r, and-i}
 use Rattle.lexer.specs.Pieces.{Piece, behind, linesFrom}
-use Rattle.lexer.specs.Numbers.{Number, number, malformed, numberOf}
+use Rattle.numbers.specs.Numbers.{Number, number, malformed, numberOf}
 use Rattle.refusals.specs.declared.Refusal.{Refusal}
 use Rattle.refusals.specs.declared.Refusal.the-variants as R
 use Rattle.refusals.specs.declared.Outcome.{Outcome}

@@ -12,7 +12,7 @@ use borrow.Author.Tests.{eqb-true}
 use Rattle.words.specs.Booleans.{digit}
 use Rattle.words.proofs.Truth.{on}
 use Rattle.lexer.specs.Pieces.{Piece, behind, linesFrom}
-use Rattle.lexer.specs.Numbers.{number, malformed}
+use Rattle.numbers.specs.Numbers.{number, malformed}
 use Rattle.refusals.specs.Numbers.{numberOf}
 use Rattle.refusals.specs.Checks.{given}
 use Rattle.refusals.specs.declared.Refusal.the-variants.{TextsDiffer}

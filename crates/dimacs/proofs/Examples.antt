@@ -9,7 +9,7 @@ use Rattle.words.specs.Sets.{put}
 use Rattle.lexer.specs.Spelling.{bytes}
 use Rattle.lexer.specs.Bytes.{run, trimmed, same}
 use Rattle.lexer.specs.Pieces.{cut, filled, partsFrom}
-use Rattle.lexer.specs.Numbers.{digitsAfter, decimalOf, numberOf}
+use Rattle.numbers.specs.Numbers.{digitsAfter, decimalOf, numberOf}
 use Rattle.dimacs.specs.Clauses.{clauses}
 use Rattle.dimacs.specs.Header.{pastRemarks}
 use Rattle.dimacs.specs.Text.{tableOf}

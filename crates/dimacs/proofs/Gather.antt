@@ -11,12 +11,13 @@ use borrow.Author.Tests.{lt-ltb, le-ltb}
 use Rattle.words.proofs.Truth.{on}
 use Rattle.lexer.specs.Bytes.{isSeparator}
 use Rattle.lexer.specs.Pieces.{Piece, behind, tokensFrom}
-use Rattle.lexer.specs.Numbers.{Number, number, malformed, numberOf}
-use Rattle.lexer.specs.Answers.{numberHeld, firstOf}
+use Rattle.lexer.specs.Answers.{firstOf}
 use Rattle.lexer.specs.Places.{part}
-use Rattle.lexer.specs.declared.numbers.Number.the-variants as L
-use Rattle.lexer.proofs.Decimals.{held-value, held-none}
 use Rattle.lexer.proofs.Cuts.{Found, found}
+use Rattle.numbers.specs.Numbers.{Number, number, malformed, numberOf}
+use Rattle.numbers.specs.Answers.{numberHeld}
+use Rattle.numbers.specs.declared.Number.the-variants as L
+use Rattle.numbers.proofs.Decimals.{held-value, held-none}
 use Rattle.dimacs.specs.Rows.{Literal, withLiteral, rowOf}
 use Rattle.dimacs.specs.Clauses.{Reading, clause, ended, unreadable, joined, before, clauses}
 use Rattle.dimacs.specs.Answers.{clausesFrom, first, emptyRow, withLiterals}

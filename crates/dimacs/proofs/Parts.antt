@@ -10,13 +10,13 @@ use borrow.Author.Tests.{eq-eqb, ne-eqb}
 use Rattle.lexer.specs.Spelling.{bytes}
 use Rattle.lexer.specs.Bytes.{isBlank, same}
 use Rattle.lexer.specs.Pieces.{Piece, partsFrom}
-use Rattle.lexer.specs.Numbers.{Number, number, malformed, numberOf}
-use Rattle.lexer.specs.Answers.{numberHeld}
 use Rattle.lexer.specs.Places.{part}
-use Rattle.lexer.specs.declared.numbers.Number as LN
-use Rattle.lexer.specs.declared.numbers.Number.the-variants as L
 use Rattle.lexer.proofs.Cuts.{Found}
-use Rattle.lexer.proofs.Decimals.{held-none}
+use Rattle.numbers.specs.Numbers.{Number, number, malformed, numberOf}
+use Rattle.numbers.specs.Answers.{numberHeld}
+use Rattle.numbers.specs.declared.Number as LN
+use Rattle.numbers.specs.declared.Number.the-variants as L
+use Rattle.numbers.proofs.Decimals.{held-none}
 use Rattle.dimacs.specs.Header.{numbers, none, twoNumbers, headerParts}
 use Rattle.dimacs.specs.Answers.{numbersHeld}
 use Rattle.dimacs.specs.declared.header.Numbers.the-variants.{Of, Malformed}

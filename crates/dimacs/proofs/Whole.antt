@@ -11,11 +11,11 @@ use borrow.Author.Tests.{lt-ltb, le-ltb, le-leb, lt-leb, leb-true, leb-false}
 use Rattle.words.proofs.Truth.{on}
 use Rattle.lexer.specs.Bytes.{isLineFeed}
 use Rattle.lexer.specs.Pieces.{linesFrom}
-use Rattle.lexer.specs.Numbers.{number, malformed}
-use Rattle.lexer.specs.Answers.{held, numberHeld}
 use Rattle.lexer.specs.Places.{runEnd, part}
-use Rattle.lexer.specs.declared.numbers.Number as LN
-use Rattle.lexer.specs.declared.numbers.Number.the-variants as L
+use Rattle.numbers.specs.Numbers.{number, malformed}
+use Rattle.numbers.specs.Answers.{held, numberHeld}
+use Rattle.numbers.specs.declared.Number as LN
+use Rattle.numbers.specs.declared.Number.the-variants as L
 use Rattle.refusals.specs.declared.Refusal.the-variants as R
 use Rattle.lexer.proofs.Runs.{end-ge, end-le}
 use Rattle.dimacs.specs.Header.{Numbers, numbers, none, numbersOf, pastRemarks}

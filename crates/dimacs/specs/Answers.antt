@@ -4,10 +4,10 @@ use mathlib.Core.Bool.{Bool, true, false, cond}
 use mathlib.Core.List.{List, [], _∷_}
 use lib.Dec.{leb}
 use Rattle.lexer.specs.Pieces.{tokensFrom}
-use Rattle.lexer.specs.Numbers.{number, malformed}
-use Rattle.lexer.specs.Answers.{numberHeld}
-use Rattle.lexer.specs.declared.numbers.Number as LN
-use Rattle.lexer.specs.declared.numbers.Number.the-variants as L
+use Rattle.numbers.specs.Numbers.{number, malformed}
+use Rattle.numbers.specs.Answers.{numberHeld}
+use Rattle.numbers.specs.declared.Number as LN
+use Rattle.numbers.specs.declared.Number.the-variants as L
 use Rattle.dimacs.specs.Rows.{Literal, withLiteral, rowOf}
 use Rattle.dimacs.specs.Clauses.{Reading, clause, ended, unreadable, clauses}
 use Rattle.dimacs.specs.Header as H
@@ -45,7 +45,7 @@ counts (suc m) (clause ls from to rest) = counts m rest
 counts (suc m) ended = false
 counts (suc m) unreadable = false
 
--- a well-formed header's numbers, held as the lexer holds them
+-- a well-formed header's numbers, held as `numbers` holds them
 abbrev pub numbersHeld : H.Numbers → Numbers
 numbersHeld H.none = Malformed
 numbersHeld (H.numbers malformed m) = Malformed

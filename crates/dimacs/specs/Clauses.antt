@@ -4,7 +4,7 @@ use mathlib.Core.Bool.{Bool, true, false, cond}
 use mathlib.Core.List.{List, [], _∷_}
 use lib.Dec.{ltb}
 use Rattle.lexer.specs.Pieces.{Piece, behind}
-use Rattle.lexer.specs.Numbers.{Number, number, malformed, numberOf}
+use Rattle.numbers.specs.Numbers.{Number, number, malformed, numberOf}
 use Rattle.dimacs.specs.Rows.{Literal, rowOf}
 use Rattle.dimacs.specs.declared.clauses.Row.{Row}
 

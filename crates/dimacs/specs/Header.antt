@@ -7,7 +7,7 @@ use lib.ListN.{getD}
 use Rattle.lexer.specs.Spelling.{bytes}
 use Rattle.lexer.specs.Bytes.{isBlank, isTail, trimmed, same}
 use Rattle.lexer.specs.Pieces.{Piece, partsFrom}
-use Rattle.lexer.specs.Numbers.{Number, numberOf}
+use Rattle.numbers.specs.Numbers.{Number, numberOf}
 
 -- a line whose first byte is `c`
 abbrev pub isRemark : List ℕ → Bool

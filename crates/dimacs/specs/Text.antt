@@ -5,7 +5,7 @@ use mathlib.Core.List.{List, [], _∷_, _++_}
 use lib.Dec.{eqb, ltb, leb}
 use lib.ListN.{length, replicate}
 use Rattle.lexer.specs.Pieces.{Piece, behind, linesFrom, tokensFrom}
-use Rattle.lexer.specs.Numbers.{number, malformed}
+use Rattle.numbers.specs.Numbers.{number, malformed}
 use Rattle.refusals.specs.declared.Refusal.{Refusal}
 use Rattle.refusals.specs.declared.Refusal.the-variants.{Variables, RowCount, Text}
 use Rattle.refusals.specs.declared.Outcome.the-variants.{Taken, Refused}

@@ -1,6 +1,6 @@
 // Clauses, one at a time.
-use lexer::numbers::Number;
 use lexer::pieces::Piece;
+use numbers::Number;
 ghost use mathlib.Core.Path.{_≡_};
 ghost use Prim.Native.Nat.{_≤_, _<_};
 ghost use Rattle.dimacs.specs.Rows.{withLiteral};
@@ -52,7 +52,7 @@ pub(crate) fn read_clause(text: &[u8], at: usize, n: u8) -> Clause
     let mut from = start;
     let mut to = start_end;
     loop {
-        let Number::Value(minus, v) = lexer::numbers::read_number(&text[from..to]) else {
+        let Number::Value(minus, v) = numbers::read_number(&text[from..to]) else {
             return Clause::Unreadable;
         };
         if v == 0 {

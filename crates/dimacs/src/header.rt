@@ -1,13 +1,13 @@
 // The header of a text, and the remarks before it.
 use lexer::kinds::Kind;
-use lexer::numbers::Number;
 use lexer::pieces::Piece;
+use numbers::Number;
 ghost use mathlib.Core.Path.{_≡_};
 ghost use Prim.Native.Nat.{_≤_};
 ghost use lib.ListN.{length};
 ghost use Rattle.lexer.specs.Bytes.{isBlank};
 ghost use Rattle.lexer.specs.Pieces.{linesFrom, partsFrom};
-ghost use Rattle.lexer.specs.Numbers.{numberOf};
+ghost use Rattle.numbers.specs.Numbers.{numberOf};
 ghost use Rattle.dimacs.specs.Header.{pastRemarks, numbers, twoNumbers, headerParts, numbersOf};
 ghost use Rattle.dimacs.specs.Text.{fromHeader};
 ghost use Rattle.dimacs.specs.Answers.{numbersHeld};
@@ -41,10 +41,10 @@ pub(crate) fn find_header(text: &[u8]) -> usize
 fn read_both(n: &[u8], m: &[u8]) -> Numbers
     ensures { λ r. ⌜ r ≡ numbersHeld (numbers (numberOf (now (n .entry))) (numberOf (now (m .entry)))) ⌝ }
 {
-    let Number::Value(s, v) = lexer::numbers::read_number(n) else {
+    let Number::Value(s, v) = numbers::read_number(n) else {
         return Numbers::Malformed;
     };
-    let Number::Value(t, w) = lexer::numbers::read_number(m) else {
+    let Number::Value(t, w) = numbers::read_number(m) else {
         return Numbers::Malformed;
     };
     Numbers::Of(Number::Value(s, v), Number::Value(t, w))
@@ -79,10 +79,10 @@ fn read_parts(line: &[u8]) -> Numbers
     if p != 0 {
         return Numbers::Malformed;
     }
-    if !lexer::kinds::equal(&line[p..p_end], b"p") {
+    if !check::same(&line[p..p_end], b"p") {
         return Numbers::Malformed;
     }
-    if !lexer::kinds::equal(&line[f..f_end], b"cnf") {
+    if !check::same(&line[f..f_end], b"cnf") {
         return Numbers::Malformed;
     }
     read_sizes(line, f_end)

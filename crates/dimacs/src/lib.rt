@@ -5,7 +5,7 @@ mod header;
 use clauses::Clause;
 use header::Numbers;
 use lexer::kinds::Kind;
-use lexer::numbers::Number;
+use numbers::Number;
 use refusals::Outcome;
 use refusals::Refusal;
 ghost use mathlib.Core.Path.{_≡_};

@@ -15,7 +15,7 @@ use Rattle.lexer.specs.Pieces.{Piece, cut, filled, partsFrom}
 use Rattle.lexer.specs.Answers.{firstOf}
 use Rattle.lexer.specs.Places.{runEnd, part}
 use Rattle.lexer.specs.declared.pieces.Piece.the-variants.{At, Nothing}
-use Rattle.lexer.proofs.Cases.{on}
+use Rattle.words.proofs.Truth.{on}
 use Rattle.lexer.proofs.Runs.{end-ge, end-le}
 
 -- where a run has ended, none starts

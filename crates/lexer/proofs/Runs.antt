@@ -1,7 +1,7 @@
--- Runs of bytes and equal texts, a byte at a time from the front.
+-- Runs of bytes, a byte at a time from the front, and equal texts.
 -- Assumes nothing.
-use mathlib.Core.Path.{_≡_, refl, ap, _∙_}
-use mathlib.Core.Bool.{Bool, true, false, cond, _&&_}
+use mathlib.Core.Path.{_≡_, refl, sym, ap, ap₂, _∙_}
+use mathlib.Core.Bool.{Bool, true, false, cond, true≢false, false≢true}
 use mathlib.Core.List.{List, [], _∷_}
 use Prim.Native.Nat.{ℕ, suc, _+_, _≤_, _<_}
 use native.Mathlib.Nat.{add-zero}
@@ -10,7 +10,8 @@ use native.Mathlib.Omega.{arith}
 use lib.Dec.{eqb}
 use lib.ListN.{length, drop, getD, drop-of-length-le, length-drop}
 use lib.Seq.{drop-cons}
-use borrow.Author.Tests.{eq-eqb, ne-eqb}
+use borrow.Author.Tests.{eq-eqb, eqb-true}
+use Rattle.words.proofs.Truth.{on, and-l, and-r}
 use Rattle.lexer.specs.Bytes.{run, same}
 use Rattle.lexer.specs.Places.{runEnd}
 
@@ -48,33 +49,22 @@ end-le p text at h = omega (arith, run-le p (drop at text), length-drop at text)
 
 -- ---- equal texts
 
-pub same-length : (a b : List ℕ) → (length a ≡ length b → ⊥) → same a b ≡ false
+same-self : (a : List ℕ) → same a a ≡ true
 unfolding same
-same-length [] [] h = absurd (h refl)
-same-length [] (y ∷ ys) h = refl
-same-length (x ∷ xs) [] h = refl
-same-length (x ∷ xs) (y ∷ ys) h = go (eqb x y) (same-length xs ys (λ e. h (ap suc e)))
-  where
-    go : (t : Bool) → same xs ys ≡ false → t && same xs ys ≡ false
-    go true e = e
-    go false e = refl
+same-self [] = refl
+same-self (x ∷ xs) = rw (eq-eqb x x refl) (same-self xs)
 
-module _ (a b : List ℕ) (i : ℕ) (long : length a ≡ length b) where
-  pub same-end : length a ≤ i → same (drop i a) (drop i b) ≡ true
-  unfolding same
-  same-end h =
-      let k : length b ≤ i = omega arith in
-      rw (drop-of-length-le a h, drop-of-length-le b k)
+same-true : (a b : List ℕ) → same a b ≡ true → a ≡ b
+unfolding same
+same-true [] [] e = refl
+same-true [] (y ∷ ys) e = absurd (false≢true e)
+same-true (x ∷ xs) [] e = absurd (false≢true e)
+same-true (x ∷ xs) (y ∷ ys) e =
+    ap₂ (λ (b : ℕ) (l : List ℕ). b ∷ l) (eqb-true x y (and-l (eqb x y) (same xs ys) e)) (same-true xs ys (and-r (eqb x y) (same xs ys) e))
 
-  module _ (h : i < length a) where
-    same-step : same (drop i a) (drop i b) ≡ eqb (getD a i 0) (getD b i 0) && same (drop (i + 1) a) (drop (i + 1) b)
-    unfolding same
-    same-step =
-        let k : i < length b = omega arith in
-        rw (add-one, drop-cons a i 0 h, drop-cons b i 0 k)
-
-    pub same-differ : (getD a i 0 ≡ getD b i 0 → ⊥) → same (drop i a) (drop i b) ≡ false
-    same-differ e = same-step ∙ rw (ne-eqb _ _ e)
-
-    pub same-more : getD a i 0 ≡ getD b i 0 → same (drop i a) (drop i b) ≡ same (drop (i + 1) a) (drop (i + 1) b)
-    same-more e = same-step ∙ rw (eq-eqb _ _ e)
+-- a test that holds exactly if the texts are equal
+pub same-is : (r : Bool) (a b : List ℕ) → (r ≡ true → a ≡ b) × (a ≡ b → r ≡ true) → r ≡ same a b
+same-is r a b h =
+    on (same a b)
+    (λ e. h .1 (same-true a b e) ∙ sym e)
+    (λ e. on r (λ t. absurd (true≢false (sym (same-self a) ∙ ap (same a) (h .0 t) ∙ e))) (λ f. f ∙ sym e))

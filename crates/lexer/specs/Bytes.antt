@@ -2,7 +2,7 @@
 use Prim.Native.Nat.{ℕ, suc}
 use mathlib.Core.Bool.{Bool, true, false, _&&_, _||_, cond}
 use mathlib.Core.List.{List, [], _∷_, reverse}
-use lib.Dec.{eqb, leb}
+use lib.Dec.{eqb}
 use lib.ListN.{drop}
 
 -- a space or a tab
@@ -19,9 +19,6 @@ isSeparator b = isTail b || eqb b 10
 
 abbrev pub isLineFeed : ℕ → Bool
 isLineFeed b = eqb b 10
-
-abbrev pub isDigit : ℕ → Bool
-isDigit b = leb 48 b && leb b 57
 
 -- how many bytes in front pass
 unfoldable pub run : (ℕ → Bool) → List ℕ → ℕ

@@ -2,7 +2,7 @@
 ghost use mathlib.Core.Path.{_≡_};
 ghost use mathlib.Core.Bool.{not};
 ghost use lib.ListN.{length};
-ghost use Rattle.lexer.specs.Bytes.{isBlank, isTail, isSeparator, trimmed, same};
+ghost use Rattle.lexer.specs.Bytes.{isBlank, isTail, isSeparator, trimmed};
 ghost use Rattle.lexer.specs.Answers.{passes};
 ghost use Rattle.lexer.specs.Places.{runEnd};
 
@@ -84,21 +84,4 @@ pub fn trim(text: &[u8], kind: Kind) -> usize
         end -= 1;
     }
     end
-}
-
-// Whether two texts are the same bytes.
-pub fn equal(a: &[u8], b: &[u8]) -> bool
-    ensures { λ r. ⌜ r ≡ same (now (a .entry)) (now (b .entry)) ⌝ }
-{
-    if a.len() != b.len() {
-        return false;
-    }
-    let mut i = 0;
-    while i < a.len() {
-        if a[i] != b[i] {
-            return false;
-        }
-        i += 1;
-    }
-    true
 }

@@ -1,40 +1,17 @@
--- Lines and answers of document 01 and what stands just beside them, computed.
+-- Lines of document 01 and what stands just beside them, computed.
 -- Assumes nothing.
 use mathlib.Core.Path.{_≡_, refl}
-use mathlib.Core.List.{List}
 use Prim.Native.Nat.{ℕ, _-_, _^_}
 use Prim.Native.String.{String}
-use Rattle.words.specs.Sets.{bit}
-use Rattle.refusals.specs.declared.Refusal.the-variants.{TextsDiffer, NumberLine}
+use Rattle.refusals.specs.declared.Refusal.the-variants.{NumberLine}
 use Rattle.lexer.specs.Spelling.{bytes}
 use Rattle.lexer.specs.Bytes.{run}
-use Rattle.lexer.specs.Numbers.{digitsAfter}
-use Rattle.text.specs.Decimal.{decimal}
-use Rattle.solver.specs.declared.Verdict.the-variants.{Satisfiable, Unsatisfiable, Unknown}
+use Rattle.numbers.specs.Numbers.{digitsAfter}
 use Rattle.lines.specs.declared.Budget.{Budget}
 use Rattle.lines.specs.declared.Budget.the-variants as budget
 use Rattle.lines.specs.declared.Size.{Size}
 use Rattle.lines.specs.declared.Size.the-variants as size
 use Rattle.lines.specs.Numbers.{fieldOf, budgetOf, sizeOf}
-use Rattle.lines.specs.Answers.{literals, answerText, refusalText}
-
--- ---- answers
-
-example : answerText 2 (record { count = 3; verdict = Satisfiable 2 }) ≡ bytes "c steps 3\ns SATISFIABLE\nv -1 2 0\n"
-unfolding answerText literals decimal bit
-example = refl
-
-no-model : answerText 2 (record { count = 18446744073709551615; verdict = Unsatisfiable }) ≡ bytes "c steps 18446744073709551615\ns UNSATISFIABLE\n"
-unfolding answerText decimal
-no-model = refl
-
-no-step : answerText 1 (record { count = 0; verdict = Unknown }) ≡ bytes "c steps 0\ns UNKNOWN\n"
-unfolding answerText decimal
-no-step = refl
-
-a-refusal : refusalText TextsDiffer ≡ bytes "c refused 6\ns UNKNOWN\n"
-unfolding refusalText decimal
-a-refusal = refl
 
 -- ---- the budget line
 

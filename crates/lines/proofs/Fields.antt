@@ -12,9 +12,9 @@ use lib.ListN.{length, getD, take, drop, length-drop, drop-of-length-le}
 use lib.Seq.{drop-cons}
 use borrow.Author.Tests.{le-ltb, lt-ltb}
 use Rattle.words.proofs.Truth.{on}
-use Rattle.lexer.specs.Bytes.{isDigit, run}
-use Rattle.lexer.specs.Numbers.{digitsAfter}
-use Rattle.lines.specs.declared.numbers.Place.the-variants.{Behind, Malformed}
+use Rattle.lexer.specs.Bytes.{run}
+use Rattle.numbers.specs.Numbers.{isDigit, digitsAfter}
+use Rattle.lines.specs.declared.Place.the-variants.{Behind, Malformed}
 use Rattle.lines.specs.Numbers.{Field, field, malformed, bounded, closed, fieldOf}
 use Rattle.lines.specs.Places.{placeOf, placeAt}
 

@@ -11,12 +11,12 @@ use lib.ListN.{length, take, drop, length-drop, drop-of-length-le}
 use lib.Seq.{drop-drop}
 use borrow.Author.Tests.{ltb-true, ltb-false}
 use Rattle.words.proofs.Truth.{on}
-use Rattle.lexer.specs.Bytes.{isDigit, run}
-use Rattle.lexer.specs.Numbers.{digitsAfter}
+use Rattle.lexer.specs.Bytes.{run}
+use Rattle.numbers.specs.Numbers.{isDigit, digitsAfter}
 use Rattle.refusals.specs.declared.Refusal.the-variants.{NumberLine}
 use Rattle.lines.specs.declared.Budget.the-variants as budget
 use Rattle.lines.specs.declared.Size.the-variants as size
-use Rattle.lines.specs.declared.numbers.Place.the-variants.{Behind, Malformed}
+use Rattle.lines.specs.declared.Place.the-variants.{Behind, Malformed}
 use Rattle.lines.specs.Numbers.{Field, field, malformed, bounded, closed, fieldOf, short, budgetOf, sizeOf}
 use Rattle.lines.specs.Places.{placeOf, placeAt, budgetFrom, firstFrom, secondFrom, thirdFrom}
 

@@ -6,8 +6,8 @@ use mathlib.Core.Option.{Option, none, some}
 use lib.Dec.{eqb, ltb, leb}
 use lib.ListN.{length, take, drop}
 use Rattle.refusals.specs.declared.Refusal.the-variants.{NumberLine}
-use Rattle.lexer.specs.Bytes.{isDigit, run}
-use Rattle.lexer.specs.Numbers.{digitsAfter}
+use Rattle.lexer.specs.Bytes.{run}
+use Rattle.numbers.specs.Numbers.{isDigit, digitsAfter}
 use Rattle.lines.specs.declared.Budget.{Budget}
 use Rattle.lines.specs.declared.Budget.the-variants as budget
 use Rattle.lines.specs.declared.Size.{Size}

@@ -9,8 +9,8 @@ use Rattle.lines.specs.declared.Budget.{Budget}
 use Rattle.lines.specs.declared.Budget.the-variants as budget
 use Rattle.lines.specs.declared.Size.{Size}
 use Rattle.lines.specs.declared.Size.the-variants as size
-use Rattle.lines.specs.declared.numbers.Place.{Place}
-use Rattle.lines.specs.declared.numbers.Place.the-variants.{Behind, Malformed}
+use Rattle.lines.specs.declared.Place.{Place}
+use Rattle.lines.specs.declared.Place.the-variants.{Behind, Malformed}
 
 -- the place of a field's rest in the line
 abbrev pub placeOf : List ℕ → Field → Place

@@ -1,13 +1,15 @@
-// The lines that the programs read and print: the budget line, the dimension line, the answer and a refusal.
-mod answers;
-mod numbers;
-
-pub use answers::answer_text;
-pub use answers::refusal_text;
-pub use answers::refused_line;
-pub use numbers::read_budget;
-pub use numbers::read_size;
+// The lines that the programs read: the budget line and the dimension line.
 use refusals::Refusal;
+ghost use mathlib.Core.Path.{_≡_};
+ghost use mathlib.Core.Bool.{_&&_, cond};
+ghost use Prim.Native.Nat.{_+_, _<_};
+ghost use lib.Dec.{ltb};
+ghost use Rattle.lines.specs.declared.Place.the-variants.{Behind, Malformed};
+ghost use Rattle.lines.specs.Numbers.{budgetOf, sizeOf};
+ghost use Rattle.lines.specs.Places.{placeAt};
+
+// A line's bytes with its LF.
+const LONGEST: usize = 100;
 
 // The budget, or 8.
 pub enum Budget {
@@ -19,4 +21,76 @@ pub enum Budget {
 pub enum Size {
     Of(u64, u64, u64),
     Refused(Refusal),
+}
+
+// A number in a line and the place behind the byte that closes it.
+enum Place {
+    Behind(u64, usize),
+    Malformed,
+}
+
+// A number whose digits end at i, where a byte closes it or spoils it.
+fn closed(value: u64, at: usize, i: usize, closes: bool) -> Place
+    requires { ⌜ i < 18446744073709551615 ⌝ }
+    ensures { λ r. ⌜ r ≡ cond (ltb at i && closes) (Behind value (i + 1)) Malformed ⌝ }
+{
+    if at < i {
+        if closes {
+            return Place::Behind(value, i + 1);
+        }
+    }
+    Place::Malformed
+}
+
+// One or more digits from `at` on, at most 2^64 - 1, closed by a byte.
+fn field(line: &[u8], at: usize, closing: u8) -> Place
+    ensures { λ r. ⌜ r ≡ placeAt (now (line .entry)) at closing ⌝ }
+{
+    let mut value: u64 = 0;
+    let mut i = at;
+    while i < line.len() {
+        let b = line[i];
+        if !numbers::is_digit(b) {
+            return closed(value, at, i, b == closing);
+        }
+        let digit = (b - b'0') as u64;
+        if (18446744073709551615 - digit) / 10 < value {
+            return Place::Malformed;
+        }
+        value = value * 10 + digit;
+        i += 1;
+    }
+    Place::Malformed // no byte closes it
+}
+
+// The budget of a line: digits and LF, at most 100 bytes; bytes after the LF are not looked at.
+pub fn read_budget(input: &[u8]) -> Budget
+    ensures { λ r. ⌜ r ≡ budgetOf (now (input .entry)) ⌝ }
+{
+    let Place::Behind(value, end) = field(input, 0, b'\n') else {
+        return Budget::Refused(Refusal::NumberLine);
+    };
+    if end <= LONGEST {
+        return Budget::Of(value);
+    }
+    Budget::Refused(Refusal::NumberLine)
+}
+
+// The three numbers of a dimension line: single spaces and LF, at most 100 bytes; bytes after the LF are not looked at.
+pub fn read_size(input: &[u8]) -> Size
+    ensures { λ r. ⌜ r ≡ sizeOf (now (input .entry)) ⌝ }
+{
+    let Place::Behind(n, second) = field(input, 0, b' ') else {
+        return Size::Refused(Refusal::NumberLine);
+    };
+    let Place::Behind(left, third) = field(input, second, b' ') else {
+        return Size::Refused(Refusal::NumberLine);
+    };
+    let Place::Behind(right, end) = field(input, third, b'\n') else {
+        return Size::Refused(Refusal::NumberLine);
+    };
+    if end <= LONGEST {
+        return Size::Of(n, left, right);
+    }
+    Size::Refused(Refusal::NumberLine)
 }

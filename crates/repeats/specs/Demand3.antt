@@ -16,7 +16,7 @@ use Rattle.solver.specs.Answers.{verdictOf, answerOf}
 use Rattle.gates.specs.Memory.{gatesOf}
 use Rattle.netlist.specs.Outputs.{closed, CarriesOut}
 use Rattle.bristol.specs.Lines.{circuitText}
-use Rattle.lines.specs.Answers.{answerText}
+use Rattle.answers.specs.Answers.{answerText}
 use Rattle.repeats.specs.Repeats.{Attempt, History, circuitWords, repeats, ended, longOnes}
 
 -- ---- history

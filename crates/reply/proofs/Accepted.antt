@@ -28,7 +28,7 @@ use Rattle.text.specs.declared.Text.{Text}
 use Rattle.text.specs.Texts.{textOf}
 use Rattle.text.proofs.Appending.{text-within}
 use Rattle.lines.specs.Numbers.{budgetOf}
-use Rattle.lines.specs.Answers.{solvedText}
+use Rattle.answers.specs.Answers.{solvedText}
 use Rattle.lines.specs.declared.Budget.the-variants as budget
 use Rattle.reply.specs.Reply.{dimensionsOf, answered, replied, replyText}
 

@@ -8,7 +8,7 @@ use Rattle.words.specs.Sets.{bit, put, any, count, lowest}
 use Rattle.lexer.specs.Spelling.{bytes}
 use Rattle.lexer.specs.Bytes.{run, trimmed, same}
 use Rattle.lexer.specs.Pieces.{cut, filled, partsFrom}
-use Rattle.lexer.specs.Numbers.{digitsAfter, decimalOf, numberOf}
+use Rattle.numbers.specs.Numbers.{digitsAfter, decimalOf, numberOf}
 use Rattle.text.specs.Decimal.{decimal}
 use Rattle.tables.specs.Rows.{padding, satisfied, freeLiterals}
 use Rattle.tables.specs.Acceptance.{allBelow}
@@ -17,7 +17,7 @@ use Rattle.dimacs.specs.Header.{pastRemarks}
 use Rattle.dimacs.specs.Text.{tableOf}
 use Rattle.solver.specs.Answers.{answerOf, solved}
 use Rattle.lines.specs.Numbers.{fieldOf}
-use Rattle.lines.specs.Answers.{literals, answerText, refusalText}
+use Rattle.answers.specs.Answers.{literals, answerText, refusalText}
 use Rattle.reply.specs.Reply.{replyText}
 
 printed : String → String → String → List ℕ

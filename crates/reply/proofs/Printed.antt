@@ -11,11 +11,11 @@ use Rattle.tables.specs.Rows.{rowsOf}
 use Rattle.dimacs.specs.declared.Pair.{Pair}
 use Rattle.solver.specs.declared.Solved.the-variants as solved
 use Rattle.lines.specs.Numbers.{budgetOf}
-use Rattle.lines.specs.Answers.{solvedText}
+use Rattle.answers.specs.Answers.{solvedText}
 use Rattle.lines.specs.declared.Budget.{Budget}
 use Rattle.lines.specs.declared.Budget.the-variants as budget
 use Rattle.lines.proofs.Readings.{budget-below}
-use Rattle.lines.proofs.Injective.{within, run-within, printed-injective}
+use Rattle.answers.proofs.Injective.{within, run-within, printed-injective}
 use Rattle.reply.specs.Reply.{dimensionsOf, answered, replied, replyText}
 use Rattle.reply.proofs.Accepted.{readOf, reply-answers}
 

@@ -10,7 +10,7 @@ use Rattle.solver.specs.Answers.{solved}
 use Rattle.solver.specs.declared.Solved.{Solved}
 use Rattle.solver.specs.declared.Solved.the-variants.{Refused}
 use Rattle.lines.specs.Numbers.{budgetOf}
-use Rattle.lines.specs.Answers.{solvedText}
+use Rattle.answers.specs.Answers.{solvedText}
 use Rattle.lines.specs.declared.Budget.{Budget}
 use Rattle.lines.specs.declared.Budget.the-variants as budget
 

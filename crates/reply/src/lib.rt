@@ -8,7 +8,7 @@ use text::Text;
 ghost use mathlib.Core.Path.{_≡_};
 ghost use Prim.Native.Nat.{min};
 ghost use Rattle.text.specs.Texts.{textOf};
-ghost use Rattle.lines.specs.Answers.{solvedText};
+ghost use Rattle.answers.specs.Answers.{solvedText};
 ghost use Rattle.reply.specs.Reply.{answered, replied, replyText};
 
 // The budgeted run over the tables of a pair, or 8.
@@ -46,8 +46,8 @@ fn print(n: u8, given: Solved) -> Text
     ensures { λ r. ⌜ r ≡ textOf (solvedText (min n 32) given) ⌝ }
 {
     match given {
-        Solved::Of(answer) => lines::answer_text(n, answer),
-        Solved::Refused(refusal) => lines::refusal_text(refusal),
+        Solved::Of(answer) => answers::answer_text(n, answer),
+        Solved::Refused(refusal) => answers::refusal_text(refusal),
     }
 }
 

@@ -6,6 +6,7 @@ use native.Mathlib.Omega.{arith}
 use borrow.Author.Tests.{not-true, not-false}
 use borrow.Author.Needs.{needs}
 use Rattle.lexer.specs.Bytes.{isBlank}
+use Rattle.lexer.proofs.Runs.{same-is}
 use Rattle.lexer.proofs.Cuts.{Found, found, missing}
 use Rattle.dimacs.specs.Answers.{numbersHeld}
 use Rattle.dimacs.proofs.Parts.{no-part, one-part, not-first, not-p, not-cnf, both-names}
@@ -50,45 +51,45 @@ returns-2 c =
 returns-3 : tie.Need-returns-3
 returns-3 c = sym (ap numbersHeld (not-first _ _ _ (p-found (c .before .before .before .before .before .before)) _ _ (f-found (c .before .before)) (c .if1 .taken)))
 
-sub-equal : tie.Need-sub-equal
-sub-equal c = search needs
+sub-same : tie.Need-sub-same
+sub-same c = search needs
 
-part-equal-start : tie.Need-part-equal-start
-part-equal-start c = search needs
+part-same-start : tie.Need-part-same-start
+part-same-start c = search needs
 
-part-equal-end : tie.Need-part-equal-end
-part-equal-end c = p-found (c .before .before .before .before .before .before) .within
+part-same-end : tie.Need-part-same-end
+part-same-end c = p-found (c .before .before .before .before .before .before) .within
 
-slice-aggregate-equal : tie.Need-slice-aggregate-equal
-slice-aggregate-equal c = search needs
+slice-aggregate-same : tie.Need-slice-aggregate-same
+slice-aggregate-same c = search needs
 
-equal-requires : tie.Need-equal-requires
-equal-requires c κs = search needs
+same-requires : tie.Need-same-requires
+same-requires c κs = search needs
 
 returns-4 : tie.Need-returns-4
 returns-4 c =
-    sym (ap numbersHeld (not-p _ _ _ (p-found (c .before .before .before .before .before .before .before .before .before .before)) _ _ (f-found (c .before .before .before .before .before .before)) (c .before .before .before .before .if1 .left) (sym (c .before .equal .ensures) ∙ not-true _ (c .if2 .taken))))
+    sym (ap numbersHeld (not-p _ _ _ (p-found (c .before .before .before .before .before .before .before .before .before .before)) _ _ (f-found (c .before .before .before .before .before .before)) (c .before .before .before .before .if1 .left) (sym (same-is _ _ _ (c .before .same .ensures)) ∙ not-true _ (c .if2 .taken))))
 
-sub-equal-2 : tie.Need-sub-equal-2
-sub-equal-2 c = omega (arith, f-found (c .before .before .before .before .before .before) .filled)
+sub-same-2 : tie.Need-sub-same-2
+sub-same-2 c = omega (arith, f-found (c .before .before .before .before .before .before) .filled)
 
-part-equal-start-2 : tie.Need-part-equal-start-2
-part-equal-start-2 c = omega (arith, f-found (c .before .before .before .before .before .before) .filled)
+part-same-start-2 : tie.Need-part-same-start-2
+part-same-start-2 c = omega (arith, f-found (c .before .before .before .before .before .before) .filled)
 
-part-equal-end-2 : tie.Need-part-equal-end-2
-part-equal-end-2 c = f-found (c .before .before .before .before .before .before) .within
+part-same-end-2 : tie.Need-part-same-end-2
+part-same-end-2 c = f-found (c .before .before .before .before .before .before) .within
 
-slice-aggregate-equal-2 : tie.Need-slice-aggregate-equal-2
-slice-aggregate-equal-2 c = search needs
+slice-aggregate-same-2 : tie.Need-slice-aggregate-same-2
+slice-aggregate-same-2 c = search needs
 
-equal-requires-2 : tie.Need-equal-requires-2
-equal-requires-2 c κs = search needs
+same-requires-2 : tie.Need-same-requires-2
+same-requires-2 c κs = search needs
 
 returns-5 : tie.Need-returns-5
 returns-5 c =
     sym (ap numbersHeld (not-cnf _ _ _ (p-found (c .before .before .before .before .before .before .before .before .before .before .before .before .before .before)) _ _ (f-found (c .before .before .before .before .before .before .before .before .before .before)) (c .before .before .before .before .before .before .before .before .if1 .left)
-    (sym (c .before .before .before .before .before .equal .ensures) ∙ not-false _ (c .before .before .before .before .if2 .left))
-    (sym (c .before .equal2 .ensures) ∙ not-true _ (c .if3 .taken))))
+    (sym (same-is _ _ _ (c .before .before .before .before .before .same .ensures)) ∙ not-false _ (c .before .before .before .before .if2 .left))
+    (sym (same-is _ _ _ (c .before .same2 .ensures)) ∙ not-true _ (c .if3 .taken))))
 
 read-sizes-requires : tie.Need-read-sizes-requires
 read-sizes-requires c κs = search needs
@@ -97,8 +98,8 @@ returns-6 : tie.Need-returns-6
 returns-6 c =
     c .read-sizes .ensures
     ∙ sym (ap numbersHeld (both-names _ _ _ (p-found (c .before .before .before .before .before .before .before .before .before .before .before .before .before .before .before)) _ _ (f-found (c .before .before .before .before .before .before .before .before .before .before .before)) (c .before .before .before .before .before .before .before .before .before .if1 .left)
-    (sym (c .before .before .before .before .before .before .equal .ensures) ∙ not-false _ (c .before .before .before .before .before .if2 .left))
-    (sym (c .before .before .equal2 .ensures) ∙ not-false _ (c .before .if3 .left))))
+    (sym (same-is _ _ _ (c .before .before .before .before .before .before .same .ensures)) ∙ not-false _ (c .before .before .before .before .before .if2 .left))
+    (sym (same-is _ _ _ (c .before .before .same2 .ensures)) ∙ not-false _ (c .before .if3 .left))))
 
 pub read-parts-spec : {M : Type 1} → statement M
 read-parts-spec =
@@ -113,17 +114,17 @@ read-parts-spec =
     enum-told-2
     returns-2
     returns-3
-    sub-equal
-    part-equal-start
-    part-equal-end
-    slice-aggregate-equal
-    equal-requires
+    sub-same
+    part-same-start
+    part-same-end
+    slice-aggregate-same
+    same-requires
     returns-4
-    sub-equal-2
-    part-equal-start-2
-    part-equal-end-2
-    slice-aggregate-equal-2
-    equal-requires-2
+    sub-same-2
+    part-same-start-2
+    part-same-end-2
+    slice-aggregate-same-2
+    same-requires-2
     returns-5
     read-sizes-requires
     returns-6)

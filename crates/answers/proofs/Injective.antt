@@ -1,0 +1,219 @@
+-- Nothing is lost in print: two printed texts of the same n are equal only if count, verdict and model are, or the refusals are.
+-- Digits end at the first byte that is none, so the texts part into the same pieces; literals go one by one.
+-- Assumes nothing.
+use mathlib.Core.Path.{_≡_, refl, sym, ap, ap₂, _∙_, subst}
+use mathlib.Core.Bool.{Bool, true, false, false≢true}
+use mathlib.Core.List.{List, [], _∷_, _++_, append-assoc, append-cancel-left}
+use Prim.Native.Nat.{ℕ, zero, suc, _+_, _^_, _≤_, _<_}
+use native.Mathlib.Nat.{lt-of-le-of-lt}
+use native.Mathlib.Omega.{arith}
+use lib.Dec.{lit<}
+use lib.ListN.{length, getD}
+use Rattle.words.specs.Sets.{bit}
+use Rattle.words.proofs.Operations.{bit-ext}
+use Rattle.words.proofs.Truth.{and-l, and-r}
+use Rattle.refusals.specs.declared.Refusal.{Refusal}
+use Rattle.refusals.specs.declared.Refusal.the-variants as refusal
+use Rattle.refusals.specs.Numbers.{numberOf}
+use Rattle.lexer.specs.Spelling.{bytes}
+use Rattle.text.specs.Decimal.{decimal}
+use Rattle.text.proofs.Decimals.{isDigit, allDigits, decimal-digits, decimal-injective, decimal-some}
+use Rattle.tables.specs.declared.Row.{Row}
+use Rattle.state.specs.State.{State, fresh}
+use Rattle.solver.specs.Answers.{Ran, runFrom, verdictOf, answerOf}
+use Rattle.solver.proofs.RunLaws.{RunOf, run-of}
+use Rattle.solver.proofs.StepLaws.{fresh-formed, after-formed}
+use Rattle.solver.specs.declared.Answer.{Answer}
+use Rattle.solver.specs.declared.Solved.{Solved}
+use Rattle.solver.specs.declared.Solved.the-variants as solved
+use Rattle.state.specs.declared.Standing.{Standing}
+use Rattle.state.specs.declared.Standing.the-variants.{Open, Satisfied, Refuted}
+use Rattle.solver.specs.declared.Verdict.{Verdict}
+use Rattle.solver.specs.declared.Verdict.the-variants.{Satisfiable, Unsatisfiable, Unknown}
+use Rattle.answers.specs.Answers.{literal, literals, verdictText, answerText, refusalText, solvedText}
+
+-- ---- pieces
+
+-- digits up to the LF, and what follows it
+split : (xs ys s t : List ℕ) → allDigits xs ≡ true → allDigits ys ≡ true → xs ++ (10 ∷ s) ≡ ys ++ (10 ∷ t) → (xs ≡ ys) × (s ≡ t)
+split [] [] s t h k e = (refl, cc)
+split [] (y ∷ ys) s t h k e =
+    let lf : y ≡ 10 = cc in
+    absurd (false≢true (sym (ap isDigit lf) ∙ and-l (isDigit y) (allDigits ys) k))
+split (x ∷ xs) [] s t h k e =
+    let lf : x ≡ 10 = cc in
+    absurd (false≢true (sym (ap isDigit lf) ∙ and-l (isDigit x) (allDigits xs) h))
+split (x ∷ xs) (y ∷ ys) s t h k e =
+    let head : x ≡ y = cc in
+    let tail : xs ++ (10 ∷ s) ≡ ys ++ (10 ∷ t) = cc in
+    let parts = split xs ys s t (and-r (isDigit x) (allDigits xs) h) (and-r (isDigit y) (allDigits ys) k) tail in
+    (ap₂ (λ (a : ℕ) (l : List ℕ). a ∷ l) head (parts .0), parts .1)
+
+-- no number starts with a minus
+no-minus : (ds s t : List ℕ) → allDigits ds ≡ true → 1 ≤ length ds → ds ++ s ≡ 45 ∷ t → ⊥
+no-minus [] s t h k e = omega arith
+no-minus (d ∷ ds) s t h k e =
+    let minus : d ≡ 45 = cc in
+    false≢true (sym (ap isDigit minus) ∙ and-l (isDigit d) (allDigits ds) h)
+
+-- ---- literals
+
+one-literal : (v : ℕ) (a b : Bool) (s t : List ℕ) → literal v a ++ s ≡ literal v b ++ t → (a ≡ b) × (s ≡ t)
+one-literal v true true s t e = (refl, append-cancel-left (bytes " " ++ decimal v) s t e)
+one-literal v false false s t e = (refl, append-cancel-left (bytes " -" ++ decimal v) s t e)
+one-literal v true false s t e = absurd (no-minus (decimal v) s (decimal v ++ t) (decimal-digits v) (decimal-some v) cc)
+one-literal v false true s t e = absurd (no-minus (decimal v) t (decimal v ++ s) (decimal-digits v) (decimal-some v) cc)
+
+literals-parts : (k i a b : ℕ) (s t : List ℕ) → literals (suc k) i a ++ s ≡ literals (suc k) i b ++ t
+    → (bit a i ≡ bit b i) × (literals k (suc i) a ++ s ≡ literals k (suc i) b ++ t)
+unfolding literals
+literals-parts k i a b s t e =
+    one-literal (i + 1) (bit a i) (bit b i) (literals k (suc i) a ++ s) (literals k (suc i) b ++ t)
+    (sym (append-assoc (literal (i + 1) (bit a i)) (literals k (suc i) a) s) ∙ e ∙ append-assoc (literal (i + 1) (bit b i)) (literals k (suc i) b) t)
+
+-- the literals of k variables from bit i on give those bits
+literals-bits : (k i a b : ℕ) (s t : List ℕ) → literals k i a ++ s ≡ literals k i b ++ t → (j : ℕ) → j < k → bit a (i + j) ≡ bit b (i + j)
+literals-bits zero i a b s t e j h = absurd (omega arith)
+literals-bits (suc k) i a b s t e zero h = let here : i + 0 ≡ i = omega arith in rw here (literals-parts k i a b s t e .0)
+literals-bits (suc k) i a b s t e (suc j) h =
+    let there : i + suc j ≡ suc i + j = omega arith in
+    rw there (literals-bits k (suc i) a b s t (literals-parts k i a b s t e .1) j (omega arith))
+
+-- ---- verdicts
+
+-- a model is a set of the variables below n
+abbrev pub modelBelow : ℕ → Verdict → Type 0
+modelBelow n (Satisfiable model) = model < 2 ^ n
+modelBelow n Unsatisfiable = Unit
+modelBelow n Unknown = Unit
+
+verdict-injective : (n : ℕ) (a b : Verdict) → modelBelow n a → modelBelow n b → verdictText n a ≡ verdictText n b → a ≡ b
+verdict-injective n (Satisfiable a) (Satisfiable b) ha hb e = ap Satisfiable (bit-ext n a b ha hb bits)
+  where
+    whole : literals n 0 a ++ bytes " 0\n" ≡ literals n 0 b ++ bytes " 0\n"
+    whole = append-cancel-left (bytes "s SATISFIABLE\nv") (literals n 0 a ++ bytes " 0\n") (literals n 0 b ++ bytes " 0\n") (simp append-assoc at e)
+
+    bits : (i : ℕ) → i < n → bit a i ≡ bit b i
+    bits i h = let same : 0 + i ≡ i = omega arith in rw same at (literals-bits n 0 a b (bytes " 0\n") (bytes " 0\n") whole i h)
+verdict-injective n Unsatisfiable Unsatisfiable ha hb e = refl
+verdict-injective n Unknown Unknown ha hb e = refl
+verdict-injective n (Satisfiable a) Unsatisfiable ha hb e = let z : _≡_ {A = ℕ} 83 85 = ap (λ (l : List ℕ). getD l 2 0) e in absurd (omega arith)
+verdict-injective n (Satisfiable a) Unknown ha hb e = let z : _≡_ {A = ℕ} 83 85 = ap (λ (l : List ℕ). getD l 2 0) e in absurd (omega arith)
+verdict-injective n Unsatisfiable (Satisfiable b) ha hb e = let z : _≡_ {A = ℕ} 85 83 = ap (λ (l : List ℕ). getD l 2 0) e in absurd (omega arith)
+verdict-injective n Unknown (Satisfiable b) ha hb e = let z : _≡_ {A = ℕ} 85 83 = ap (λ (l : List ℕ). getD l 2 0) e in absurd (omega arith)
+verdict-injective n Unsatisfiable Unknown ha hb e = let z : _≡_ {A = ℕ} 83 75 = ap (λ (l : List ℕ). getD l 4 0) e in absurd (omega arith)
+verdict-injective n Unknown Unsatisfiable ha hb e = let z : _≡_ {A = ℕ} 75 83 = ap (λ (l : List ℕ). getD l 4 0) e in absurd (omega arith)
+
+-- ---- answers
+
+-- a count of 64 bits, and a model's variables below n
+pub record Within (n : ℕ) (a : Answer) : Type 0 where
+  pub count : a .count < 2 ^ 64
+  pub model : modelBelow n (a .verdict)
+
+answer-spread : (n : ℕ) (a : Answer) → answerText n a ≡ bytes "c steps " ++ (decimal (a .count) ++ (10 ∷ verdictText n (a .verdict)))
+unfolding answerText
+answer-spread n a = simp append-assoc
+
+pub answer-injective : (n : ℕ) (a b : Answer) → Within n a → Within n b → answerText n a ≡ answerText n b → a ≡ b
+answer-injective n a b wa wb e =
+    λ i. record {
+      count = decimal-injective (a .count) (b .count) (wa .count) (wb .count) (parts .0) i;
+      verdict = verdict-injective n (a .verdict) (b .verdict) (wa .model) (wb .model) (parts .1) i;
+    }
+  where
+    parts : (decimal (a .count) ≡ decimal (b .count)) × (verdictText n (a .verdict) ≡ verdictText n (b .verdict))
+    parts =
+        split (decimal (a .count)) (decimal (b .count)) (verdictText n (a .verdict)) (verdictText n (b .verdict)) (decimal-digits (a .count)) (decimal-digits (b .count))
+        (append-cancel-left (bytes "c steps ") (decimal (a .count) ++ (10 ∷ verdictText n (a .verdict))) (decimal (b .count) ++ (10 ∷ verdictText n (b .verdict)))
+        (sym (answer-spread n a) ∙ e ∙ answer-spread n b))
+
+-- every answer of the budgeted run is so
+pub run-within : (n : ℕ) (rows : List Row) (budget : ℕ) → budget < 2 ^ 64 → Within n (answerOf n rows budget)
+unfolding answerOf
+run-within n rows budget h = record { count = lt-of-le-of-lt (ran .most) h; model = go (r .final .standing) }
+  where
+    r : Ran
+    r = runFrom n rows budget fresh
+
+    ran : RunOf n rows budget fresh r
+    ran = run-of n rows budget fresh
+
+    low : r .final .t < 2 ^ n
+    low = subst (λ (s : State). s .t < 2 ^ n) (sym (ran .final-after)) (after-formed n rows (r .steps) fresh (fresh-formed n) .own .low-t)
+
+    go : (s : Standing) → modelBelow n (verdictOf s (r .final .t))
+    go Open = tt
+    go Satisfied = low
+    go Refuted = tt
+
+-- ---- refusals
+
+-- the refusal of a number
+refusalOf : ℕ → Refusal
+refusalOf k =
+    getD (refusal.NoModel ∷ refusal.Variables ∷ refusal.RowCount ∷ refusal.RowBit ∷ refusal.RowBuffer ∷ refusal.Text ∷ refusal.TextsDiffer ∷ refusal.GateBuffer ∷ refusal.NumberLine ∷ refusal.Gates ∷ refusal.Wires ∷ refusal.LineBuffer ∷ refusal.State ∷ refusal.OtherVariables ∷ []) k refusal.NoModel
+
+back : (r : Refusal) → refusalOf (numberOf r) ≡ r
+unfolding refusalOf
+back refusal.Variables = refl
+back refusal.RowCount = refl
+back refusal.RowBit = refl
+back refusal.RowBuffer = refl
+back refusal.Text = refl
+back refusal.TextsDiffer = refl
+back refusal.GateBuffer = refl
+back refusal.NumberLine = refl
+back refusal.Gates = refl
+back refusal.Wires = refl
+back refusal.LineBuffer = refl
+back refusal.State = refl
+back refusal.OtherVariables = refl
+back refusal.NoModel = refl
+
+number-below : (r : Refusal) → numberOf r < 2 ^ 64
+number-below refusal.Variables = lit< tt
+number-below refusal.RowCount = lit< tt
+number-below refusal.RowBit = lit< tt
+number-below refusal.RowBuffer = lit< tt
+number-below refusal.Text = lit< tt
+number-below refusal.TextsDiffer = lit< tt
+number-below refusal.GateBuffer = lit< tt
+number-below refusal.NumberLine = lit< tt
+number-below refusal.Gates = lit< tt
+number-below refusal.Wires = lit< tt
+number-below refusal.LineBuffer = lit< tt
+number-below refusal.State = lit< tt
+number-below refusal.OtherVariables = lit< tt
+number-below refusal.NoModel = lit< tt
+
+refusal-spread : (r : Refusal) → refusalText r ≡ bytes "c refused " ++ (decimal (numberOf r) ++ (10 ∷ bytes "s UNKNOWN\n"))
+unfolding refusalText
+refusal-spread r = simp append-assoc
+
+pub refusal-injective : (q r : Refusal) → refusalText q ≡ refusalText r → q ≡ r
+refusal-injective q r e = sym (back q) ∙ ap refusalOf (decimal-injective (numberOf q) (numberOf r) (number-below q) (number-below r) (parts .0)) ∙ back r
+  where
+    parts : (decimal (numberOf q) ≡ decimal (numberOf r)) × (bytes "s UNKNOWN\n" ≡ bytes "s UNKNOWN\n")
+    parts =
+        split (decimal (numberOf q)) (decimal (numberOf r)) (bytes "s UNKNOWN\n") (bytes "s UNKNOWN\n") (decimal-digits (numberOf q)) (decimal-digits (numberOf r))
+        (append-cancel-left (bytes "c refused ") (decimal (numberOf q) ++ (10 ∷ bytes "s UNKNOWN\n")) (decimal (numberOf r) ++ (10 ∷ bytes "s UNKNOWN\n"))
+        (sym (refusal-spread q) ∙ e ∙ refusal-spread r))
+
+-- the first lines differ
+pub answer-no-refusal : (n : ℕ) (a : Answer) (r : Refusal) → answerText n a ≡ refusalText r → ⊥
+answer-no-refusal n a r e =
+    let z : _≡_ {A = ℕ} 115 114 = ap (λ (l : List ℕ). getD l 2 0) (sym (answer-spread n a) ∙ e ∙ refusal-spread r) in
+    omega arith
+
+-- ---- whatever is printed
+
+abbrev pub within : ℕ → Solved → Type 0
+within n (solved.Of a) = Within n a
+within n (solved.Refused r) = Unit
+
+pub printed-injective : (n : ℕ) (x y : Solved) → within n x → within n y → solvedText n x ≡ solvedText n y → x ≡ y
+printed-injective n (solved.Of a) (solved.Of b) wa wb e = ap solved.Of (answer-injective n a b wa wb e)
+printed-injective n (solved.Refused q) (solved.Refused r) wa wb e = ap solved.Refused (refusal-injective q r e)
+printed-injective n (solved.Of a) (solved.Refused r) wa wb e = absurd (answer-no-refusal n a r e)
+printed-injective n (solved.Refused q) (solved.Of b) wa wb e = absurd (answer-no-refusal n b q (sym e))
