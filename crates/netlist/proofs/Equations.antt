@@ -53,27 +53,27 @@ openOf satisfied refuted = not (satisfied ⊕ refuted)
 abbrev pub doneOf : Bool → Bool → Bool
 doneOf o unsatisfied = o && not unsatisfied
 
-abbrev pub clashOf : Bool → Bool → Bool
-clashOf o conflict = o && conflict
+abbrev pub openConflict : Bool → Bool → Bool
+openConflict o conflict = o && conflict
 
 abbrev pub refuteOf : Bool → Bool → Bool → Bool
-refuteOf o conflict d = clashOf o conflict && d
+refuteOf o conflict d = openConflict o conflict && d
 
 abbrev pub popOf : Bool → Bool → Bool → Bool
-popOf o conflict d = clashOf o conflict ⊕ refuteOf o conflict d
+popOf o conflict d = openConflict o conflict ⊕ refuteOf o conflict d
 
 -- neither done nor a conflict: a literal is made true
-abbrev pub actOf : Bool → Bool → Bool → Bool
-actOf o unsatisfied conflict = (o ⊕ doneOf o unsatisfied) ⊕ clashOf o conflict
+abbrev pub setOf : Bool → Bool → Bool → Bool
+setOf o unsatisfied conflict = (o ⊕ doneOf o unsatisfied) ⊕ openConflict o conflict
 
 abbrev pub forceOf : Bool → Bool → Bool → Bool → Bool
-forceOf o unsatisfied conflict unit = actOf o unsatisfied conflict && unit
+forceOf o unsatisfied conflict unit = setOf o unsatisfied conflict && unit
 
 abbrev pub pushOf : Bool → Bool → Bool → Bool → Bool
-pushOf o unsatisfied conflict unit = actOf o unsatisfied conflict ⊕ forceOf o unsatisfied conflict unit
+pushOf o unsatisfied conflict unit = setOf o unsatisfied conflict ⊕ forceOf o unsatisfied conflict unit
 
 abbrev pub setFOf : Bool → Bool → Bool → Bool → Bool → Bool
 setFOf o unsatisfied conflict unit positive = forceOf o unsatisfied conflict unit && not positive
 
 abbrev pub setTOf : Bool → Bool → Bool → Bool → Bool → Bool
-setTOf o unsatisfied conflict unit positive = actOf o unsatisfied conflict ⊕ setFOf o unsatisfied conflict unit positive
+setTOf o unsatisfied conflict unit positive = setOf o unsatisfied conflict ⊕ setFOf o unsatisfied conflict unit positive

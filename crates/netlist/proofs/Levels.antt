@@ -7,7 +7,7 @@ use Prim.Native.Nat.{ℕ, _≤_}
 use native.Mathlib.Omega.{arith}
 use lib.Dec.{eqb}
 use lib.ListN.{length}
-use borrow.Author.Tests.{eq-eqb, ne-eqb, eqb-true}
+use borrow.Author.Tests.{ne-eqb, eqb-true}
 use Rattle.words.specs.Booleans.{_⊕_}
 use Rattle.words.proofs.Truth.{on, taut1, same, same-eq}
 use Rattle.state.specs.declared.Level.{Level}
@@ -19,10 +19,6 @@ module _ (g : Level → Bool) where
   unfolding onLevel
   level-unused [] k h = refl
   level-unused (l ∷ ls) k h = rw (ne-eqb k (length ls) (λ e. omega arith)) (level-unused ls k (omega arith))
-
-  pub level-last : (l : Level) (ls : List Level) → onLevel g (l ∷ ls) (length ls) ≡ g l
-  unfolding onLevel
-  level-last l ls = rw (eq-eqb (length ls) (length ls) refl)
 
   pub level-added : (l : Level) (ls : List Level) (k : ℕ) → onLevel g ls k ⊕ (eqb k (length ls) && g l) ≡ onLevel g (l ∷ ls) k
   unfolding onLevel

@@ -19,9 +19,10 @@ use Rattle.state.specs.State.{State, isSatisfied}
 use Rattle.wires.specs.Layout.{onLevel, isRefuted}
 use Rattle.wires.specs.Bits.{Bits, bitsIn}
 use Rattle.wires.proofs.Addresses.{Same}
+use Rattle.wires.proofs.StateBack.{level-last}
 use Rattle.netlist.proofs.Interface.{Signals}
 use Rattle.netlist.proofs.Chains.{xor-false, parity, parity-none, parity-at}
-use Rattle.netlist.proofs.Levels.{level-last, level-added, level-removed}
+use Rattle.netlist.proofs.Levels.{level-added, level-removed}
 
 module _ (n : ℕ) (g : Signals) (variable : ℕ → Bool) (s : State) where
   abbrev now : Bits

@@ -39,9 +39,10 @@ lowest-is f n k h e = lowest-cong f (λ i. eqb i k) n e ∙ lowest-one n k h
 
 -- ---- levels
 
-last-level : (g : Level → Bool) (x : Level) (xs : List Level) → onLevel g (x ∷ xs) (length xs) ≡ g x
+-- the last level stands first in the list
+pub level-last : (g : Level → Bool) (x : Level) (xs : List Level) → onLevel g (x ∷ xs) (length xs) ≡ g x
 unfolding onLevel
-last-level g x xs = rw (eq-eqb (length xs) (length xs) refl)
+level-last g x xs = rw (eq-eqb (length xs) (length xs) refl)
 
 older : (g : Level → Bool) (x : Level) (xs : List Level) (l : ℕ) → l < length xs → onLevel g (x ∷ xs) l ≡ onLevel g xs l
 unfolding onLevel
@@ -61,9 +62,9 @@ levels-back n t f b (x ∷ xs) c h =
     let a = h (length xs) (omega arith) in
     ap₂ (λ (y : Level) (ys : List Level). y ∷ ys)
     (λ i. record {
-      t = word-is (b .levelT (length xs)) n (x .t) (o .own .low-t) (λ i k. a .agree-t i k ∙ last-level (λ y. bit (y .t) i) x xs) i;
-      f = word-is (b .levelF (length xs)) n (x .f) (o .own .low-f) (λ i k. a .agree-f i k ∙ last-level (λ y. bit (y .f) i) x xs) i;
-      chosen = lowest-is (b .chosen (length xs)) n (x .chosen) (omega (arith, o .low)) (λ i k. a .agree-v i k ∙ last-level (λ y. eqb i (y .chosen)) x xs) i;
+      t = word-is (b .levelT (length xs)) n (x .t) (o .own .low-t) (λ i k. a .agree-t i k ∙ level-last (λ y. bit (y .t) i) x xs) i;
+      f = word-is (b .levelF (length xs)) n (x .f) (o .own .low-f) (λ i k. a .agree-f i k ∙ level-last (λ y. bit (y .f) i) x xs) i;
+      chosen = lowest-is (b .chosen (length xs)) n (x .chosen) (omega (arith, o .low)) (λ i k. a .agree-v i k ∙ level-last (λ y. eqb i (y .chosen)) x xs) i;
     })
     (levels-back n (x .t) (x .f) b xs (chain-tail n x t f xs c) (λ l j. let a′ = h l (omega arith) in record {
       agree-t = λ i k. a′ .agree-t i k ∙ older (λ y. bit (y .t) i) x xs l j;
