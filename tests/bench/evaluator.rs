@@ -29,7 +29,7 @@ fn proved(gates: &[u32], inputs: &[u8], wires: &mut [u8]) -> u8 {
 /// The values of a kind on two wires: bit 4 × kind + 2a + b.
 const VALUES: u32 = 0b0011_1000_0110;
 
-/// The same as bytes, as the proved evaluator has them.
+/// The same as bytes.
 static TABLE: [u8; 12] = [0, 1, 1, 0, 0, 0, 0, 1, 1, 1, 0, 0];
 
 /// The same passes in Rust, which judges words and bytes too but does not check an index.
@@ -67,7 +67,7 @@ fn by_a_shift(gates: &[u32], inputs: &[u8], wires: &mut [u8]) {
     }
 }
 
-/// The gate loop as the proved evaluator has it, the values looked up in bytes, with nothing judged and no index checked.
+/// The gate loop, the values looked up in bytes as the proved evaluator does, with nothing judged and no index checked.
 fn same_loop(gates: &[u32], inputs: &[u8], wires: &mut [u8]) {
     wires[..inputs.len()].copy_from_slice(inputs);
     for (g, gate) in gates.chunks_exact(3).enumerate() {

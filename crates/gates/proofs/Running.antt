@@ -3,12 +3,12 @@
 use mathlib.Core.Path.{_≡_, refl, ap, ap₂, sym, _∙_}
 use mathlib.Core.Bool.{Bool, true, false, not, _&&_, cond, false≢true}
 use mathlib.Core.List.{List, [], _∷_, _++_, map-append}
-use Prim.Native.Nat.{ℕ, zero, suc, _+_, _*_, _/_, _%_, _^_, _≤_, _<_}
+use Prim.Native.Nat.{ℕ, zero, suc, _+_, _*_, _/_, _%_, _≤_, _<_}
 use native.Mathlib.Numerals.{add-one}
 use native.Mathlib.Omega.{arith}
 use borrow.Author.Tests.{eqb-true, eqb-false}
 use lib.Dec.{eqb}
-use lib.ListN.{length, getD, take, drop, set, length-drop, length-set, length-map, drop-of-length-le, take-append-drop, List·getD-map}
+use lib.ListN.{length, getD, take, drop, set, length-set, length-map, drop-of-length-le, take-append-drop, List·getD-map}
 use lib.Seq.{take-length, take-append-seam, drop-append-add, drop-drop, getD-take, take-suc-set, drop-set-lt, length-take-le}
 use Rattle.words.specs.Booleans.{digit, _⊕_}
 use Rattle.words.specs.Sets.{all}
@@ -16,22 +16,22 @@ use Rattle.words.proofs.Truth.{on}
 use Rattle.words.proofs.Upto.{all-e}
 use Rattle.gates.specs.Gates.{Gate, wire, value, wiresOf}
 use Rattle.gates.specs.Values.{table}
-use Rattle.gates.specs.Memory.{gateOf, gatesOf, drives, accepted, bytesOf, bitsOf, bits}
+use Rattle.gates.specs.Memory.{gateOf, gatesOf, drives, accepted, bytesOf, bitsOf}
 use Rattle.gates.specs.Evaluation.{over}
 use Rattle.gates.proofs.Judging.{drop-three, accepted-at, accepted-uneven, drives-below}
 use Rattle.gates.proofs.Circuits.{wires-length}
-use Rattle.gates.proofs.InMemory.{accepted-length, bytesOf-bitsOf}
+use Rattle.gates.proofs.InMemory.{accepted-length}
 
 bit-digit : (p : Bool) → eqb (digit p) 1 ≡ p
 bit-digit true = refl
 bit-digit false = refl
 
-digit-lt : (p : Bool) → digit p < 2
+pub digit-lt : (p : Bool) → digit p < 2
 digit-lt true = omega arith
 digit-lt false = omega arith
 
 -- a gate's value from the bytes that it reads
-value-read : (w : List Bool) (k a b x y : ℕ) → x ≡ digit (wire w a) → y ≡ digit (wire w b)
+pub value-read : (w : List Bool) (k a b x y : ℕ) → x ≡ digit (wire w a) → y ≡ digit (wire w b)
     → value (bitsOf (x ∷ (y ∷ []))) (gateOf k 0 1) ≡ value w (gateOf k a b)
 value-read w k a b x y ex ey = go k (ap (λ (v : ℕ). eqb v 1) ex ∙ bit-digit (wire w a)) (ap (λ (v : ℕ). eqb v 1) ey ∙ bit-digit (wire w b))
   where
@@ -40,25 +40,20 @@ value-read w k a b x y ex ey = go k (ap (λ (v : ℕ). eqb v 1) ex ∙ bit-digit
     go (suc zero) p q = ap₂ (λ (s t : Bool). s && t) p q
     go (suc (suc k)) p q = ap not p
 
+-- what was computed at all kinds and pairs of bytes holds at each
+pub at-each : (p : ℕ → ℕ → ℕ → Bool) (n : ℕ) → all (λ k. all (λ a. all (λ b. p k a b) n) n) 3 ≡ true
+    → (k a b : ℕ) → k < 3 → a < n → b < n → p k a b ≡ true
+at-each p n e k a b hk ha hb =
+    all-e (λ y. p k a y) n (all-e (λ x. all (λ y. p k x y) n) n (all-e (λ j. all (λ x. all (λ y. p j x y) n) n) 3 e k hk) a ha) b hb
+
 -- entry 2 × (2k + a) + b is the value of a gate of kind k on wires a and b
-abbrev shows : List ℕ → ℕ → ℕ → ℕ → Bool
-shows values k a b = eqb (getD values (2 * (2 * k + a) + b) 0) (digit (value (bitsOf (a ∷ (b ∷ []))) (gateOf k 0 1)))
-
--- the table shows the value of each kind on each pair of wires
-unfoldable right : List ℕ → Bool
-right values = all (λ k. all (λ a. all (λ b. shows values k a b) 2) 2) 3
-
-table-right : right table ≡ true
-unfolding right all
-table-right = refl
+abbrev shows : ℕ → ℕ → ℕ → Bool
+shows k a b = eqb (getD table (2 * (2 * k + a) + b) 0) (digit (value (bitsOf (a ∷ (b ∷ []))) (gateOf k 0 1)))
 
 pub table-at : (k a b : ℕ) → k < 3 → a < 2 → b < 2
     → getD table (2 * (2 * k + a) + b) 0 ≡ digit (value (bitsOf (a ∷ (b ∷ []))) (gateOf k 0 1))
-unfolding right
-table-at k a b hk ha hb =
-    eqb-true _ _
-    (all-e (λ y. shows table k a y) 2
-    (all-e (λ x. all (λ y. shows table k x y) 2) 2 (all-e (λ j. all (λ x. all (λ y. shows table j x y) 2) 2) 3 table-right k hk) a ha) b hb)
+unfolding all
+table-at k a b hk ha hb = eqb-true _ _ (at-each shows 2 refl k a b hk ha hb)
 
 -- the gate of the three words at i, and the rest
 wires-at : (g : List ℕ) (i : ℕ) → i + 3 ≤ length g → (w : List Bool)
@@ -67,23 +62,23 @@ wires-at : (g : List ℕ) (i : ℕ) → i + 3 ≤ length g → (w : List Bool)
 unfolding wiresOf gatesOf
 wires-at g i h w = ap (λ (l : List ℕ). wiresOf w (gatesOf l)) (drop-three g i h)
 
--- what the evaluator's loops keep, at word i and wire m: the values so far stand at the front, and with the gates that are left they give all;
--- the gates that are left are judged as all are
-pub record Run (g w₀ : List ℕ) (n : ℕ) (w : List ℕ) (i m : ℕ) : Type 0 where
+-- what the evaluator's loops keep, at word i and wire m: the values so far stand at the front, in the loop's form of bytes, and with the gates that
+-- are left they give all that s gives; the gates that are left are judged as all are
+pub record Run (form : List Bool → List ℕ) (s : List Bool) (g w₀ : List ℕ) (n : ℕ) (w : List ℕ) (i m : ℕ) : Type 0 where
   pub judged : accepted m (drop i g) ≡ accepted n g
   pub values : List Bool
-  pub front : take m w ≡ bytesOf values
-  pub same : wiresOf values (gatesOf (drop i g)) ≡ wiresOf (bitsOf (take n w₀)) (gatesOf g)
+  pub front : take m w ≡ form values
+  pub same : wiresOf values (gatesOf (drop i g)) ≡ wiresOf s (gatesOf g)
   pub rest : drop m w ≡ drop m w₀
   pub size : length w ≡ length w₀
   pub step : 3 * m ≡ 3 * n + i
   pub upto : i ≤ length g
 
-pub start : (g w : List ℕ) (n : ℕ) → bits (take n w) ≡ true → Run g w n w 0 n
-start g w n b = record {
+pub start : {form : List Bool → List ℕ} {s : List Bool} {g w : List ℕ} {n : ℕ} → take n w ≡ form s → Run form s g w n w 0 n
+start {s = s} e = record {
   judged = refl;
-  values = bitsOf (take n w);
-  front = sym (bytesOf-bitsOf (take n w) b);
+  values = s;
+  front = e;
   same = refl;
   rest = refl;
   size = refl;
@@ -91,7 +86,8 @@ start g w n b = record {
   upto = omega arith;
 }
 
-module _ (g w₀ : List ℕ) (n : ℕ) (w : List ℕ) (i m : ℕ) (r : Run g w₀ n w i m) (room : n + length g / 3 ≤ length w₀) where
+module _ {form : List Bool → List ℕ} {s : List Bool} {g w₀ : List ℕ} {n : ℕ} {w : List ℕ} {i m : ℕ} (r : Run form s g w₀ n w i m)
+    (room : n + length g / 3 ≤ length w₀) where
   pub whole : m < n + length g / 3 → i + 3 ≤ length g
   whole h = omega (arith, r .step)
 
@@ -101,39 +97,40 @@ module _ (g w₀ : List ℕ) (n : ℕ) (w : List ℕ) (i m : ℕ) (r : Run g w�
   pub fits-next : m < n + length g / 3 → m < length w
   fits-next h = omega (arith, r .size)
 
+  pub read-front : (a : ℕ) → a < m → getD w a 0 ≡ getD (form (r .values)) a 0
+  read-front a h = sym (getD-take m w a 0 h) ∙ ap (λ (l : List ℕ). getD l a 0) (r .front)
+
+  pub front-length : m ≡ length (form (r .values))
+  front-length = sym (length-take-le m w fits) ∙ ap length (r .front)
+
   -- what the whole comes to, by the gate at i and by what is left behind it
   pub judged-at : m < n + length g / 3
       → accepted n g ≡ drives m (getD g i 0) (getD g (i + 1) 0) (getD g (i + 2) 0) && accepted (m + 1) (drop (i + 3) g)
   judged-at h = sym (r .judged) ∙ accepted-at g i (whole h) m
+
+  -- a gate that may not drive its wire makes the whole refused
+  pub refused : m < n + length g / 3 → drives m (getD g i 0) (getD g (i + 1) 0) (getD g (i + 2) 0) ≡ false → false ≡ accepted n g
+  refused h d = sym (judged-at h ∙ ap (λ (t : Bool). t && accepted (m + 1) (drop (i + 3) g)) d)
 
   -- whole gates that all ran were accepted
   pub all-good : length g ≤ i → accepted n g ≡ true
   unfolding accepted
   all-good h = sym (r .judged) ∙ ap (λ (l : List ℕ). accepted m l) (drop-of-length-le g h)
 
-  read : (a : ℕ) → a < m → getD w a 0 ≡ digit (wire (r .values) a)
-  read a h = sym (getD-take m w a 0 h) ∙ ap (λ (l : List ℕ). getD l a 0) (r .front) ∙ List·getD-map digit (r .values) a false
-
-  pub read-bit : (a : ℕ) → a < m → getD w a 0 < 2
-  read-bit a h = omega (arith, read a h, digit-lt (wire (r .values) a))
-
-  -- a gate that may drive its wire, and its value at that wire
-  pub again : (v : ℕ) → m < n + length g / 3 → drives m (getD g i 0) (getD g (i + 1) 0) (getD g (i + 2) 0) ≡ true
-      → v ≡ digit (value (bitsOf (getD w (getD g (i + 1) 0) 0 ∷ (getD w (getD g (i + 2) 0) 0 ∷ []))) (gateOf (getD g i 0) 0 1))
-      → Run g w₀ n (set w m v) (i + 3) (m + 1)
-  again v h d e =
-      let k = getD g i 0 in
+  -- a gate that may drive its wire, and the byte of its value at that wire
+  pub next : (v : ℕ) → m < n + length g / 3
+      → let k = getD g i 0 in
       let a = getD g (i + 1) 0 in
       let b = getD g (i + 2) 0 in
-      let below = drives-below m k a b d in
-      let u : Bool = value (r .values) (gateOf k a b) in
-      let e′ : v ≡ digit u = e ∙ ap digit (value-read (r .values) k a b _ _ (read a (below .1)) (read b (below .2))) in
+      drives m k a b ≡ true → form (r .values ++ (value (r .values) (gateOf k a b) ∷ [])) ≡ form (r .values) ++ (v ∷ [])
+      → Run form s g w₀ n (set w m v) (i + 3) (m + 1)
+  next v h d e =
       record {
         judged = sym (judged-at h ∙ ap (λ (t : Bool). t && accepted (m + 1) (drop (i + 3) g)) d);
-        values = r .values ++ (u ∷ []);
+        values = r .values ++ (value (r .values) (gateOf (getD g i 0) (getD g (i + 1) 0) (getD g (i + 2) 0)) ∷ []);
         front =
             ap (λ (j : ℕ). take j (set w m v)) (add-one m) ∙ take-suc-set w m v (fits-next h)
-            ∙ ap₂ (λ (l : List ℕ) (x : ℕ). l ++ (x ∷ [])) (r .front) e′ ∙ sym (map-append digit (r .values) (u ∷ []));
+            ∙ ap (λ (l : List ℕ). l ++ (v ∷ [])) (r .front) ∙ sym e;
         same = sym (wires-at g i (whole h) (r .values)) ∙ r .same;
         rest =
             drop-set-lt (m + 1) w m v (omega arith)
@@ -143,27 +140,50 @@ module _ (g w₀ : List ℕ) (n : ℕ) (w : List ℕ) (i m : ℕ) (r : Run g w�
         upto = whole h;
       }
 
-  pub done : length g ≤ i → w ≡ over (bytesOf (wiresOf (bitsOf (take n w₀)) (gatesOf g))) w₀
+  pub done : length g ≤ i → w ≡ over (form (wiresOf s (gatesOf g))) w₀
   unfolding wiresOf gatesOf
   done h =
-      let e : r .values ≡ wiresOf (bitsOf (take n w₀)) (gatesOf g) =
+      let e : r .values ≡ wiresOf s (gatesOf g) =
       sym (ap (λ (l : List ℕ). wiresOf (r .values) (gatesOf l)) (drop-of-length-le g h)) ∙ r .same in
-      let q : m ≡ length (bytesOf (r .values)) = sym (length-take-le m w fits) ∙ ap length (r .front) in
       sym (take-append-drop m w)
-      ∙ ap₂ (λ (x y : List ℕ). x ++ y) (r .front) (r .rest ∙ ap (λ (k : ℕ). drop k w₀) q)
-      ∙ ap (λ (l : List Bool). over (bytesOf l) w₀) e
+      ∙ ap₂ (λ (x y : List ℕ). x ++ y) (r .front) (r .rest ∙ ap (λ (k : ℕ). drop k w₀) front-length)
+      ∙ ap (λ (l : List Bool). over (form l) w₀) e
 
   -- all gates of accepted words ran
-  pub filled-good : accepted n g ≡ true → n + length g / 3 ≤ m → w ≡ over (bytesOf (wiresOf (bitsOf (take n w₀)) (gatesOf g))) w₀
+  pub filled-good : accepted n g ≡ true → n + length g / 3 ≤ m → w ≡ over (form (wiresOf s (gatesOf g))) w₀
   filled-good e h = done (omega (arith, r .step, accepted-length n g e))
 
   -- all gates ran: the words were accepted where they are whole gates, and then the buffer is filled
   pub ended : n + length g / 3 ≤ m
-      → let F = over (bytesOf (wiresOf (bitsOf (take n w₀)) (gatesOf g))) w₀ in
+      → let F = over (form (wiresOf s (gatesOf g))) w₀ in
       (eqb (length g % 3) 0 ≡ accepted n g) × (cond (eqb (length g % 3) 0) w [] ≡ cond (eqb (length g % 3) 0) F [])
   ended h = on (eqb (length g % 3) 0)
       (λ t. let q : length g ≤ i = omega (arith, r .step, eqb-true (length g % 3) 0 t) in rw t (sym (all-good q), done q))
       (λ t. rw t (sym (accepted-uneven n g (eqb-false (length g % 3) 0 t)), refl))
+
+-- bytes as they are
+module _ {s : List Bool} {g w₀ : List ℕ} {n : ℕ} {w : List ℕ} {i m : ℕ} (r : Run bytesOf s g w₀ n w i m) (room : n + length g / 3 ≤ length w₀) where
+  read : (a : ℕ) → a < m → getD w a 0 ≡ digit (wire (r .values) a)
+  read a h = read-front r room a h ∙ List·getD-map digit (r .values) a false
+
+  pub read-bit : (a : ℕ) → a < m → getD w a 0 < 2
+  read-bit a h = omega (arith, read a h, digit-lt (wire (r .values) a))
+
+  pub again : (v : ℕ) → m < n + length g / 3 → drives m (getD g i 0) (getD g (i + 1) 0) (getD g (i + 2) 0) ≡ true
+      → v ≡ digit (value (bitsOf (getD w (getD g (i + 1) 0) 0 ∷ (getD w (getD g (i + 2) 0) 0 ∷ []))) (gateOf (getD g i 0) 0 1))
+      → Run bytesOf s g w₀ n (set w m v) (i + 3) (m + 1)
+  again v h d e =
+      let k = getD g i 0 in
+      let a = getD g (i + 1) 0 in
+      let b = getD g (i + 2) 0 in
+      let below = drives-below m k a b d in
+      let u : Bool = value (r .values) (gateOf k a b) in
+      let e′ : v ≡ digit u = e ∙ ap digit (value-read (r .values) k a b _ _ (read a (below .1)) (read b (below .2))) in
+      next r room v h d (map-append digit (r .values) (u ∷ []) ∙ ap (λ (x : ℕ). bytesOf (r .values) ++ (x ∷ [])) (sym e′))
+
+-- a value for each input and each gate
+pub values-length : (s : List ℕ) (gs : List Gate) → length (wiresOf (bitsOf s) gs) ≡ length s + length gs
+values-length s gs = wires-length (bitsOf s) gs ∙ ap (λ (k : ℕ). k + length gs) (length-map s (λ x. eqb x 1))
 
 -- a buffer to whose front the inputs were copied
 module _ (s w w₁ : List ℕ) (e : w₁ ≡ take (length s) s ++ drop (length s) w) where
@@ -173,17 +193,12 @@ module _ (s w w₁ : List ℕ) (e : w₁ ≡ take (length s) s ++ drop (length s
   pub copied : take (length s) w₁ ≡ s
   copied = ap (λ (l : List ℕ). take (length s) l) inputs-first ∙ take-append-seam s (drop (length s) w)
 
-  -- a byte for each input and each gate
-  filled-length : (gs : List Gate) → length (bytesOf (wiresOf (bitsOf s) gs)) ≡ length s + length gs
-  filled-length gs =
-      length-map (wiresOf (bitsOf s) gs) digit ∙ wires-length (bitsOf s) gs ∙ ap (λ (k : ℕ). k + length gs) (length-map s (λ x. eqb x 1))
-
   -- what the gates' values are written over is what stood there before
   pub written : (gs : List Gate) (w₂ : List ℕ) → w₂ ≡ over (bytesOf (wiresOf (bitsOf (take (length s) w₁)) gs)) w₁
       → w₂ ≡ over (bytesOf (wiresOf (bitsOf s) gs)) w
   written gs w₂ f =
       let F = bytesOf (wiresOf (bitsOf s) gs) in
-      let q : length F ≡ length s + length gs = filled-length gs in
+      let q : length F ≡ length s + length gs = length-map (wiresOf (bitsOf s) gs) digit ∙ values-length s gs in
       f
       ∙ ap (λ (l : List ℕ). over (bytesOf (wiresOf (bitsOf l) gs)) w₁) copied
       ∙ ap (λ (l : List ℕ). F ++ l)
@@ -191,22 +206,6 @@ module _ (s w w₁ : List ℕ) (e : w₁ ≡ take (length s) s ++ drop (length s
       ∙ drop-append-add s (drop (length s) w) (length gs)
       ∙ drop-drop (length gs) (length s) w
       ∙ ap (λ (k : ℕ). drop k w) (sym q))
-
-  -- what a trial filled, its front copied elsewhere
-  pub copied-out : (g : List ℕ) → accepted (length s) g ≡ true → (v : List ℕ)
-      → v ≡ over (bytesOf (wiresOf (bitsOf (take (length s) w₁)) (gatesOf g))) w₁
-      → (x w₂ : List ℕ) → (let t = take (length s + length g / 3) v in w₂ ≡ take (length t) t ++ drop (length t) x)
-      → w₂ ≡ over (bytesOf (wiresOf (bitsOf s) (gatesOf g))) x
-  copied-out g a v h x w₂ f =
-      let F = bytesOf (wiresOf (bitsOf s) (gatesOf g)) in
-      let q : length s + length g / 3 ≡ length F = omega (arith, accepted-length (length s) g a, filled-length (gatesOf g)) in
-      let t : take (length s + length g / 3) v ≡ F =
-      ap (λ (k : ℕ). take k v) q
-      ∙ ap (λ (l : List ℕ). take (length F) l) (h ∙ ap (λ (l : List ℕ). over (bytesOf (wiresOf (bitsOf l) (gatesOf g))) w₁) copied)
-      ∙ take-append-seam F (drop (length F) w₁) in
-      f
-      ∙ ap (λ (l : List ℕ). take (length l) l ++ drop (length l) x) t
-      ∙ ap (λ (l : List ℕ). l ++ drop (length F) x) (take-length F)
 
 -- a list that is given only where the test holds
 pub given-so : (t : Bool) (x y : List ℕ) → t ≡ true → cond t x [] ≡ cond t y [] → x ≡ y

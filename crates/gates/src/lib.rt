@@ -1,4 +1,6 @@
 // Gates in memory and the evaluator of circuits (document 01, "Circuit"). Turned back: 9, then 10.
+mod values;
+
 ghost use mathlib.Core.Path.{_≡_};
 ghost use mathlib.Core.Bool.{true, cond};
 ghost use mathlib.Core.List.{[], _∷_};
@@ -9,7 +11,7 @@ ghost use Rattle.words.specs.Booleans.{digit};
 ghost use Rattle.gates.specs.Gates.{value, wiresOf};
 ghost use Rattle.gates.specs.Memory as Memory;
 ghost use Rattle.gates.specs.Evaluation.{checks, filled, over};
-ghost use Rattle.gates.specs.Values.{table};
+ghost use Rattle.gates.specs.Values.{table, held, plain};
 use refusals::Outcome;
 use refusals::Refusal;
 
@@ -48,7 +50,7 @@ fn try_out(gates: &[u32], inputs: &[u8], wires: &mut [u8]) -> Outcome
     try_in(gates, inputs, &mut own, wires)
 }
 
-// Evaluates in a scratch buffer, judging each gate in passing, then copies: the gates are read once.
+// Evaluates in a scratch buffer, judging each gate in passing, then gives the wires out: the gates are read once.
 fn try_in(gates: &[u32], inputs: &[u8], scratch: &mut [u8], wires: &mut [u8]) -> Outcome
     requires { ⌜ length (now inputs) + length (now gates) / 3 ≤ length (now scratch) ⌝ }
     requires { ⌜ Memory.bits (now inputs) ≡ true ⌝ }
@@ -57,14 +59,14 @@ fn try_in(gates: &[u32], inputs: &[u8], scratch: &mut [u8], wires: &mut [u8]) ->
 {
     let n = inputs.len();
     let count = n + gates.len() / 3;
-    bytes::copy(inputs, scratch);
-    if !trial(gates, scratch, n) {
+    load_inputs(inputs, scratch);
+    if !trial(gates, inputs, scratch) {
         return Outcome::Refused(Refusal::Gates);
     }
     if wires.len() < count {
         return Outcome::Refused(Refusal::Wires);
     }
-    bytes::copy(&scratch[..count], wires);
+    store_wires(scratch, wires, count);
     Outcome::Taken
 }
 
@@ -146,10 +148,7 @@ fn bits(bytes: &[u8]) -> bool
     true
 }
 
-// The values of XOR, AND and INV: four each, on wires 00, 01, 10 and 11.
-const VALUES: [u8; 12] = [0, 1, 1, 0, 0, 0, 0, 1, 1, 1, 0, 0];
-
-// The value of a gate of this kind on two wires. It is looked up: jumps on the kind would be mispredicted.
+// The value of a gate of this kind on two wires.
 fn gate_value(values: &[u8; 12], kind: u32, a: u8, b: u8) -> u8
     requires { ⌜ now values ≡ table ⌝ }
     requires { ⌜ kind < 3 ⌝ }
@@ -160,26 +159,63 @@ fn gate_value(values: &[u8; 12], kind: u32, a: u8, b: u8) -> u8
     values[at]
 }
 
-// Whether the words are gates behind the first n wires; if so, runs them.
-fn trial(gates: &[u32], wires: &mut [u8], n: usize) -> bool
-    requires { ⌜ n + length (now gates) / 3 ≤ length (now wires) ⌝ }
-    requires { ⌜ Memory.bits (take n (now wires)) ≡ true ⌝ }
-    ensures { λ r. ⌜ r ≡ Memory.accepted n (now (gates .entry)) ⌝ }
-    ensures { λ r. ⌜ cond r (now (wires .exit)) [] ≡ cond r (over (Memory.bytesOf (wiresOf (Memory.bitsOf (take n (now (wires .entry)))) (Memory.gatesOf (now (gates .entry))))) (now (wires .entry))) [] ⌝ }
+// Loads the inputs as the trial holds them: 2 more than the byte, and wire 0 as it is.
+fn load_inputs(inputs: &[u8], scratch: &mut [u8])
+    requires { ⌜ length (now inputs) ≤ length (now scratch) ⌝ }
+    requires { ⌜ Memory.bits (now inputs) ≡ true ⌝ }
+    ensures { λ _. ⌜ now (scratch .exit) ≡ over (held (Memory.bitsOf (now (inputs .entry)))) (now (scratch .entry)) ⌝ }
 {
-    let values = VALUES;
-    let stop = n + gates.len() / 3;
+    if inputs.len() == 0 {
+        return;
+    }
+    scratch[0] = inputs[0];
+    let mut i = 1;
+    while i < inputs.len() {
+        scratch[i] = inputs[i] + 2;
+        i += 1;
+    }
+}
+
+// Stores so many wires' values: the held bytes without their 2.
+fn store_wires(scratch: &[u8], wires: &mut [u8], count: usize)
+    requires { ⌜ count ≤ length (now scratch) ⌝ }
+    requires { ⌜ count ≤ length (now wires) ⌝ }
+    ensures { λ _. ⌜ now (wires .exit) ≡ over (plain (take count (now (scratch .entry)))) (now (wires .entry)) ⌝ }
+{
     let mut i = 0;
-    let mut m = n;
+    while i < count {
+        wires[i] = scratch[i] % 2;
+        i += 1;
+    }
+}
+
+// Whether the words are gates behind the inputs, which are loaded; if so, runs them.
+fn trial(gates: &[u32], inputs: &[u8], scratch: &mut [u8]) -> bool
+    requires { ⌜ length (now inputs) + length (now gates) / 3 ≤ length (now scratch) ⌝ }
+    requires { ⌜ take (length (now inputs)) (now scratch) ≡ held (Memory.bitsOf (now inputs)) ⌝ }
+    ensures { λ r. ⌜ r ≡ Memory.accepted (length (now (inputs .entry))) (now (gates .entry)) ⌝ }
+    ensures { λ r. ⌜ cond r (now (scratch .exit)) [] ≡ cond r (over (held (wiresOf (Memory.bitsOf (now (inputs .entry))) (Memory.gatesOf (now (gates .entry))))) (now (scratch .entry))) [] ⌝ }
+{
+    let values = values::HELD;
+    let stop = inputs.len() + gates.len() / 3;
+    let mut i = 0;
+    let mut m = inputs.len();
     while m < stop {
-        let kind = gates[i];
-        let a = gates[i + 1];
-        let b = gates[i + 2];
-        if !drives(kind, a, b, m) {
+        let kind = gates[i] as usize;
+        let a = gates[i + 1] as usize;
+        let b = gates[i + 2] as usize;
+        if m <= a {
             return false;
         }
-        let v = gate_value(&values, kind, wires[wide(a)], wires[wide(b)]);
-        wires[m] = v;
+        if m <= b {
+            return false;
+        }
+        // A known kind, and wire 0 behind INV: only it is held below 2. One test for both spares a jump.
+        let u = 4 * kind + (scratch[b] as usize);
+        if 10 <= u {
+            return false;
+        }
+        scratch[m] = values[4 * u + (scratch[a] as usize)];
         i += 3;
         m += 1;
     }
@@ -193,7 +229,7 @@ fn run(gates: &[u32], wires: &mut [u8], n: usize)
     requires { ⌜ Memory.bits (take n (now wires)) ≡ true ⌝ }
     ensures { λ _. ⌜ now (wires .exit) ≡ over (Memory.bytesOf (wiresOf (Memory.bitsOf (take n (now (wires .entry)))) (Memory.gatesOf (now (gates .entry))))) (now (wires .entry)) ⌝ }
 {
-    let values = VALUES;
+    let values = values::PLAIN;
     let end = n + gates.len() / 3;
     let mut i = 0;
     let mut m = n;

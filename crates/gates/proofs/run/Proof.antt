@@ -5,16 +5,17 @@ use mathlib.Core.Path.{_≡_, refl, sym, _∙_}
 use mathlib.Core.Bool.{true}
 use Prim.Native.Nat.{ℕ, _≤_, _<_, _-_, _+_}
 use native.Mathlib.Omega.{arith}
-use lib.ListN.{length, getD}
+use lib.ListN.{length, getD, take}
 use Rattle.words.proofs.Truth.{and-l}
-use Rattle.gates.specs.Memory.{drives}
+use Rattle.gates.specs.Memory.{drives, bytesOf, bitsOf}
 use Rattle.gates.proofs.Judging.{drives-below}
+use Rattle.gates.proofs.InMemory.{bytesOf-bitsOf}
 use Rattle.gates.proofs.Running.{Run, start, whole, fits-next, judged-at, read-bit, again, filled-good}
 use Rattle.gates.proofs.run.Statement.{statement}
 use Rattle.gates.proofs.run.Tie as tie
 
 abbrev Inv-loop : tie.InvT-loop
-Inv-loop gates wires₀ n values end i₀ m₀ wires i m = Run gates wires₀ n wires i m
+Inv-loop gates wires₀ n values end i₀ m₀ wires i m = Run bytesOf (bitsOf (take n wires₀)) gates wires₀ n wires i m
 
 abbrev μ-loop : tie.MeasureT-loop
 μ-loop gates wires₀ n values end i₀ m₀ wires i m = end - m
@@ -26,7 +27,7 @@ drove : (c : tie.In-loop Inv-loop μ-loop)
     drives (l .m) (getD g (l .i) 0) (getD g (l .i + 1) 0) (getD g (l .i + 2) 0) ≡ true
 drove c =
     let p = c .before .before .before .before .pre in
-    and-l _ _ (sym (judged-at _ _ _ _ _ _ (c .before .loop .inv) (p .1 .0) (omega arith)) ∙ p .0)
+    and-l _ _ (sym (judged-at (c .before .loop .inv) (p .1 .0) (omega arith)) ∙ p .0)
 
 -- what is known of the gate of a turn
 turn : (c : tie.In-loop Inv-loop μ-loop)
@@ -39,19 +40,19 @@ turn c =
     let g = s .args .gates .now in
     let l = c .before .loop in
     let b = drives-below (l .m) (getD g (l .i) 0) (getD g (l .i + 1) 0) (getD g (l .i + 2) 0) (drove c) in (
-      whole _ _ _ _ _ _ (l .inv) (s .pre .1 .0) (omega arith),
+      whole (l .inv) (s .pre .1 .0) (omega arith),
       b .0,
       b .1,
       b .2,
-      fits-next _ _ _ _ _ _ (l .inv) (s .pre .1 .0) (omega arith),
-      read-bit _ _ _ _ _ _ (l .inv) (s .pre .1 .0),
+      fits-next (l .inv) (s .pre .1 .0) (omega arith),
+      read-bit (l .inv) (s .pre .1 .0),
     )
 
 add-end : tie.Need-add-end Inv-loop μ-loop
 add-end c = search needs
 
 loop-holds : tie.Need-loop-holds Inv-loop μ-loop
-loop-holds c = start _ _ _ (c .before .before .pre .1 .1)
+loop-holds c = start (sym (bytesOf-bitsOf _ (c .before .before .pre .1 .1)))
 
 mul-kind : tie.Need-mul-kind Inv-loop μ-loop
 mul-kind c = search needs
@@ -112,7 +113,7 @@ loop-again : tie.Need-loop-again Inv-loop μ-loop
 loop-again c =
     let h = c .before .before .before .before .before .before .before .before .before in
     let l = h .before in
-    again _ _ _ _ _ _ (l .loop .inv) (l .before .before .before .pre .1 .0) (c .gate-value .result) (omega (arith, h .loop-test .taken)) (drove h)
+    again (l .loop .inv) (l .before .before .before .pre .1 .0) (c .gate-value .result) (omega (arith, h .loop-test .taken)) (drove h)
     (rw (← (c .before .before .before .before .wide2 .ensures), ← (c .before .before .before .before .before .before .wide .ensures)) (c .gate-value .ensures))
 
 same-length : tie.Need-same-length Inv-loop μ-loop
@@ -122,7 +123,7 @@ returns : tie.Need-returns Inv-loop μ-loop
 returns c =
     let l = c .before in
     let p = l .before .before .before .pre in
-    filled-good _ _ _ _ _ _ (l .loop .inv) (p .1 .0) (p .0) (omega (arith, c .loop-test .left))
+    filled-good (l .loop .inv) (p .1 .0) (p .0) (omega (arith, c .loop-test .left))
 
 pub run-spec : {M : Type 1} → statement M
 run-spec =

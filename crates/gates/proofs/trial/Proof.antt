@@ -1,71 +1,53 @@
--- `trial` meets its contract: `Run` holds at each turn; a gate that may not drive its wire makes the whole refused, and at the end the buffer is filled.
+-- `trial` meets its contract: `Run` holds at each turn, in the trial's form of bytes; a gate that may not drive its wire makes the whole refused, and at
+-- the end the buffer is filled.
 -- Assumes nothing.
 use borrow.Author.Needs.{needs}
-use mathlib.Core.Path.{_≡_, refl, sym, _∙_, ap}
-use mathlib.Core.Bool.{Bool, true, false, _&&_, cond}
-use mathlib.Core.List.{List, []}
-use Prim.Native.Nat.{ℕ, _≤_, _<_, _-_, _+_}
+use mathlib.Core.Path.{refl, sym, _∙_}
+use Prim.Native.Nat.{ℕ, _≤_, _<_, _-_, _+_, _/_}
 use native.Mathlib.Omega.{arith}
-use borrow.Author.Tests.{not-true, not-false}
-use lib.ListN.{length, getD, drop}
-use Rattle.gates.specs.Memory.{drives, accepted}
-use Rattle.gates.proofs.Judging.{drives-below}
-use Rattle.gates.proofs.Running.{Run, start, whole, fits-next, judged-at, read-bit, again, ended}
+use borrow.Author.Tests.{le-ltb}
+use lib.ListN.{length, getD}
+use Rattle.gates.specs.Memory.{bitsOf}
+use Rattle.gates.specs.Values.{held}
+use Rattle.gates.proofs.Judging.{first-late, second-late}
+use Rattle.gates.proofs.Running.{Run, start, whole, fits-next, refused, ended}
+use Rattle.gates.proofs.Held.{read-held, judged-held, held-again}
 use Rattle.gates.proofs.trial.Statement.{statement}
 use Rattle.gates.proofs.trial.Tie as tie
 
 abbrev Inv-loop : tie.InvT-loop
-Inv-loop gates wires₀ n values stop i₀ m₀ wires i m = Run gates wires₀ n wires i m
+Inv-loop gates inputs scratch₀ values stop i₀ m₀ scratch i m = Run held (bitsOf inputs) gates scratch₀ (length inputs) scratch i m
 
 abbrev μ-loop : tie.MeasureT-loop
-μ-loop gates wires₀ n values stop i₀ m₀ wires i m = stop - m
+μ-loop gates inputs scratch₀ values stop i₀ m₀ scratch i m = stop - m
+
+-- a turn drives a wire of the circuit
+within : (c : tie.In-loop Inv-loop μ-loop) → let a = c .before .before .args in c .before .loop .m < length (a .inputs .now) + length (a .gates .now) / 3
+within c = omega arith
 
 -- what is known at a turn
 turn : (c : tie.In-loop Inv-loop μ-loop)
-    → let g = c .before .before .before .before .args .gates .now in
-    let l = c .before .loop in
-    (l .i + 3 ≤ length g) × (l .m < length (l .wires)) × ((a : ℕ) → a < l .m → getD (l .wires) a 0 < 2)
+    → let l = c .before .loop in
+    (l .i + 3 ≤ length (c .before .before .args .gates .now)) × (l .m < length (l .scratch)) × ((a : ℕ) → a < l .m → getD (l .scratch) a 0 < 4)
 turn c =
-    let p = c .before .before .before .before .pre .0 in
+    let p = c .before .before .pre .0 in
     let r = c .before .loop .inv in
-    (whole _ _ _ _ _ _ r p (omega arith), fits-next _ _ _ _ _ _ r p (omega arith), read-bit _ _ _ _ _ _ r p)
-
--- what the whole comes to, by the gate that was judged
-judged : (c : tie.After-drives Inv-loop μ-loop)
-    → let l = c .before .before .before .before .before in
-    let s = l .before .before .before in
-    accepted (s .args .n) (s .args .gates .now) ≡ c .drives .result && accepted (l .loop .m + 1) (drop (l .loop .i + 3) (s .args .gates .now))
-judged c =
-    let l = c .before .before .before .before .before in
-    rw (c .drives .ensures) (judged-at _ _ _ _ _ _ (l .loop .inv) (l .before .before .before .pre .0) (omega arith))
-
--- the gate of a turn may drive its wire
-drove : (c : tie.Else1 Inv-loop μ-loop)
-    → let l = c .before .before .before .before .before .before in
-    let g = l .before .before .before .args .gates .now in
-    drives (l .loop .m) (getD g (l .loop .i) 0) (getD g (l .loop .i + 1) 0) (getD g (l .loop .i + 2) 0) ≡ true
-drove c = sym (c .before .drives .ensures) ∙ not-false (c .before .drives .result) (c .if1 .left)
-
-below : (c : tie.Else1 Inv-loop μ-loop)
-    → let l = c .before .before .before .before .before .before in
-    let g = l .before .before .before .args .gates .now in
-    (getD g (l .loop .i) 0 < 3) × (getD g (l .loop .i + 1) 0 < l .loop .m) × (getD g (l .loop .i + 2) 0 < l .loop .m)
-below c =
-    let l = c .before .before .before .before .before .before in
-    let g = l .before .before .before .args .gates .now in
-    drives-below (l .loop .m) (getD g (l .loop .i) 0) (getD g (l .loop .i + 1) 0) (getD g (l .loop .i + 2) 0) (drove c)
+    (whole r p (within c), fits-next r p (within c), read-held r p)
 
 add-stop : tie.Need-add-stop Inv-loop μ-loop
 add-stop c = search needs
 
 loop-holds : tie.Need-loop-holds Inv-loop μ-loop
-loop-holds c = start _ _ _ (c .before .before .pre .1)
+loop-holds c = start (c .pre .1)
 
 mul-kind : tie.Need-mul-kind Inv-loop μ-loop
 mul-kind c = search needs
 
 shared-slice-read-kind : tie.Need-shared-slice-read-kind Inv-loop μ-loop
 shared-slice-read-kind c = let t = turn (c .before) in omega arith
+
+cast-kind : tie.Need-cast-kind Inv-loop μ-loop
+cast-kind c = omega (arith, c .shared-slice-known .given (c .before .before .loop .i) .fits)
 
 add-a : tie.Need-add-a Inv-loop μ-loop
 add-a c = let t = turn (c .before) in omega arith
@@ -76,6 +58,9 @@ mul-a c = let t = turn (c .before) in omega arith
 shared-slice-read-a : tie.Need-shared-slice-read-a Inv-loop μ-loop
 shared-slice-read-a c = let t = turn (c .before .before) in omega arith
 
+cast-a : tie.Need-cast-a Inv-loop μ-loop
+cast-a c = omega (arith, c .shared-slice-known2 .given (c .before .before .before .loop .i + 1) .fits)
+
 add-b : tie.Need-add-b Inv-loop μ-loop
 add-b c = let t = turn (c .before .before) in omega arith
 
@@ -85,71 +70,111 @@ mul-b c = let t = turn (c .before .before) in omega arith
 shared-slice-read-b : tie.Need-shared-slice-read-b Inv-loop μ-loop
 shared-slice-read-b c = let t = turn (c .before .before .before) in omega arith
 
-drives-requires : tie.Need-drives-requires Inv-loop μ-loop
-drives-requires c κs = search needs
+cast-b : tie.Need-cast-b Inv-loop μ-loop
+cast-b c = omega (arith, c .shared-slice-known3 .given (c .before .before .before .before .loop .i + 2) .fits)
 
 same-length : tie.Need-same-length Inv-loop μ-loop
-same-length c = c .before .before .before .before .before .before .loop .inv .size
+same-length c = c .before .before .before .before .before .loop .inv .size
 
 returns : tie.Need-returns Inv-loop μ-loop
-returns c = (sym (rw (not-true (c .before .drives .result) (c .if1 .taken)) at (judged (c .before))), refl)
-
-wide-requires : tie.Need-wide-requires Inv-loop μ-loop
-wide-requires c κs = search needs
-
-slice-read-gate-value : tie.Need-slice-read-gate-value Inv-loop μ-loop
-slice-read-gate-value c =
-    let e = c .before .before .before in
-    let b = below e in
-    let t = turn (e .before .before .before .before .before) in
-    omega (arith, c .before .wide .ensures)
-
-wide-requires-2 : tie.Need-wide-requires-2 Inv-loop μ-loop
-wide-requires-2 c κs = search needs
-
-slice-read-gate-value-2 : tie.Need-slice-read-gate-value-2 Inv-loop μ-loop
-slice-read-gate-value-2 c =
-    let e = c .before .before .before .before .before in
-    let b = below e in
-    let t = turn (e .before .before .before .before .before) in
-    omega (arith, c .before .wide2 .ensures)
-
-gate-value-requires : tie.Need-gate-value-requires Inv-loop μ-loop
-gate-value-requires c κs =
-    let e = c .before .before .before .before .before in
-    let b = below e in
-    let t = turn (e .before .before .before .before .before) in
-    let x = c .before .before .before .wide in
-    let y = c .before .wide2 in
-    (refl, (b .0, (t .2 (x .result) (omega (arith, x .ensures)), t .2 (y .result) (omega (arith, y .ensures)))))
-
-slice-write-wires : tie.Need-slice-write-wires Inv-loop μ-loop
-slice-write-wires c = let t = turn (c .before .before .before .before .before .before .before .before .before .before .before) in omega arith
-
-add-i : tie.Need-add-i Inv-loop μ-loop
-add-i c = let t = turn (c .before .before .before .before .before .before .before .before .before .before .before) in omega arith
-
-add-m : tie.Need-add-m Inv-loop μ-loop
-add-m c = let t = turn (c .before .before .before .before .before .before .before .before .before .before .before) in omega arith
-
-loop-less : tie.Need-loop-less Inv-loop μ-loop
-loop-less c = search needs
-
-loop-again : tie.Need-loop-again Inv-loop μ-loop
-loop-again c =
-    let e = c .before .before .before .before .before .before in
-    let h = e .before .before .before .before .before in
-    let l = h .before in
-    again _ _ _ _ _ _ (l .loop .inv) (l .before .before .before .pre .0) (c .gate-value .result) (omega (arith, h .loop-test .taken)) (drove e)
-    (rw (← (c .before .before .wide2 .ensures), ← (c .before .before .before .before .wide .ensures)) (c .gate-value .ensures))
+returns c =
+    let h = c .before .before .before .before in
+    let l = h .before .loop in
+    let g = h .before .before .args .gates .now in
+    (refused (l .inv) (h .before .before .pre .0) (within h) (first-late (l .m) (getD g (l .i) 0) (getD g (l .i + 1) 0) (getD g (l .i + 2) 0) (c .if1 .taken)), refl)
 
 same-length-2 : tie.Need-same-length-2 Inv-loop μ-loop
-same-length-2 c = c .before .loop .inv .size
+same-length-2 c = c .before .before .before .before .before .before .loop .inv .size
 
 returns-2 : tie.Need-returns-2 Inv-loop μ-loop
 returns-2 c =
-    let l = c .before in
-    ended _ _ _ _ _ _ (l .loop .inv) (l .before .before .before .pre .0) (omega (arith, c .loop-test .left))
+    let h = c .before .before .before .before .before in
+    let l = h .before .loop in
+    let g = h .before .before .args .gates .now in (
+      refused (l .inv) (h .before .before .pre .0) (within h)
+          (second-late (l .m) (getD g (l .i) 0) (getD g (l .i + 1) 0) (getD g (l .i + 2) 0) (c .before .if1 .left) (c .if2 .taken)),
+      refl,
+    )
+
+mul-u : tie.Need-mul-u Inv-loop μ-loop
+mul-u c = omega (arith, c .before .before .before .before .shared-slice-known .given (c .before .before .before .before .before .before .loop .i) .fits)
+
+slice-read-u : tie.Need-slice-read-u Inv-loop μ-loop
+slice-read-u c = let t = turn (c .before .before .before .before .before .before) in omega arith
+
+-- the second wire's byte
+second : (c : tie.Else2 Inv-loop μ-loop)
+    → let h = c .before .before .before .before .before in
+    let l = h .before .loop in
+    getD (l .scratch) (getD (h .before .before .args .gates .now) (l .i + 2) 0) 0 < 4
+second c = turn (c .before .before .before .before .before) .2 _ (c .if2 .left)
+
+cast-u : tie.Need-cast-u Inv-loop μ-loop
+cast-u c = omega (arith, second (c .before))
+
+add-u : tie.Need-add-u Inv-loop μ-loop
+add-u c = omega (arith, second (c .before), c .before .before .before .before .before .shared-slice-known .given (c .before .before .before .before .before .before .before .loop .i) .fits)
+
+same-length-3 : tie.Need-same-length-3 Inv-loop μ-loop
+same-length-3 c = c .before .before .before .before .before .before .before .before .loop .inv .size
+
+returns-3 : tie.Need-returns-3 Inv-loop μ-loop
+returns-3 c =
+    let h = c .before .before .before .before .before .before .before in
+    let l = h .before .loop in
+    let g = h .before .before .args .gates .now in
+    let p = h .before .before .pre .0 in (
+      refused (l .inv) p (within h)
+          (sym (judged-held (l .inv) p (getD g (l .i) 0) (getD g (l .i + 1) 0) (getD g (l .i + 2) 0) (c .before .before .before .if1 .left) (c .before .before .if2 .left))
+          ∙ le-ltb _ 10 (c .if3 .taken)),
+      refl,
+    )
+
+mul-scratch : tie.Need-mul-scratch Inv-loop μ-loop
+mul-scratch c = omega (arith, c .if3 .left)
+
+slice-read-scratch : tie.Need-slice-read-scratch Inv-loop μ-loop
+slice-read-scratch c = let t = turn (c .before .before .before .before .before .before .before .before) in omega (arith, c .before .before .before .before .if1 .left)
+
+-- the first wire's byte
+first : (c : tie.After-slice-known2 Inv-loop μ-loop)
+    → let h = c .before .before .before .before .before .before .before .before in
+    let l = h .before .loop in
+    getD (l .scratch) (getD (h .before .before .args .gates .now) (l .i + 1) 0) 0 < 4
+first c = turn (c .before .before .before .before .before .before .before .before) .2 _ (c .before .before .before .before .if1 .left)
+
+cast-scratch : tie.Need-cast-scratch Inv-loop μ-loop
+cast-scratch c = omega (arith, first c)
+
+add-scratch : tie.Need-add-scratch Inv-loop μ-loop
+add-scratch c = omega (arith, first c, c .before .if3 .left)
+
+array-read-scratch : tie.Need-array-read-scratch Inv-loop μ-loop
+array-read-scratch c = omega (arith, first c, c .before .if3 .left)
+
+slice-write-scratch : tie.Need-slice-write-scratch Inv-loop μ-loop
+slice-write-scratch c = let t = turn (c .before .before .before .before .before .before .before .before) in omega arith
+
+add-i : tie.Need-add-i Inv-loop μ-loop
+add-i c = let t = turn (c .before .before .before .before .before .before .before .before) in omega arith
+
+add-m : tie.Need-add-m Inv-loop μ-loop
+add-m c = let t = turn (c .before .before .before .before .before .before .before .before) in omega arith
+
+loop-less : tie.Need-loop-less Inv-loop μ-loop
+loop-less c = omega (arith, c .before .before .before .before .before .before .before .before .loop-test .taken)
+
+loop-again : tie.Need-loop-again Inv-loop μ-loop
+loop-again c =
+    let h = c .before .before .before .before .before .before .before .before in
+    held-again (h .before .loop .inv) (h .before .before .pre .0) (within h) (c .before .before .before .before .if1 .left) (c .before .before .before .if2 .left)
+    (c .before .if3 .left)
+
+same-length-4 : tie.Need-same-length-4 Inv-loop μ-loop
+same-length-4 c = c .before .loop .inv .size
+
+returns-4 : tie.Need-returns-4 Inv-loop μ-loop
+returns-4 c = ended (c .before .loop .inv) (c .before .before .pre .0) (omega (arith, c .loop-test .left))
 
 pub trial-spec : {M : Type 1} → statement M
 trial-spec =
@@ -161,24 +186,34 @@ trial-spec =
     loop-holds
     mul-kind
     shared-slice-read-kind
+    cast-kind
     add-a
     mul-a
     shared-slice-read-a
+    cast-a
     add-b
     mul-b
     shared-slice-read-b
-    drives-requires
+    cast-b
     same-length
     returns
-    wide-requires
-    slice-read-gate-value
-    wide-requires-2
-    slice-read-gate-value-2
-    gate-value-requires
-    slice-write-wires
+    same-length-2
+    returns-2
+    mul-u
+    slice-read-u
+    cast-u
+    add-u
+    same-length-3
+    returns-3
+    mul-scratch
+    slice-read-scratch
+    cast-scratch
+    add-scratch
+    array-read-scratch
+    slice-write-scratch
     add-i
     add-m
     loop-less
     loop-again
-    same-length-2
-    returns-2)
+    same-length-4
+    returns-4)

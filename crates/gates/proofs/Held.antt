@@ -1,0 +1,200 @@
+-- The trial's bytes: 2 more than a wire's value, and wire 0's value alone. Laws of the bytes by cases of the list, of the table by computation.
+-- Assumes nothing.
+use mathlib.Core.Path.{_≡_, refl, ap, ap₂, sym, _∙_}
+use mathlib.Core.Bool.{Bool, true, false}
+use mathlib.Core.List.{List, [], _∷_, _++_, map, map-append}
+use Prim.Native.Nat.{ℕ, zero, suc, _+_, _*_, _/_, _%_, _≤_, _<_}
+use native.Mathlib.Nat.{not-suc-le-zero, le-of-suc-le-suc, add-zero}
+use native.Mathlib.Numerals.{add-one}
+use native.Mathlib.Omega.{arith}
+use borrow.Author.Tests.{lt-ltb, le-ltb, ne-eqb, eqb-true}
+use lib.Dec.{eqb, ltb}
+use lib.ListN.{length, getD, take, drop, set, length-map, List·getD-map}
+use lib.Seq.{take-at, take-length, length-take-le, getD-take, take-suc, drop-cons, append-snoc, set-at, drop-set-lt}
+use Rattle.words.specs.Booleans.{digit, imp}
+use Rattle.words.specs.Sets.{all}
+use Rattle.words.proofs.Truth.{mp}
+use Rattle.gates.specs.Gates.{wire, value, wiresOf}
+use Rattle.gates.specs.Values.{held, plain}
+use Rattle.gates.specs.Memory.{gateOf, gatesOf, drives, accepted, bytesOf, bitsOf, bits}
+use Rattle.gates.specs.Evaluation.{over}
+use Rattle.gates.proofs.InMemory.{accepted-length, bytesOf-bitsOf}
+use Rattle.gates.proofs.Running.{Run, digit-lt, value-read, at-each, read-front, front-length, next, values-length}
+
+-- what wire i's byte has beyond its value
+abbrev mark : ℕ → ℕ
+mark zero = 0
+mark (suc i) = 2
+
+mark-le : (i : ℕ) → mark i ≤ 2
+mark-le zero = omega arith
+mark-le (suc i) = omega arith
+
+parity : (p : Bool) (i : ℕ) → (digit p + mark i) % 2 ≡ digit p
+parity true zero = refl
+parity true (suc i) = refl
+parity false zero = refl
+parity false (suc i) = refl
+
+-- ---- the bytes
+
+pub held-length : (v : List Bool) → length (held v) ≡ length v
+held-length [] = refl
+held-length (x ∷ v) = ap suc (length-map v (λ y. digit y + 2))
+
+held-at : (v : List Bool) (i : ℕ) → i < length v → getD (held v) i 0 ≡ digit (wire v i) + mark i
+held-at [] i h = absurd (not-suc-le-zero h)
+held-at (x ∷ v) zero h = sym (add-zero (digit x))
+held-at (x ∷ v) (suc i) h = go v i (le-of-suc-le-suc h)
+  where
+    go : (v : List Bool) (i : ℕ) → i < length v → getD (map (λ y. digit y + 2) v) i 0 ≡ digit (wire v i) + 2
+    go [] i h = absurd (not-suc-le-zero h)
+    go (x ∷ v) zero h = refl
+    go (x ∷ v) (suc i) h = go v i (le-of-suc-le-suc h)
+
+held-append : (v : List Bool) (x : Bool) → 0 < length v → held (v ++ (x ∷ [])) ≡ held v ++ ((digit x + 2) ∷ [])
+held-append [] x h = absurd (not-suc-le-zero h)
+held-append (y ∷ v) x h = ap (λ (l : List ℕ). digit y ∷ l) (map-append (λ z. digit z + 2) v (x ∷ []))
+
+plain-held : (v : List Bool) → plain (held v) ≡ bytesOf v
+plain-held [] = refl
+plain-held (x ∷ v) = ap₂ (λ (y : ℕ) (l : List ℕ). y ∷ l) (ap (λ (y : ℕ). y % 2) (sym (add-zero (digit x))) ∙ parity x 0) (go v)
+  where
+    go : (v : List Bool) → plain (map (λ y. digit y + 2) v) ≡ bytesOf v
+    go [] = refl
+    go (x ∷ v) = ap₂ (λ (y : ℕ) (l : List ℕ). y ∷ l) (parity x 1) (go v)
+
+-- ---- judging
+
+-- kind and held second wire as one number: where both words name earlier wires, it says all that is left to judge
+as-held : (m k a b : ℕ) (p : Bool) → a < m → b < m → ltb (4 * k + (digit p + mark b)) 10 ≡ drives m k a b
+as-held m zero a b p h l = rw (lt-ltb a m h, lt-ltb b m l) (lt-ltb (4 * 0 + (digit p + mark b)) 10 (omega (arith, digit-lt p, mark-le b)))
+as-held m (suc zero) a b p h l = rw (lt-ltb a m h, lt-ltb b m l) (lt-ltb (4 * 1 + (digit p + mark b)) 10 (omega (arith, digit-lt p, mark-le b)))
+as-held m (suc (suc zero)) a zero p h l = rw (lt-ltb a m h) (lt-ltb (4 * 2 + (digit p + 0)) 10 (omega (arith, digit-lt p)))
+as-held m (suc (suc zero)) a (suc b) p h l = rw (lt-ltb a m h, ne-eqb (suc b) 0 (λ e. omega arith)) (le-ltb (4 * 2 + (digit p + 2)) 10 (omega arith))
+as-held m (suc (suc (suc k))) a b p h l =
+    rw (le-ltb (suc (suc (suc k))) 3 (omega arith)) (le-ltb (4 * suc (suc (suc k)) + (digit p + mark b)) 10 (omega arith))
+
+-- the trial's table: at 4 × (4k + y) + x, 2 more than the value of a gate of kind k on wires held as x and y
+abbrev table : List ℕ
+table =
+    2 ∷ (3 ∷ (2 ∷ (3 ∷ (3 ∷ (2 ∷ (3 ∷ (2 ∷ (2 ∷ (3 ∷ (2 ∷ (3 ∷ (3 ∷ (2 ∷ (3 ∷ (2
+    ∷ (2 ∷ (2 ∷ (2 ∷ (2 ∷ (2 ∷ (3 ∷ (2 ∷ (3 ∷ (2 ∷ (2 ∷ (2 ∷ (2 ∷ (2 ∷ (3 ∷ (2 ∷ (3
+    ∷ (3 ∷ (2 ∷ (3 ∷ (2 ∷ (3 ∷ (2 ∷ (3 ∷ (2 ∷ [])))))))))))))))))))))))))))))))))))))))
+
+abbrev shows : ℕ → ℕ → ℕ → Bool
+shows k x y =
+    imp (ltb (4 * k + y) 10) (eqb (getD table (4 * (4 * k + y) + x) 0) (digit (value (bitsOf (x % 2 ∷ (y % 2 ∷ []))) (gateOf k 0 1)) + 2))
+
+table-at : (k x y : ℕ) → x < 4 → y < 4 → 4 * k + y < 10
+    → getD table (4 * (4 * k + y) + x) 0 ≡ digit (value (bitsOf (x % 2 ∷ (y % 2 ∷ []))) (gateOf k 0 1)) + 2
+unfolding all
+table-at k x y hx hy h = eqb-true _ _ (mp _ _ (at-each shows 4 refl k x y (omega arith) hx hy) (lt-ltb _ 10 h))
+
+-- ---- the trial's turns
+
+module _ {s : List Bool} {g w₀ : List ℕ} {n : ℕ} {w : List ℕ} {i m : ℕ} (r : Run held s g w₀ n w i m) (room : n + length g / 3 ≤ length w₀) where
+  values-many : m ≡ length (r .values)
+  values-many = front-length r room ∙ held-length (r .values)
+
+  read : (a : ℕ) → a < m → getD w a 0 ≡ digit (wire (r .values) a) + mark a
+  read a h = read-front r room a h ∙ held-at (r .values) a (omega (arith, values-many))
+
+  pub read-held : (a : ℕ) → a < m → getD w a 0 < 4
+  read-held a h = omega (arith, read a h, digit-lt (wire (r .values) a), mark-le a)
+
+  read-parity : (a : ℕ) → a < m → getD w a 0 % 2 ≡ digit (wire (r .values) a)
+  read-parity a h = ap (λ (x : ℕ). x % 2) (read a h) ∙ parity (wire (r .values) a) a
+
+  -- one number says whether a gate that names earlier wires may drive its wire
+  pub judged-held : (k a b : ℕ) → a < m → b < m → ltb (4 * k + getD w b 0) 10 ≡ drives m k a b
+  judged-held k a b h l = ap (λ (y : ℕ). ltb (4 * k + y) 10) (read b l) ∙ as-held m k a b (wire (r .values) b) h l
+
+  pub held-again : m < n + length g / 3
+      → let k = getD g i 0 in
+      let a = getD g (i + 1) 0 in
+      let b = getD g (i + 2) 0 in
+      a < m → b < m → 4 * k + getD w b 0 < 10
+      → Run held s g w₀ n (set w m (getD table (4 * (4 * k + getD w b 0) + getD w a 0) 0)) (i + 3) (m + 1)
+  held-again h ha hb hu =
+      let k = getD g i 0 in
+      let a = getD g (i + 1) 0 in
+      let b = getD g (i + 2) 0 in
+      let u : Bool = value (r .values) (gateOf k a b) in
+      let e : getD table (4 * (4 * k + getD w b 0) + getD w a 0) 0 ≡ digit u + 2 =
+      table-at k (getD w a 0) (getD w b 0) (read-held a ha) (read-held b hb) hu
+      ∙ ap (λ (t : Bool). digit t + 2) (value-read (r .values) k a b _ _ (read-parity a ha) (read-parity b hb)) in
+      next r room _ h (sym (judged-held k a b ha hb) ∙ lt-ltb _ 10 hu)
+      (held-append (r .values) u (omega (arith, values-many)) ∙ ap (λ (x : ℕ). held (r .values) ++ (x ∷ [])) (sym e))
+
+-- ---- in and out
+
+-- a list written over a buffer, a byte a turn
+pub next-byte : (d l w : List ℕ) (i v : ℕ) → w ≡ take i l ++ drop i d → v ≡ getD l i 0 → i < length d → i < length l
+    → set w i v ≡ take (i + 1) l ++ drop (i + 1) d
+next-byte d l w i v e f hd hl =
+    ap₂ (λ (x : List ℕ) (y : ℕ). set x i y) (e ∙ ap (λ (x : List ℕ). take i l ++ x) (drop-cons d i 0 hd)) f
+    ∙ set-at (take i l) (getD d i 0) (drop (suc i) d) (getD l i 0) i (length-take-le i l (omega arith))
+    ∙ sym (append-snoc (take i l) (getD l i 0) (drop (suc i) d))
+    ∙ ap (λ (x : List ℕ). x ++ drop (suc i) d) (sym (take-suc l i 0 hl))
+    ∙ ap (λ (k : ℕ). take k l ++ drop k d) (sym (add-one i))
+
+pub all-bytes : (d l w : List ℕ) (i : ℕ) → w ≡ take i l ++ drop i d → length l ≡ i → w ≡ over l d
+all-bytes d l w i e h = e ∙ ap (λ (k : ℕ). take k l ++ drop k d) (sym h) ∙ ap (λ (x : List ℕ). x ++ drop (length l) d) (take-length l)
+
+module _ (s : List ℕ) (b : bits s ≡ true) where
+  byte-at : (i : ℕ) → digit (wire (bitsOf s) i) ≡ getD s i 0
+  byte-at i = sym (List·getD-map digit (bitsOf s) i false) ∙ ap (λ (l : List ℕ). getD l i 0) (bytesOf-bitsOf s b)
+
+  pub input-bit : (i : ℕ) → getD s i 0 < 2
+  input-bit i = omega (arith, byte-at i, digit-lt (wire (bitsOf s) i))
+
+  pub input-held : (i : ℕ) → 0 < i → i < length s → getD s i 0 + 2 ≡ getD (held (bitsOf s)) i 0
+  input-held zero p h = absurd (not-suc-le-zero p)
+  input-held (suc i) p h =
+      sym (held-at (bitsOf s) (suc i) (omega (arith, length-map s (λ x. eqb x 1))) ∙ ap (λ (x : ℕ). x + 2) (byte-at (suc i)))
+
+pub inputs-length : (s : List ℕ) → length (held (bitsOf s)) ≡ length s
+inputs-length s = held-length (bitsOf s) ∙ length-map s (λ x. eqb x 1)
+
+pub no-inputs : (s w : List ℕ) → length s ≡ 0 → w ≡ over (held (bitsOf s)) w
+no-inputs [] w h = refl
+no-inputs (x ∷ s) w h = absurd (omega arith)
+
+pub first-input : (s w : List ℕ) → bits s ≡ true → 0 < length s → 0 < length w
+    → let d = set w 0 (getD s 0 0) in d ≡ take 1 (held (bitsOf s)) ++ drop 1 d
+first-input [] w b h l = absurd (not-suc-le-zero h)
+first-input (x ∷ s) [] b h l = absurd (not-suc-le-zero l)
+first-input (x ∷ s) (y ∷ w) b h l = ap (λ (v : ℕ). v ∷ w) (sym (byte-at (x ∷ s) b 0))
+
+-- what was at the front before does not show
+pub all-inputs : (s w w₁ : List ℕ) (x : ℕ) → 0 < length s → w₁ ≡ over (held (bitsOf s)) (set w 0 x) → w₁ ≡ over (held (bitsOf s)) w
+all-inputs s w w₁ x h e =
+    let l = held (bitsOf s) in
+    e ∙ ap (λ (k : List ℕ). l ++ k) (drop-set-lt (length l) w 0 x (omega (arith, inputs-length s)))
+
+-- bytes of the front, stored
+module _ (v : List ℕ) (n : ℕ) (h : n ≤ length v) where
+  pub stored-at : (i : ℕ) → i < n → getD v i 0 % 2 ≡ getD (plain (take n v)) i 0
+  stored-at i l = sym (List·getD-map (λ x. x % 2) (take n v) i 0 ∙ ap (λ (x : ℕ). x % 2) (getD-take n v i 0 l))
+
+  pub stored-length : length (plain (take n v)) ≡ n
+  stored-length = length-map (take n v) (λ x. x % 2) ∙ length-take-le n v h
+
+-- what stands at the front of loaded bytes
+pub loaded : (s w w₁ : List ℕ) → w₁ ≡ over (held (bitsOf s)) w → take (length s) w₁ ≡ held (bitsOf s)
+loaded s w w₁ e =
+    ap (λ (l : List ℕ). take (length s) l) e
+    ∙ take-at (held (bitsOf s)) (drop (length (held (bitsOf s))) w) (length s) (inputs-length s)
+
+-- what a trial filled, its front stored elsewhere
+pub stored : (s g : List ℕ) → accepted (length s) g ≡ true → (w₁ v : List ℕ) → v ≡ over (held (wiresOf (bitsOf s) (gatesOf g))) w₁
+    → (x w₂ : List ℕ) → w₂ ≡ over (plain (take (length s + length g / 3) v)) x → w₂ ≡ over (bytesOf (wiresOf (bitsOf s) (gatesOf g))) x
+stored s g a w₁ v h x w₂ f =
+    let all-values : List Bool = wiresOf (bitsOf s) (gatesOf g) in
+    let q : length (held all-values) ≡ length s + length g / 3 = omega (arith, accepted-length (length s) g a, values-length s (gatesOf g), held-length all-values) in
+    let t : plain (take (length s + length g / 3) v) ≡ bytesOf all-values =
+    ap (λ (l : List ℕ). plain (take (length s + length g / 3) l)) h
+    ∙ ap plain (take-at (held all-values) (drop (length (held all-values)) w₁) (length s + length g / 3) q)
+    ∙ plain-held all-values in
+    f ∙ ap (λ (l : List ℕ). over l x) t
