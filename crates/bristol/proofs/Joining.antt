@@ -15,8 +15,7 @@ use Rattle.refusals.specs.declared.Refusal.the-variants.{LineBuffer}
 use Rattle.refusals.specs.declared.Outcome.the-variants.{Taken, Refused}
 use Rattle.refusals.specs.Checks.{outcome}
 use Rattle.dimensions.specs.declared.Dimensions.{Dimensions}
-use Rattle.gates.specs.Memory.{gatesOf}
-use Rattle.gates.specs.Evaluation.{over}
+use Rattle.gates.specs.Memory.{gatesOf, over}
 use Rattle.bristol.specs.declared.Written.{Written}
 use Rattle.bristol.specs.declared.Written.the-variants as W
 use Rattle.bristol.specs.declared.WrittenLines.{WrittenLines}

@@ -20,8 +20,7 @@ use Rattle.refusals.specs.Checks.{check, outcome, given}
 use Rattle.refusals.proofs.Outcomes.{outcome-taken, outcome-refused, unless-passed, unless-taken}
 use Rattle.dimensions.specs.declared.Dimensions.{Dimensions}
 use Rattle.dimensions.specs.Sizes.{outside, sizeChecks, inputWires}
-use Rattle.gates.specs.Memory.{gatesOf, accepted}
-use Rattle.gates.specs.Evaluation.{over}
+use Rattle.gates.specs.Memory.{gatesOf, accepted, over}
 use Rattle.bristol.specs.declared.Written.{Written}
 use Rattle.bristol.specs.declared.Written.the-variants as W
 use Rattle.bristol.specs.declared.WrittenLines.the-variants as lines

@@ -8,8 +8,7 @@ use Rattle.refusals.specs.declared.Refusal.the-variants.{Gates, LineBuffer}
 use Rattle.refusals.specs.Checks.{Check, check, outcome, given}
 use Rattle.dimensions.specs.declared.Dimensions.{Dimensions}
 use Rattle.dimensions.specs.Sizes.{sizeChecks, inputWires}
-use Rattle.gates.specs.Memory.{gatesOf, accepted}
-use Rattle.gates.specs.Evaluation.{over}
+use Rattle.gates.specs.Memory.{gatesOf, accepted, over}
 use Rattle.bristol.specs.declared.Written.{Written}
 use Rattle.bristol.specs.declared.Written.the-variants.{Line, Past, Refused}
 use Rattle.bristol.specs.declared.WrittenLines.{WrittenLines}

@@ -20,8 +20,7 @@ use Rattle.text.specs.declared.Text.{Text}
 use Rattle.text.specs.Texts.{textOf}
 use Rattle.text.proofs.Appending.{text-within}
 use Rattle.answers.specs.Answers.{refusedLine}
-use Rattle.gates.specs.Memory.{wordsOf}
-use Rattle.gates.specs.Evaluation.{over}
+use Rattle.gates.specs.Memory.{wordsOf, over}
 use Rattle.gates.proofs.InMemory.{words-length}
 use Rattle.generator.specs.declared.Generated.{Generated}
 use Rattle.generator.specs.declared.Generated.the-variants as generated′

@@ -1,4 +1,4 @@
--- What the loops that judge words and bytes go by: what is left is judged as the whole is.
+-- What the loop that judges words goes by: what is left is judged as the whole is.
 -- Assumes nothing.
 use mathlib.Core.Path.{_≡_, refl, ap, sym, _∙_}
 use mathlib.Core.Bool.{Bool, true, false, _&&_, cond}
@@ -11,7 +11,7 @@ use lib.Dec.{ltb, leb, eqb}
 use lib.ListN.{length, getD, drop}
 use lib.Seq.{drop-cons}
 use Rattle.words.proofs.Truth.{and-l, and-r, and-false, on}
-use Rattle.gates.specs.Memory.{drives, accepted, bits}
+use Rattle.gates.specs.Memory.{drives, accepted}
 use Rattle.gates.proofs.InMemory.{accepted-length}
 
 pub accepted-uneven : (m : ℕ) (ws : List ℕ) → (length ws % 3 ≡ 0 → ⊥) → accepted m ws ≡ false
@@ -72,10 +72,6 @@ pub accepted-at : (g : List ℕ) (i : ℕ) → i + 3 ≤ length g → (m : ℕ)
     → accepted m (drop i g) ≡ drives m (getD g i 0) (getD g (i + 1) 0) (getD g (i + 2) 0) && accepted (m + 1) (drop (i + 3) g)
 unfolding accepted
 accepted-at g i h m = ap (λ (l : List ℕ). accepted m l) (drop-three g i h) ∙ rw (add-one m)
-
-pub bits-at : (s : List ℕ) (i : ℕ) → i < length s → bits (drop i s) ≡ ltb (getD s i 0) 2 && bits (drop (i + 1) s)
-unfolding bits
-bits-at s i h = rw (add-one, drop-cons s i 0)
 
 -- INV's second word is below m too, being 0
 bound : (m k b : ℕ) → 0 < m → cond (eqb k 2) (eqb b 0) (ltb b m) ≡ true → b < m

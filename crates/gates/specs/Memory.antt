@@ -1,8 +1,9 @@
 -- Gates and wires in memory: a gate is three words, kind (0 XOR, 1 AND, 2 INV), first wire and second wire (0 for INV); a wire is a byte, 0 or 1.
 use mathlib.Core.Bool.{Bool, true, false, _&&_, cond}
-use mathlib.Core.List.{List, [], _∷_, map}
+use mathlib.Core.List.{List, [], _∷_, _++_, map}
 use Prim.Native.Nat.{ℕ, zero, suc}
 use lib.Dec.{eqb, ltb}
+use lib.ListN.{length, drop}
 use Rattle.words.specs.Booleans.{digit}
 use Rattle.gates.specs.Gates.{Gate}
 use Rattle.gates.specs.Gates.Gate.{XOR, AND, INV}
@@ -43,3 +44,7 @@ bitsOf bytes = map (λ x. eqb x 1) bytes
 unfoldable pub bits : List ℕ → Bool
 bits [] = true
 bits (x ∷ xs) = ltb x 2 && bits xs
+
+-- a list whose front is written over
+abbrev pub over : List ℕ → List ℕ → List ℕ
+over front list = front ++ drop (length front) list

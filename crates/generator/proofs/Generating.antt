@@ -19,8 +19,7 @@ use Rattle.refusals.proofs.Outcomes.{outcome-taken, outcome-refused, unless-pas
 use Rattle.words.proofs.Truth.{or-l, or-r}
 use Rattle.dimensions.specs.declared.Dimensions.{Dimensions}
 use Rattle.dimensions.specs.Sizes.{outside, sizeChecks, ceiling}
-use Rattle.gates.specs.Memory.{wordsOf}
-use Rattle.gates.specs.Evaluation.{over}
+use Rattle.gates.specs.Memory.{wordsOf, over}
 use Rattle.gates.proofs.InMemory.{words-length}
 use Rattle.generator.specs.declared.Generated.the-variants.{Of, Refused}
 use Rattle.netlist.specs.declared.Addresses.{Addresses}

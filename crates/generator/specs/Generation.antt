@@ -7,8 +7,7 @@ use Rattle.refusals.specs.declared.Refusal.the-variants.{GateBuffer}
 use Rattle.refusals.specs.Checks.{Check, check, outcome, given}
 use Rattle.dimensions.specs.declared.Dimensions.{Dimensions}
 use Rattle.dimensions.specs.Sizes.{sizeChecks, ceiling}
-use Rattle.gates.specs.Memory.{wordsOf}
-use Rattle.gates.specs.Evaluation.{over}
+use Rattle.gates.specs.Memory.{wordsOf, over}
 use Rattle.generator.specs.declared.Generated.{Generated}
 use Rattle.generator.specs.declared.Generated.the-variants.{Of, Refused}
 use Rattle.netlist.specs.Outputs.{CarriesOut}

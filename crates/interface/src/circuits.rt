@@ -4,7 +4,7 @@ use refusals::Outcome;
 ghost use mathlib.Core.Path.{_≡_};
 ghost use lib.ListN.{length};
 ghost use Rattle.refusals.specs.Checks.{outcome};
-ghost use Rattle.gates.specs.Evaluation.{checks, filled};
+ghost use Rattle.evaluator.specs.Evaluation.{checks, filled};
 ghost use Rattle.generator.specs.Generation as Generation;
 ghost use Rattle.wires.specs.Packing.{packChecks, packed};
 ghost use Rattle.wires.specs.Reading.{readBack};
@@ -64,7 +64,7 @@ pub extern "C" fn forkhemit_evaluate(gates: &[u32], inputs: &[u8], wires: &mut [
     ensures { λ r. ⌜ r ≡ codeOf (outcome (checks (now (gates .entry)) (now (inputs .entry)) (now (wires .entry)))) ⌝ }
     ensures { λ _. ⌜ now (wires .exit) ≡ filled (now (gates .entry)) (now (inputs .entry)) (now (wires .entry)) ⌝ }
 {
-    lent::code(gates::evaluate(gates, inputs, wires))
+    lent::code(evaluator::evaluate(gates, inputs, wires))
 }
 
 // The run of n variables that the front of the bytes holds; 1, 10 or 12 where it is turned back, and then no word changes.

@@ -18,11 +18,11 @@ use Rattle.state.specs.State.{State}
 use Rattle.state.specs.WellFormed.{wellFormedState}
 use Rattle.solver.specs.Step.{step}
 use Rattle.gates.specs.Gates.{wiresOf}
-use Rattle.gates.specs.Memory.{wordsOf, accepted, bytesOf}
-use Rattle.gates.specs.Evaluation.{checks, filled, over}
+use Rattle.gates.specs.Memory.{wordsOf, accepted, bytesOf, over}
+use Rattle.evaluator.specs.Evaluation.{checks, filled}
 use Rattle.gates.proofs.Circuits.{ordered, wires-length}
 use Rattle.gates.proofs.InMemory.{accepted-words, words-length}
-use Rattle.gates.proofs.Evaluation.{evaluates}
+use Rattle.evaluator.proofs.Evaluation.{evaluates}
 use Rattle.wires.specs.Layout.{stateBits}
 use Rattle.wires.specs.Packing.{inputBits}
 use Rattle.wires.proofs.Lengths.{both-length, input-length, state-length}

@@ -14,7 +14,7 @@ use Rattle.state.specs.State.{State}
 use Rattle.state.specs.WellFormed.{wellFormedState}
 use Rattle.solver.specs.Step.{ifOpen, step}
 use Rattle.gates.specs.Memory.{accepted, bytesOf}
-use Rattle.gates.specs.Evaluation.{checks, filled}
+use Rattle.evaluator.specs.Evaluation.{checks, filled}
 use Rattle.wires.specs.Layout.{stateBits}
 use Rattle.wires.specs.Packing.{inputBits}
 

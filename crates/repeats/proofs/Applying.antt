@@ -29,8 +29,7 @@ use Rattle.solver.proofs.StepLaws.{step-well-formed}
 use Rattle.state.proofs.Checks.{take-state}
 use Rattle.gates.specs.Gates.{Gate, wiresOf}
 use Rattle.gates.specs.Memory as Memory
-use Rattle.gates.specs.Memory.{bytesOf}
-use Rattle.gates.specs.Evaluation.{over}
+use Rattle.gates.specs.Memory.{bytesOf, over}
 use Rattle.gates.proofs.InMemory.{words-length, gates-words}
 use Rattle.wires.specs.declared.Read.{Read}
 use Rattle.wires.specs.Layout.{stateBits}

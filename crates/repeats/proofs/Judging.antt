@@ -22,10 +22,10 @@ use Rattle.state.specs.declared.Run.{Run}
 use Rattle.state.specs.State.{stateOf}
 use Rattle.gates.specs.Gates.{wiresOf}
 use Rattle.gates.specs.Memory as Memory
-use Rattle.gates.specs.Memory.{accepted, gatesOf, bitsOf, bytesOf}
-use Rattle.gates.specs.Evaluation.{checks, over, filled}
+use Rattle.gates.specs.Memory.{accepted, gatesOf, bitsOf, bytesOf, over}
+use Rattle.evaluator.specs.Evaluation.{checks, filled}
 use Rattle.gates.proofs.InMemory.{bits-bytes, bitsOf-bytesOf}
-use Rattle.gates.proofs.Evaluation as Evaluation
+use Rattle.evaluator.proofs.Evaluation as Evaluation
 use Rattle.wires.specs.declared.Read.{Read}
 use Rattle.wires.specs.Packing.{inputBits, packChecks, packed}
 use Rattle.wires.specs.Reading.{readBack}

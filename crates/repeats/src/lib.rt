@@ -74,7 +74,7 @@ pub fn apply(
         return turned_back(run, Refusal::Wires);
     }
     wires::pack(d, left, right, run, bytes);
-    gates::evaluate(gates, &bytes[..inputs], wires);
+    evaluator::evaluate(gates, &bytes[..inputs], wires);
     let start = end - (d.state_wires() + 1);
     next_run(d.n, run, &wires[start..end])
 }

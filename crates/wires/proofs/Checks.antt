@@ -22,8 +22,7 @@ use Rattle.tables.proofs.Accepted.{Accepted, accepted}
 use Rattle.state.specs.declared.Run.{Run}
 use Rattle.state.specs.State.{fresh, stateOf, runOf}
 use Rattle.state.specs.WellFormed.{wellFormed, stateChecks}
-use Rattle.gates.specs.Memory.{bytesOf}
-use Rattle.gates.specs.Evaluation.{over}
+use Rattle.gates.specs.Memory.{bytesOf, over}
 use Rattle.wires.specs.declared.Read.{Read}
 use Rattle.wires.specs.Packing.{inputBits, packChecks, packed}
 use Rattle.wires.specs.Layout.{stateBits}

@@ -26,8 +26,7 @@ use Rattle.state.specs.State.{State, fresh, stateOf, runOf}
 use Rattle.state.specs.WellFormed.{wellFormedState, wellFormed}
 use Rattle.state.proofs.HeldRun.{state-back, run-back, run-of-formed, formed-run-e, formed-tidy}
 use Rattle.gates.specs.Gates.{wire}
-use Rattle.gates.specs.Memory.{bytesOf, bitsOf}
-use Rattle.gates.specs.Evaluation.{over}
+use Rattle.gates.specs.Memory.{bytesOf, bitsOf, over}
 use Rattle.gates.proofs.InMemory.{bitsOf-bytesOf}
 use Rattle.wires.specs.declared.Read.{Read}
 use Rattle.wires.specs.Layout.{rowsBits, stateBits}

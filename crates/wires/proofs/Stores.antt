@@ -11,8 +11,7 @@ use lib.ListN.{length, set, take, drop, length-map}
 use lib.Seq.{sets, sets-eq, length-sets, take-at}
 use Rattle.words.specs.Booleans.{digit}
 use Rattle.words.proofs.Stores.{sets-append}
-use Rattle.gates.specs.Memory.{bytesOf}
-use Rattle.gates.specs.Evaluation.{over}
+use Rattle.gates.specs.Memory.{bytesOf, over}
 use Rattle.wires.specs.Layout.{upto, joined}
 use Rattle.wires.proofs.Series.{length-upto, upto-more, length-joined, joined-more}
 

@@ -13,8 +13,7 @@ use Rattle.tables.specs.Rows.{rowAt, rowsFrom}
 use Rattle.dimensions.specs.Sizes.{inputWires}
 use Rattle.state.specs.declared.Run.{Run}
 use Rattle.state.specs.State.{stateOf}
-use Rattle.gates.specs.Memory.{bytesOf}
-use Rattle.gates.specs.Evaluation.{over}
+use Rattle.gates.specs.Memory.{bytesOf, over}
 use Rattle.wires.specs.Layout.{joined, rowBits, rowsBits, stateBits}
 use Rattle.wires.specs.Packing.{inputBits}
 use Rattle.wires.proofs.Lengths.{rows-length, table-length, input-length}

@@ -13,8 +13,7 @@ use Rattle.tables.specs.Acceptance.{tableChecks}
 use Rattle.state.specs.declared.Run.{Run}
 use Rattle.state.specs.State.{State, stateOf}
 use Rattle.state.specs.WellFormed.{stateChecks}
-use Rattle.gates.specs.Memory.{bytesOf}
-use Rattle.gates.specs.Evaluation.{over}
+use Rattle.gates.specs.Memory.{bytesOf, over}
 use Rattle.wires.specs.Layout.{rowsBits, stateBits}
 
 -- the input values: left rows, right rows, state

@@ -6,11 +6,11 @@ use mathlib.Core.List.{_++_}
 use Prim.Native.Nat.{_≤_, _-_}
 use native.Mathlib.Omega.{arith}
 use lib.ListN.{length, getD, take, drop, length-set}
 use Rattle.gates.specs.Memory.{bitsOf}
-use Rattle.gates.specs.Values.{held}
-use Rattle.gates.proofs.Held.{next-byte, all-bytes, input-bit, input-held, inputs-length, no-inputs, first-input, all-inputs}
-use Rattle.gates.proofs.load_inputs.Statement.{statement}
-use Rattle.gates.proofs.load_inputs.Tie as tie
+use Rattle.evaluator.specs.Values.{held}
+use Rattle.evaluator.proofs.Held.{next-byte, all-bytes, input-bit, input-held, inputs-length, no-inputs, first-input, all-inputs}
+use Rattle.evaluator.proofs.load_inputs.Statement.{statement}
+use Rattle.evaluator.proofs.load_inputs.Tie as tie
 
 abbrev Inv-loop : tie.InvT-loop
 Inv-loop inputs scratch₀ i₀ scratch i =
@@ -33,11 +33,11 @@ loop-holds c =
     let s = c .before .before in
     (omega arith, omega arith, refl, first-input (s .args .inputs .now) (s .args .scratch .now) (s .pre .1) (omega arith) (omega arith))
 
--- the byte of a turn is in the buffer
-reached : (c : tie.In-loop Inv-loop μ-loop) → let s = c .before .before .before .before .args in length (c .before .loop .scratch) ≡ length (s .scratch .now)
-reached c =
-    let s = c .before .before .before .before .args in
-    c .before .loop .inv .2 ∙ length-set (s .scratch .now) 0 (getD (s .inputs .now) 0 0)
+-- the buffer is as long as it was
+kept : (c : tie.At-loop Inv-loop μ-loop) → length (c .loop .scratch) ≡ length (c .before .before .before .args .scratch .now)
+kept c =
+    let a = c .before .before .before .args in
+    c .loop .inv .2 ∙ length-set (a .scratch .now) 0 (getD (a .inputs .now) 0 0)
 
 shared-slice-read-scratch-2 : tie.Need-shared-slice-read-scratch-2 Inv-loop μ-loop
 shared-slice-read-scratch-2 c = search needs
@@ -48,7 +48,7 @@ add-scratch c =
     omega (arith, input-bit (s .args .inputs .now) (s .pre .1) (c .before .before .loop .i))
 
 slice-write-scratch-2 : tie.Need-slice-write-scratch-2 Inv-loop μ-loop
-slice-write-scratch-2 c = omega (arith, reached (c .before))
+slice-write-scratch-2 c = omega (arith, kept (c .before .before))
 
 add-i : tie.Need-add-i Inv-loop μ-loop
 add-i c = search needs
@@ -64,13 +64,11 @@ loop-again c =
       omega arith,
       omega arith,
       length-set (l .scratch) (l .i) _ ∙ l .inv .2,
-      next-byte _ _ _ _ _ (l .inv .3) (input-held n (s .pre .1) (l .i) (omega arith) (omega arith)) (omega (arith, reached (c .before), l .inv .2)) (omega (arith, inputs-length n)),
+      next-byte _ _ _ _ _ (l .inv .3) (input-held n (s .pre .1) (l .i) (omega arith) (omega arith)) (omega (arith, kept (c .before .before), l .inv .2)) (omega (arith, inputs-length n)),
     )
 
 same-length : tie.Need-same-length Inv-loop μ-loop
-same-length c =
-    let s = c .before .before .before .before .args in
-    c .before .loop .inv .2 ∙ length-set (s .scratch .now) 0 (getD (s .inputs .now) 0 0)
+same-length c = kept (c .before)
 
 returns-2 : tie.Need-returns-2 Inv-loop μ-loop
 returns-2 c =

@@ -1,12 +1,9 @@
 -- `gate_value` meets its contract: the table's entry is the value, at each kind and each pair of wires.
 -- Assumes nothing.
 use borrow.Author.Needs.{needs}
-use Rattle.gates.proofs.Running.{table-at}
-use Rattle.gates.proofs.gate_value.Statement.{statement}
-use Rattle.gates.proofs.gate_value.Tie as tie
-
-wide-requires : tie.Need-wide-requires
-wide-requires c κs = search needs
+use Rattle.evaluator.proofs.Running.{table-at}
+use Rattle.evaluator.proofs.gate_value.Statement.{statement}
+use Rattle.evaluator.proofs.gate_value.Tie as tie
 
 mul-at : tie.Need-mul-at
 mul-at c = search needs
@@ -25,10 +22,9 @@ element-copy-out-result c = search needs
 
 returns : tie.Need-returns
 returns c =
-    let s = c .before .before in
-    rw (c .before .wide .ensures, s .pre .0) (table-at (s .args .kind) (s .args .a) (s .args .b) (s .pre .1 .0) (s .pre .1 .1 .0) (s .pre .1 .1 .1))
+    let s = c .before in
+    rw (s .pre .0) (table-at (s .args .kind) (s .args .a) (s .args .b) (s .pre .1 .0) (s .pre .1 .1 .0) (s .pre .1 .1 .1))
 
 pub gate-value-spec : {M : Type 1} → statement M
 gate-value-spec =
-    tie.close
-    (tie.spec wide-requires mul-at add-at mul-at-2 add-at-2 element-copy-out-result returns)
+    tie.close (tie.spec mul-at add-at mul-at-2 add-at-2 element-copy-out-result returns)

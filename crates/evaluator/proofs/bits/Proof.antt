@@ -2,14 +2,22 @@
 -- Assumes nothing.
 use borrow.Author.Needs.{needs}
 use mathlib.Core.Path.{_≡_, refl, sym, _∙_}
-use Prim.Native.Nat.{_≤_, _<_, _-_}
+use mathlib.Core.Bool.{_&&_}
+use mathlib.Core.List.{List}
+use Prim.Native.Nat.{ℕ, _≤_, _<_, _-_, _+_}
+use native.Mathlib.Numerals.{add-one}
 use native.Mathlib.Omega.{arith}
 use borrow.Author.Tests.{lt-ltb, le-ltb}
+use lib.Dec.{ltb}
 use lib.ListN.{length, drop, getD, drop-of-length-le}
+use lib.Seq.{drop-cons}
 use Rattle.gates.specs.Memory as Memory
-use Rattle.gates.proofs.Judging.{bits-at}
-use Rattle.gates.proofs.bits.Statement.{statement}
-use Rattle.gates.proofs.bits.Tie as tie
+use Rattle.evaluator.proofs.bits.Statement.{statement}
+use Rattle.evaluator.proofs.bits.Tie as tie
+
+bits-at : (s : List ℕ) (i : ℕ) → i < length s → Memory.bits (drop i s) ≡ ltb (getD s i 0) 2 && Memory.bits (drop (i + 1) s)
+unfolding Memory.bits
+bits-at s i h = rw (add-one, drop-cons s i 0)
 
 abbrev Inv-loop : tie.InvT-loop
 Inv-loop bytes i₀ i = (i ≤ length bytes) × (Memory.bits (drop i bytes) ≡ Memory.bits bytes)

@@ -14,12 +14,11 @@ use lib.Seq.{take-at, take-length, length-take-le, getD-take, take-suc, drop-con
 use Rattle.words.specs.Booleans.{digit, imp}
 use Rattle.words.specs.Sets.{all}
 use Rattle.words.proofs.Truth.{mp}
 use Rattle.gates.specs.Gates.{wire, value, wiresOf}
-use Rattle.gates.specs.Values.{held, plain}
-use Rattle.gates.specs.Memory.{gateOf, gatesOf, drives, accepted, bytesOf, bitsOf, bits}
-use Rattle.gates.specs.Evaluation.{over}
+use Rattle.evaluator.specs.Values.{held, plain}
+use Rattle.gates.specs.Memory.{gateOf, gatesOf, drives, accepted, bytesOf, bitsOf, bits, over}
 use Rattle.gates.proofs.InMemory.{accepted-length, bytesOf-bitsOf}
-use Rattle.gates.proofs.Running.{Run, digit-lt, value-read, at-each, read-front, front-length, next, values-length}
+use Rattle.evaluator.proofs.Running.{Run, digit-lt, value-read, at-each, read-front, front-length, next, values-length}
 
 -- what wire i's byte has beyond its value
 abbrev mark : ℕ → ℕ

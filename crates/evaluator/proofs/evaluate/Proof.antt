@@ -5,8 +5,8 @@ use mathlib.Core.Path.{sym, _∙_}
 use Prim.Native.Nat.{_+_, _/_}
 use borrow.Author.Tests.{leb-true}
 use lib.ListN.{length}
-use Rattle.gates.proofs.evaluate.Statement.{statement}
-use Rattle.gates.proofs.evaluate.Tie as tie
+use Rattle.evaluator.proofs.evaluate.Statement.{statement}
+use Rattle.evaluator.proofs.evaluate.Tie as tie
 
 add-end : tie.Need-add-end
 add-end c = search needs

@@ -7,13 +7,13 @@ use Prim.Native.Nat.{ℕ, _≤_, _<_, _-_, _+_, _/_}
 use native.Mathlib.Omega.{arith}
 use borrow.Author.Tests.{le-ltb}
 use lib.ListN.{length, getD}
 use Rattle.gates.specs.Memory.{bitsOf}
-use Rattle.gates.specs.Values.{held}
+use Rattle.evaluator.specs.Values.{held}
 use Rattle.gates.proofs.Judging.{first-late, second-late}
-use Rattle.gates.proofs.Running.{Run, start, whole, fits-next, refused, ended}
-use Rattle.gates.proofs.Held.{read-held, judged-held, held-again}
-use Rattle.gates.proofs.trial.Statement.{statement}
-use Rattle.gates.proofs.trial.Tie as tie
+use Rattle.evaluator.proofs.Running.{Run, start, whole, fits-next, refused, ended}
+use Rattle.evaluator.proofs.Held.{read-held, judged-held, held-again}
+use Rattle.evaluator.proofs.trial.Statement.{statement}
+use Rattle.evaluator.proofs.trial.Tie as tie
 
 abbrev Inv-loop : tie.InvT-loop
 Inv-loop gates inputs scratch₀ values stop i₀ m₀ scratch i m = Run held (bitsOf inputs) gates scratch₀ (length inputs) scratch i m

@@ -14,13 +14,12 @@ use Rattle.words.specs.Booleans.{digit, _⊕_}
 use Rattle.words.specs.Sets.{all}
 use Rattle.words.proofs.Truth.{on}
 use Rattle.words.proofs.Upto.{all-e}
 use Rattle.gates.specs.Gates.{Gate, wire, value, wiresOf}
-use Rattle.gates.specs.Values.{table}
-use Rattle.gates.specs.Memory.{gateOf, gatesOf, drives, accepted, bytesOf, bitsOf}
-use Rattle.gates.specs.Evaluation.{over}
+use Rattle.evaluator.specs.Values.{table}
+use Rattle.gates.specs.Memory.{gateOf, gatesOf, drives, accepted, bytesOf, bitsOf, over}
 use Rattle.gates.proofs.Judging.{drop-three, accepted-at, accepted-uneven, drives-below}
 use Rattle.gates.proofs.Circuits.{wires-length}
 use Rattle.gates.proofs.InMemory.{accepted-length}
 
 bit-digit : (p : Bool) → eqb (digit p) 1 ≡ p
 bit-digit true = refl

@@ -6,10 +6,10 @@ use mathlib.Core.List.{_++_}
 use Prim.Native.Nat.{_≤_, _-_}
 use native.Mathlib.Omega.{arith}
 use lib.ListN.{length, take, drop, length-set}
-use Rattle.gates.specs.Values.{plain}
-use Rattle.gates.proofs.Held.{next-byte, all-bytes, stored-at, stored-length}
-use Rattle.gates.proofs.store_wires.Statement.{statement}
-use Rattle.gates.proofs.store_wires.Tie as tie
+use Rattle.evaluator.specs.Values.{plain}
+use Rattle.evaluator.proofs.Held.{next-byte, all-bytes, stored-at, stored-length}
+use Rattle.evaluator.proofs.store_wires.Statement.{statement}
+use Rattle.evaluator.proofs.store_wires.Tie as tie
 
 abbrev Inv-loop : tie.InvT-loop
 Inv-loop scratch wires₀ count i₀ wires i =

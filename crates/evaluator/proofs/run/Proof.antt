@@ -7,12 +7,12 @@ use Prim.Native.Nat.{ℕ, _≤_, _<_, _-_, _+_}
 use native.Mathlib.Omega.{arith}
 use lib.ListN.{length, getD, take}
 use Rattle.words.proofs.Truth.{and-l}
 use Rattle.gates.specs.Memory.{drives, bytesOf, bitsOf}
 use Rattle.gates.proofs.Judging.{drives-below}
 use Rattle.gates.proofs.InMemory.{bytesOf-bitsOf}
-use Rattle.gates.proofs.Running.{Run, start, whole, fits-next, judged-at, read-bit, again, filled-good}
-use Rattle.gates.proofs.run.Statement.{statement}
-use Rattle.gates.proofs.run.Tie as tie
+use Rattle.evaluator.proofs.Running.{Run, start, whole, fits-next, judged-at, read-bit, again, filled-good}
+use Rattle.evaluator.proofs.run.Statement.{statement}
+use Rattle.evaluator.proofs.run.Tie as tie
 
 abbrev Inv-loop : tie.InvT-loop
 Inv-loop gates wires₀ n values end i₀ m₀ wires i m = Run bytesOf (bitsOf (take n wires₀)) gates wires₀ n wires i m
@@ -60,61 +60,56 @@ mul-kind c = search needs
 shared-slice-read-kind : tie.Need-shared-slice-read-kind Inv-loop μ-loop
 shared-slice-read-kind c = search needs
 
-add-wide : tie.Need-add-wide Inv-loop μ-loop
-add-wide c = let t = turn (c .before) in omega arith
+add-a : tie.Need-add-a Inv-loop μ-loop
+add-a c = let t = turn (c .before) in omega arith
 
-mul-wide : tie.Need-mul-wide Inv-loop μ-loop
-mul-wide c = let t = turn (c .before) in omega arith
+mul-a : tie.Need-mul-a Inv-loop μ-loop
+mul-a c = let t = turn (c .before) in omega arith
 
-shared-slice-read-wide : tie.Need-shared-slice-read-wide Inv-loop μ-loop
-shared-slice-read-wide c = let t = turn (c .before .before) in omega arith
+shared-slice-read-a : tie.Need-shared-slice-read-a Inv-loop μ-loop
+shared-slice-read-a c = let t = turn (c .before .before) in omega arith
 
-wide-requires : tie.Need-wide-requires Inv-loop μ-loop
-wide-requires c κs = search needs
+cast-a : tie.Need-cast-a Inv-loop μ-loop
+cast-a c = omega (arith, c .shared-slice-known3 .given (c .before .before .before .loop .i + 1) .fits)
 
-add-wide-2 : tie.Need-add-wide-2 Inv-loop μ-loop
-add-wide-2 c = let t = turn (c .before .before .before) in omega arith
+add-b : tie.Need-add-b Inv-loop μ-loop
+add-b c = let t = turn (c .before .before) in omega arith
 
-mul-wide-2 : tie.Need-mul-wide-2 Inv-loop μ-loop
-mul-wide-2 c = let t = turn (c .before .before .before) in omega arith
+mul-b : tie.Need-mul-b Inv-loop μ-loop
+mul-b c = let t = turn (c .before .before) in omega arith
 
-shared-slice-read-wide-2 : tie.Need-shared-slice-read-wide-2 Inv-loop μ-loop
-shared-slice-read-wide-2 c = let t = turn (c .before .before .before .before) in omega arith
+shared-slice-read-b : tie.Need-shared-slice-read-b Inv-loop μ-loop
+shared-slice-read-b c = let t = turn (c .before .before .before) in omega arith
 
-wide-requires-2 : tie.Need-wide-requires-2 Inv-loop μ-loop
-wide-requires-2 c κs = search needs
+cast-b : tie.Need-cast-b Inv-loop μ-loop
+cast-b c = omega (arith, c .shared-slice-known4 .given (c .before .before .before .before .loop .i + 2) .fits)
 
 slice-read-gate-value : tie.Need-slice-read-gate-value Inv-loop μ-loop
-slice-read-gate-value c = let t = turn (c .before .before .before .before .before .before .before) in omega (arith, c .before .before .before .before .wide .ensures)
+slice-read-gate-value c = let t = turn (c .before .before .before .before .before) in omega arith
 
 slice-read-gate-value-2 : tie.Need-slice-read-gate-value-2 Inv-loop μ-loop
-slice-read-gate-value-2 c = let t = turn (c .before .before .before .before .before .before .before .before) in omega (arith, c .before .before .before .wide2 .ensures)
+slice-read-gate-value-2 c = let t = turn (c .before .before .before .before .before .before) in omega arith
 
 gate-value-requires : tie.Need-gate-value-requires Inv-loop μ-loop
-gate-value-requires c κs =
-    let t = turn (c .before .before .before .before .before .before .before .before) in
-    let a = c .before .before .before .before .before .wide in
-    let b = c .before .before .before .wide2 in
-    (refl, (t .1, (t .5 (a .result) (omega (arith, a .ensures)), t .5 (b .result) (omega (arith, b .ensures)))))
+gate-value-requires c κs = let t = turn (c .before .before .before .before .before .before) in (refl, (t .1, (t .5 _ (t .2), t .5 _ (t .3))))
 
 slice-write-wires : tie.Need-slice-write-wires Inv-loop μ-loop
-slice-write-wires c = let t = turn (c .before .before .before .before .before .before .before .before .before) in omega arith
+slice-write-wires c = let t = turn (c .before .before .before .before .before .before .before) in omega arith
 
 add-i : tie.Need-add-i Inv-loop μ-loop
-add-i c = let t = turn (c .before .before .before .before .before .before .before .before .before) in omega arith
+add-i c = let t = turn (c .before .before .before .before .before .before .before) in omega arith
 
 add-m : tie.Need-add-m Inv-loop μ-loop
-add-m c = let t = turn (c .before .before .before .before .before .before .before .before .before) in omega arith
+add-m c = let t = turn (c .before .before .before .before .before .before .before) in omega arith
 
 loop-less : tie.Need-loop-less Inv-loop μ-loop
 loop-less c = search needs
 
 loop-again : tie.Need-loop-again Inv-loop μ-loop
 loop-again c =
-    let h = c .before .before .before .before .before .before .before .before .before in
+    let h = c .before .before .before .before .before .before .before in
     let l = h .before in
-    again (l .loop .inv) (l .before .before .before .pre .1 .0) (c .gate-value .result) (omega (arith, h .loop-test .taken)) (drove h)
-    (rw (← (c .before .before .before .before .wide2 .ensures), ← (c .before .before .before .before .before .before .wide .ensures)) (c .gate-value .ensures))
+    again (l .loop .inv) (l .before .before .before .pre .1 .0) (c .gate-value .result) (omega (arith, h .loop-test .taken)) (drove h) (c .gate-value .ensures)
 
 same-length : tie.Need-same-length Inv-loop μ-loop
 same-length c = c .before .loop .inv .size
@@ -135,14 +130,14 @@ run-spec =
     loop-holds
     mul-kind
     shared-slice-read-kind
-    add-wide
-    mul-wide
-    shared-slice-read-wide
-    wide-requires
-    add-wide-2
-    mul-wide-2
-    shared-slice-read-wide-2
-    wide-requires-2
+    add-a
+    mul-a
+    shared-slice-read-a
+    cast-a
+    add-b
+    mul-b
+    shared-slice-read-b
+    cast-b
     slice-read-gate-value
     slice-read-gate-value-2
     gate-value-requires

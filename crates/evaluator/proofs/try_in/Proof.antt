@@ -6,12 +6,12 @@ use mathlib.Core.Bool.{true}
 use native.Mathlib.Omega.{arith}
 use borrow.Author.Tests.{not-true, not-false}
 use lib.ListN.{length}
 use Rattle.gates.specs.Memory.{accepted}
-use Rattle.gates.proofs.Running.{given-so}
-use Rattle.gates.proofs.Held.{loaded, stored}
-use Rattle.gates.proofs.Evaluation.{no-gates, no-room, taken}
-use Rattle.gates.proofs.try_in.Statement.{statement}
-use Rattle.gates.proofs.try_in.Tie as tie
+use Rattle.evaluator.proofs.Running.{given-so}
+use Rattle.evaluator.proofs.Held.{loaded, stored}
+use Rattle.evaluator.proofs.Evaluation.{no-gates, no-room, taken}
+use Rattle.evaluator.proofs.try_in.Statement.{statement}
+use Rattle.evaluator.proofs.try_in.Tie as tie
 
 add-count : tie.Need-add-count
 add-count c = search needs

@@ -6,11 +6,11 @@ use native.Mathlib.Omega.{arith}
 use borrow.Author.Needs.{needs}
 use borrow.Author.Tests.{not-true, not-false}
 use lib.ListN.{length}
 use Rattle.gates.specs.Memory.{gatesOf, accepted, bits}
-use Rattle.gates.proofs.Running.{copied, written}
-use Rattle.gates.proofs.Evaluation.{no-gates, no-room, no-bits, taken}
-use Rattle.gates.proofs.judge_first.Statement.{statement}
-use Rattle.gates.proofs.judge_first.Tie as tie
+use Rattle.evaluator.proofs.Running.{copied, written}
+use Rattle.evaluator.proofs.Evaluation.{no-gates, no-room, no-bits, taken}
+use Rattle.evaluator.proofs.judge_first.Statement.{statement}
+use Rattle.evaluator.proofs.judge_first.Tie as tie
 
 accepted-requires : tie.Need-accepted-requires
 accepted-requires c κs = search needs

@@ -3,8 +3,8 @@
 use mathlib.Core.Path.{sym}
 use Prim.Native.Nat.{ℕ}
 use lib.ListN.{length-replicate}
-use Rattle.gates.proofs.try_out.Statement.{statement}
-use Rattle.gates.proofs.try_out.Tie as tie
+use Rattle.evaluator.proofs.try_out.Statement.{statement}
+use Rattle.evaluator.proofs.try_out.Tie as tie
 
 slice-aggregate-try-in : tie.Need-slice-aggregate-try-in
 slice-aggregate-try-in c = sym (length-replicate {A = ℕ} 204800 0)

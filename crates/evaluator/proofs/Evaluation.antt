@@ -11,11 +11,11 @@ use Rattle.words.specs.Booleans.{digit}
 use Rattle.refusals.specs.declared.Refusal.the-variants.{Gates, Wires}
 use Rattle.refusals.specs.declared.Outcome.the-variants.{Taken, Refused}
 use Rattle.refusals.specs.Checks.{outcome}
 use Rattle.gates.specs.Gates.{Gate, wiresOf}
-use Rattle.gates.specs.Memory.{wordsOf, gatesOf, accepted, bytesOf, bitsOf, bits}
-use Rattle.gates.specs.Evaluation.{checks, over, filled}
+use Rattle.gates.specs.Memory.{wordsOf, gatesOf, accepted, bytesOf, bitsOf, bits, over}
+use Rattle.evaluator.specs.Evaluation.{checks, filled}
 use Rattle.gates.proofs.Circuits.{ordered}
 use Rattle.gates.proofs.InMemory.{words-length, gates-words, accepted-words, bits-bytes, bitsOf-bytesOf}
 
 module _ (g s w : List ℕ) where
   pub no-gates : accepted (length s) g ≡ false → (Refused Gates ≡ outcome (checks g s w)) × (w ≡ filled g s w)

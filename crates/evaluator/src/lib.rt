@@ -1,0 +1,190 @@
+// The evaluator of circuits (document 01, "Circuit"). Turned back: 9, then 10.
+mod values;
+
+ghost use mathlib.Core.Path.{_≡_};
+ghost use mathlib.Core.Bool.{true, cond};
+ghost use mathlib.Core.List.{[], _∷_};
+ghost use Prim.Native.Nat.{_+_, _/_, _≤_, _<_};
+ghost use lib.ListN.{length, take};
+ghost use Rattle.refusals.specs.Checks.{outcome};
+ghost use Rattle.words.specs.Booleans.{digit};
+ghost use Rattle.gates.specs.Gates.{value, wiresOf};
+ghost use Rattle.gates.specs.Memory as Memory;
+ghost use Rattle.evaluator.specs.Evaluation.{checks, filled};
+ghost use Rattle.evaluator.specs.Values.{table, held, plain};
+use refusals::Outcome;
+use refusals::Refusal;
+
+// Fills the front of the wires with the inputs and then each gate's value; later bytes stay as they are. Refused, it changes no byte.
+pub fn evaluate(gates: &[u32], inputs: &[u8], wires: &mut [u8]) -> Outcome
+    ensures { λ r. ⌜ r ≡ outcome (checks (now (gates .entry)) (now (inputs .entry)) (now (wires .entry))) ⌝ }
+    ensures { λ _. ⌜ now (wires .exit) ≡ filled (now (gates .entry)) (now (inputs .entry)) (now (wires .entry)) ⌝ }
+{
+    let end = inputs.len() + gates.len() / 3;
+    // Few wires do not repay the trial's array, and more than 204,800 do not fit in it: the giant step's largest circuit has 197,347.
+    if 8192 <= end && end <= 204800 && bits(inputs) {
+        return try_out(gates, inputs, wires);
+    }
+    judge_first(gates, inputs, wires)
+}
+
+// Tries the gates out in an array of its own.
+fn try_out(gates: &[u32], inputs: &[u8], wires: &mut [u8]) -> Outcome
+    requires { ⌜ length (now inputs) + length (now gates) / 3 ≤ 204800 ⌝ }
+    requires { ⌜ Memory.bits (now inputs) ≡ true ⌝ }
+    ensures { λ r. ⌜ r ≡ outcome (checks (now (gates .entry)) (now (inputs .entry)) (now (wires .entry))) ⌝ }
+    ensures { λ _. ⌜ now (wires .exit) ≡ filled (now (gates .entry)) (now (inputs .entry)) (now (wires .entry)) ⌝ }
+{
+    let mut own = [0u8; 204800];
+    try_in(gates, inputs, &mut own, wires)
+}
+
+// Evaluates in a scratch buffer, judging each gate in passing, then gives the wires out: the gates are read once.
+fn try_in(gates: &[u32], inputs: &[u8], scratch: &mut [u8], wires: &mut [u8]) -> Outcome
+    requires { ⌜ length (now inputs) + length (now gates) / 3 ≤ length (now scratch) ⌝ }
+    requires { ⌜ Memory.bits (now inputs) ≡ true ⌝ }
+    ensures { λ r. ⌜ r ≡ outcome (checks (now (gates .entry)) (now (inputs .entry)) (now (wires .entry))) ⌝ }
+    ensures { λ _. ⌜ now (wires .exit) ≡ filled (now (gates .entry)) (now (inputs .entry)) (now (wires .entry)) ⌝ }
+{
+    let n = inputs.len();
+    let count = n + gates.len() / 3;
+    load_inputs(inputs, scratch);
+    if !trial(gates, inputs, scratch) {
+        return Outcome::Refused(Refusal::Gates);
+    }
+    if wires.len() < count {
+        return Outcome::Refused(Refusal::Wires);
+    }
+    store_wires(scratch, wires, count);
+    Outcome::Taken
+}
+
+// Loads the inputs as the trial holds them: 2 more than the byte, and wire 0 as it is.
+fn load_inputs(inputs: &[u8], scratch: &mut [u8])
+    requires { ⌜ length (now inputs) ≤ length (now scratch) ⌝ }
+    requires { ⌜ Memory.bits (now inputs) ≡ true ⌝ }
+    ensures { λ _. ⌜ now (scratch .exit) ≡ Memory.over (held (Memory.bitsOf (now (inputs .entry)))) (now (scratch .entry)) ⌝ }
+{
+    if inputs.len() == 0 {
+        return;
+    }
+    scratch[0] = inputs[0];
+    let mut i = 1;
+    while i < inputs.len() {
+        scratch[i] = inputs[i] + 2;
+        i += 1;
+    }
+}
+
+// Whether the words are gates behind the inputs, which are loaded; if so, runs them.
+fn trial(gates: &[u32], inputs: &[u8], scratch: &mut [u8]) -> bool
+    requires { ⌜ length (now inputs) + length (now gates) / 3 ≤ length (now scratch) ⌝ }
+    requires { ⌜ take (length (now inputs)) (now scratch) ≡ held (Memory.bitsOf (now inputs)) ⌝ }
+    ensures { λ r. ⌜ r ≡ Memory.accepted (length (now (inputs .entry))) (now (gates .entry)) ⌝ }
+    ensures { λ r. ⌜ cond r (now (scratch .exit)) [] ≡ cond r (Memory.over (held (wiresOf (Memory.bitsOf (now (inputs .entry))) (Memory.gatesOf (now (gates .entry))))) (now (scratch .entry))) [] ⌝ }
+{
+    let values = values::HELD;
+    let stop = inputs.len() + gates.len() / 3;
+    let mut i = 0;
+    let mut m = inputs.len();
+    while m < stop {
+        let kind = gates[i] as usize;
+        let a = gates[i + 1] as usize;
+        let b = gates[i + 2] as usize;
+        if m <= a {
+            return false;
+        }
+        if m <= b {
+            return false;
+        }
+        // A known kind, and wire 0 behind INV: only it is held below 2. One test for both spares a jump.
+        let u = 4 * kind + (scratch[b] as usize);
+        if 10 <= u {
+            return false;
+        }
+        scratch[m] = values[4 * u + (scratch[a] as usize)];
+        i += 3;
+        m += 1;
+    }
+    gates.len() % 3 == 0
+}
+
+// Stores so many wires' values: the held bytes without their 2.
+fn store_wires(scratch: &[u8], wires: &mut [u8], count: usize)
+    requires { ⌜ count ≤ length (now scratch) ⌝ }
+    requires { ⌜ count ≤ length (now wires) ⌝ }
+    ensures { λ _. ⌜ now (wires .exit) ≡ Memory.over (plain (take count (now (scratch .entry)))) (now (wires .entry)) ⌝ }
+{
+    let mut i = 0;
+    while i < count {
+        wires[i] = scratch[i] % 2;
+        i += 1;
+    }
+}
+
+// Judges all gates, then evaluates in place.
+fn judge_first(gates: &[u32], inputs: &[u8], wires: &mut [u8]) -> Outcome
+    ensures { λ r. ⌜ r ≡ outcome (checks (now (gates .entry)) (now (inputs .entry)) (now (wires .entry))) ⌝ }
+    ensures { λ _. ⌜ now (wires .exit) ≡ filled (now (gates .entry)) (now (inputs .entry)) (now (wires .entry)) ⌝ }
+{
+    let n = inputs.len();
+    if !gates::accepted(gates, n) {
+        return Outcome::Refused(Refusal::Gates);
+    }
+    if wires.len() < n + gates.len() / 3 {
+        return Outcome::Refused(Refusal::Wires);
+    }
+    if !bits(inputs) {
+        return Outcome::Refused(Refusal::Wires);
+    }
+    bytes::copy(inputs, wires);
+    run(gates, wires, n);
+    Outcome::Taken
+}
+
+// Whether each byte is 0 or 1.
+fn bits(bytes: &[u8]) -> bool
+    ensures { λ r. ⌜ r ≡ Memory.bits (now (bytes .entry)) ⌝ }
+{
+    let mut i = 0;
+    while i < bytes.len() {
+        if 1 < bytes[i] {
+            return false;
+        }
+        i += 1;
+    }
+    true
+}
+
+// The value of a gate of this kind on two wires.
+fn gate_value(values: &[u8; 12], kind: u32, a: u8, b: u8) -> u8
+    requires { ⌜ now values ≡ table ⌝ }
+    requires { ⌜ kind < 3 ⌝ }
+    requires { ⌜ (a < 2) × (b < 2) ⌝ }
+    ensures { λ r. ⌜ r ≡ digit (value (Memory.bitsOf (a ∷ (b ∷ []))) (Memory.gateOf kind 0 1)) ⌝ }
+{
+    let at = 2 * (2 * (kind as usize) + (a as usize)) + (b as usize);
+    values[at]
+}
+
+// Runs accepted gates behind the first n wires.
+fn run(gates: &[u32], wires: &mut [u8], n: usize)
+    requires { ⌜ Memory.accepted n (now gates) ≡ true ⌝ }
+    requires { ⌜ n + length (now gates) / 3 ≤ length (now wires) ⌝ }
+    requires { ⌜ Memory.bits (take n (now wires)) ≡ true ⌝ }
+    ensures { λ _. ⌜ now (wires .exit) ≡ Memory.over (Memory.bytesOf (wiresOf (Memory.bitsOf (take n (now (wires .entry)))) (Memory.gatesOf (now (gates .entry))))) (now (wires .entry)) ⌝ }
+{
+    let values = values::PLAIN;
+    let end = n + gates.len() / 3;
+    let mut i = 0;
+    let mut m = n;
+    while m < end {
+        let kind = gates[i];
+        let a = gates[i + 1] as usize;
+        let b = gates[i + 2] as usize;
+        let v = gate_value(&values, kind, wires[a], wires[b]);
+        wires[m] = v;
+        i += 3;
+        m += 1;
+    }
+}
