@@ -17,7 +17,7 @@ use Rattle.refusals.specs.declared.Refusal.the-variants.{Variables, RowCount, G
 use Rattle.refusals.specs.declared.Outcome.{Outcome}
 use Rattle.refusals.specs.declared.Outcome.the-variants.{Taken, Refused}
 use Rattle.refusals.specs.Checks.{check, outcome, given}
-use Rattle.refusals.proofs.Outcomes.{outcome-taken, outcome-refused, unless-passed, unless-taken}
+use Rattle.refusals.proofs.Outcomes.{outcome-taken, outcome-refused, check-passed, checks-taken}
 use Rattle.dimensions.specs.declared.Dimensions.{Dimensions}
 use Rattle.dimensions.specs.Sizes.{outside, sizeChecks, inputWires}
 use Rattle.gates.specs.Memory.{gatesOf, accepted, over}
@@ -48,7 +48,7 @@ module _ (d : Dimensions) (ws : List ℕ) where
   taken-accepted e =
       let gates = cond (not (accepted (inputWires d) ws)) (Refused Gates) Taken in
       let rows = cond (outside 128 (d .left) || outside 128 (d .right)) (Refused RowCount) gates in
-      not-false _ (unless-passed (not (accepted (inputWires d) ws)) Gates Taken (unless-taken (outside 128 (d .left) || outside 128 (d .right)) RowCount gates (unless-taken (outside 32 (d .n)) Variables rows e)))
+      not-false _ (check-passed (not (accepted (inputWires d) ws)) Gates Taken (checks-taken (outside 128 (d .left) || outside 128 (d .right)) RowCount gates (checks-taken (outside 32 (d .n)) Variables rows e)))
 
   module _ (i : ℕ) (lent : List ℕ) where
     -- what an outcome of the checks leads to

@@ -13,7 +13,7 @@ use Rattle.refusals.specs.declared.Refusal.the-variants.{Variables, RowCount, G
 use Rattle.refusals.specs.declared.Outcome.{Outcome}
 use Rattle.refusals.specs.declared.Outcome.the-variants.{Taken, Refused as Not}
 use Rattle.refusals.specs.Checks.{outcome, given}
-use Rattle.refusals.proofs.Outcomes.{unless-passed, unless-taken}
+use Rattle.refusals.proofs.Outcomes.{check-passed, checks-taken}
 use Rattle.dimensions.specs.declared.Dimensions.{Dimensions}
 use Rattle.dimensions.specs.Sizes.{outside, ceiling}
 use Rattle.text.specs.declared.Text.{Text}
@@ -42,9 +42,9 @@ generated-within d words k e = omega (arith, ap countOf e, go (outcome (generato
   where
     go : (o : Outcome) → outcome (generatorChecks d words) ≡ o → 3 * countOf (given o (generated′.Of (length (gatesOn d))) generated′.Refused) ≤ length words
     go Taken h =
-        let rows = unless-taken (outside 32 (d .n)) Variables _ h in
-        let room = unless-taken (outside 128 (d .left) || outside 128 (d .right)) RowCount _ rows in
-        omega (arith, gates-length (d .n) (d .left) (d .right), ltb-false (length words) (3 * ceiling d) (unless-passed (ltb (length words) (3 * ceiling d)) GateBuffer Taken room))
+        let rows = checks-taken (outside 32 (d .n)) Variables _ h in
+        let room = checks-taken (outside 128 (d .left) || outside 128 (d .right)) RowCount _ rows in
+        omega (arith, gates-length (d .n) (d .left) (d .right), ltb-false (length words) (3 * ceiling d) (check-passed (ltb (length words) (3 * ceiling d)) GateBuffer Taken room))
     go (Not r) h = zero-le
 
 -- and the words that it leaves are no fewer

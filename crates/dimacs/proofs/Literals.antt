@@ -10,7 +10,7 @@ use lib.Dec.{eqb, ltb}
 use lib.Pow.{pow-pos}
 use borrow.Author.Tests.{lt-ltb, ltb-true, eqb-true}
 use Rattle.words.specs.Sets.{bit}
-use Rattle.words.proofs.Truth.{on, and-l, and-r, and-i}
+use Rattle.words.proofs.Truth.{on, and-l, and-r, and-i, same}
 use Rattle.words.proofs.Bits.{bit-zero, bit-put, put-lt}
 use Rattle.words.proofs.Operations.{bit-ext}
 use Rattle.dimacs.specs.Rows.{Literal, withLiteral, rowOf}
@@ -21,10 +21,6 @@ use Rattle.dimacs.specs.declared.clauses.Row.{Row}
 abbrev pub wordFor : Bool → Row → ℕ
 wordFor false r = r .positive
 wordFor true r = r .negative
-
-abbrev same : Bool → Bool → Bool
-same true b = b
-same false b = not b
 
 -- whether a clause holds variable i + 1 in a sign
 abbrev pub holds : Bool → ℕ → List Literal → Bool

@@ -15,6 +15,7 @@ gateOf zero a b = XOR a b
 gateOf (suc zero) a b = AND a b
 gateOf (suc (suc k)) a b = INV a
 
+-- the gates of words, three each
 unfoldable pub gatesOf : List ℕ → List Gate
 gatesOf [] = []
 gatesOf (k ∷ []) = []

@@ -10,6 +10,7 @@ gateWords (XOR a b) = 0 ∷ (a ∷ (b ∷ []))
 gateWords (AND a b) = 1 ∷ (a ∷ (b ∷ []))
 gateWords (INV a) = 2 ∷ (a ∷ (0 ∷ []))
 
+-- the words of gates
 unfoldable pub wordsOf : List Gate → List ℕ
 wordsOf [] = []
 wordsOf (g ∷ gs) = gateWords g ++ wordsOf gs

@@ -15,7 +15,7 @@ use Rattle.refusals.specs.declared.Refusal.the-variants.{Variables, RowCount, G
 use Rattle.refusals.specs.declared.Outcome.{Outcome}
 use Rattle.refusals.specs.declared.Outcome.the-variants.{Taken, Refused as Not}
 use Rattle.refusals.specs.Checks.{Check, check, outcome, given}
-use Rattle.refusals.proofs.Outcomes.{outcome-taken, outcome-refused, unless-passed, unless-taken}
+use Rattle.refusals.proofs.Outcomes.{outcome-taken, outcome-refused, check-passed, checks-taken}
 use Rattle.words.proofs.Truth.{or-l, or-r}
 use Rattle.dimensions.specs.declared.Dimensions.{Dimensions}
 use Rattle.dimensions.specs.Sizes.{outside, sizeChecks, ceiling}
@@ -32,8 +32,8 @@ use Rattle.netlist.proofs.Counts.{circuit-length, gates-length}
 -- n and the rows of dimensions that are taken
 pub small : (n left right : ℕ) → outcome (sizeChecks n left right) ≡ Taken → (n ≤ 32) × (left + right ≤ 256)
 small n left right e =
-    let n-in = unless-passed (outside 32 n) Variables _ e in
-    let rows-in = unless-passed (outside 128 left || outside 128 right) RowCount _ (unless-taken (outside 32 n) Variables _ e) in
+    let n-in = check-passed (outside 32 n) Variables _ e in
+    let rows-in = check-passed (outside 128 left || outside 128 right) RowCount _ (checks-taken (outside 32 n) Variables _ e) in
     let l = ltb-false 128 left (or-r (ltb left 1) (ltb 128 left) (or-l (outside 128 left) (outside 128 right) rows-in)) in
     let r = ltb-false 128 right (or-r (ltb right 1) (ltb 128 right) (or-r (outside 128 left) (outside 128 right) rows-in)) in
     (ltb-false 32 n (or-r (ltb n 1) (ltb 32 n) n-in), omega arith)

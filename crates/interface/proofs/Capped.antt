@@ -12,7 +12,7 @@ use Rattle.refusals.specs.declared.Refusal.{Refusal}
 use Rattle.refusals.specs.declared.Refusal.the-variants.{Variables, RowCount}
 use Rattle.refusals.specs.declared.Outcome.{Outcome}
 use Rattle.refusals.specs.declared.Outcome.the-variants.{Taken, Refused}
-use Rattle.refusals.proofs.Outcomes.{unless-passed, unless-taken}
+use Rattle.refusals.proofs.Outcomes.{check-passed, checks-taken}
 use Rattle.dimensions.specs.declared.Dimensions.{Dimensions}
 use Rattle.dimensions.specs.Sizes.{outside, sizeChecks}
 use Rattle.dimensions.proofs.Limits.{most}
@@ -53,9 +53,9 @@ module _ (n left right : ℕ) where
 
   pub taken-held : outcome (sizeChecks n left right) ≡ Taken → capped ≡ dimensions n left right
   taken-held e =
-      let rows : outside 128 left || outside 128 right ≡ false = unless-passed _ RowCount Taken (unless-taken (outside 32 n) Variables _ e) in
+      let rows : outside 128 left || outside 128 right ≡ false = check-passed _ RowCount Taken (checks-taken (outside 32 n) Variables _ e) in
       λ i. record {
-        n = inside-held 32 n (omega arith) (unless-passed (outside 32 n) Variables _ e) i;
+        n = inside-held 32 n (omega arith) (check-passed (outside 32 n) Variables _ e) i;
         left = inside-held 128 left (omega arith) (or-l (outside 128 left) _ rows) i;
         right = inside-held 128 right (omega arith) (or-r (outside 128 left) _ rows) i;
       }

@@ -1,4 +1,4 @@
--- The code's answers against the definitions.
+-- What the crate's functions answer, by the definitions: a kind as a test of bytes, and the first of some pieces.
 use Prim.Native.Nat.{ℕ}
 use mathlib.Core.Bool.{Bool}
 use mathlib.Core.List.{List, [], _∷_}

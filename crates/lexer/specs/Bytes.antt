@@ -17,6 +17,7 @@ isTail b = isBlank b || eqb b 13
 abbrev pub isSeparator : ℕ → Bool
 isSeparator b = isTail b || eqb b 10
 
+-- an LF
 abbrev pub isLineFeed : ℕ → Bool
 isLineFeed b = eqb b 10
 

@@ -14,18 +14,21 @@ pub enum Kind {
     LineFeed,
 }
 
+// Whether the byte is a space or a tab.
 fn is_blank(b: u8) -> bool
     ensures { λ r. ⌜ r ≡ isBlank b ⌝ }
 {
     b == b' ' || b == b'\t'
 }
 
+// Whether the byte is blank or CR.
 fn is_tail(b: u8) -> bool
     ensures { λ r. ⌜ r ≡ isTail b ⌝ }
 {
     is_blank(b) || b == b'\r'
 }
 
+// Whether the byte stands between tokens.
 fn is_separator(b: u8) -> bool
     ensures { λ r. ⌜ r ≡ isSeparator b ⌝ }
 {

@@ -1,7 +1,7 @@
 -- Lines of document 01 and what stands just beside them, computed.
 -- Assumes nothing.
 use mathlib.Core.Path.{_≡_, refl}
-use Prim.Native.Nat.{ℕ, _-_, _^_}
+use Prim.Native.Nat.{_-_, _^_}
 use Prim.Native.String.{String}
 use Rattle.refusals.specs.declared.Refusal.the-variants.{NumberLine}
 use Rattle.lexer.specs.Spelling.{bytes}

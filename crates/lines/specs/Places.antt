@@ -21,10 +21,11 @@ placeOf line malformed = Malformed
 abbrev pub placeAt : List ℕ → ℕ → ℕ → Place
 placeAt line at closing = placeOf line (fieldOf closing (drop at line))
 
--- what a line's fields lead to, one at a time
+-- what the budget line's one field leads to
 abbrev pub budgetFrom : List ℕ → Field → Budget
 budgetFrom input f = onField f (budget.Refused NumberLine) (λ v rest. cond (short input rest) (budget.Of v) (budget.Refused NumberLine))
 
+-- what the dimension line comes to by its third field, and by the fields before it
 abbrev pub thirdFrom : List ℕ → ℕ → ℕ → Field → Size
 thirdFrom input n left f = onField f (size.Refused NumberLine) (λ right rest. cond (short input rest) (size.Of n left right) (size.Refused NumberLine))
 

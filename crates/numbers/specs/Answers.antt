@@ -1,4 +1,4 @@
--- The code's answers against the definitions.
+-- What the crate's functions answer, by the definitions: values are held up to 1000.
 use Prim.Native.Nat.{ℕ, min}
 use mathlib.Core.Bool.{Bool, false}
 use mathlib.Core.List.{List, [], _∷_}
@@ -20,10 +20,12 @@ leadingZero (b ∷ (d ∷ ds)) = eqb b 48
 abbrev pub held : ℕ → ℕ
 held v = min v 1000
 
+-- digits, or none
 abbrev pub digitsHeld : Option ℕ → Digits
 digitsHeld (some v) = D.Value (held v)
 digitsHeld none = D.Malformed
 
+-- a number, or malformed
 abbrev pub numberHeld : N.Number → Number
 numberHeld (N.number s v) = Value s (held v)
 numberHeld N.malformed = Malformed

@@ -5,6 +5,7 @@ use mathlib.Core.List.{List, [], _∷_}
 use mathlib.Core.Option.{Option, none, some}
 use lib.Dec.{eqb, leb}
 
+-- 0 to 9
 abbrev pub isDigit : ℕ → Bool
 isDigit b = leb 48 b && leb b 57
 
@@ -24,6 +25,7 @@ decimalOf [] = none
 decimalOf (b ∷ []) = digitsAfter 0 (b ∷ [])
 decimalOf (b ∷ (d ∷ ds)) = cond (eqb b 48) none (digitsAfter 0 (b ∷ (d ∷ ds)))
 
+-- a number without a minus
 abbrev pub positive : Option ℕ → Number
 positive (some v) = number false v
 positive none = malformed

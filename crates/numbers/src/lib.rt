@@ -12,6 +12,7 @@ pub enum Number {
     Malformed,
 }
 
+// The value of a row of digits, or none.
 enum Digits {
     Value(u32),
     Malformed,
@@ -34,6 +35,7 @@ pub fn is_digit(b: u8) -> bool
     b'0' <= b && b <= b'9'
 }
 
+// Whether a 0 stands before another digit.
 fn leading_zero(word: &[u8]) -> bool
     ensures { λ r. ⌜ r ≡ leadingZero (now (word .entry)) ⌝ }
 {

@@ -14,13 +14,13 @@ pub refused-taken : {r : Refusal} → Refused r ≡ Taken → ⊥
 refused-taken e = let z : _≡_ {A = ℕ} 0 1 = cc in omega arith
 
 -- a check that is passed, and what follows it
-pub unless-passed : (b : Bool) (r : Refusal) (o : Outcome) → cond b (Refused r) o ≡ Taken → b ≡ false
-unless-passed true r o e = absurd (refused-taken e)
-unless-passed false r o e = refl
+pub check-passed : (b : Bool) (r : Refusal) (o : Outcome) → cond b (Refused r) o ≡ Taken → b ≡ false
+check-passed true r o e = absurd (refused-taken e)
+check-passed false r o e = refl
 
-pub unless-taken : (b : Bool) (r : Refusal) (o : Outcome) → cond b (Refused r) o ≡ Taken → o ≡ Taken
-unless-taken true r o e = absurd (refused-taken e)
-unless-taken false r o e = e
+pub checks-taken : (b : Bool) (r : Refusal) (o : Outcome) → cond b (Refused r) o ≡ Taken → o ≡ Taken
+checks-taken true r o e = absurd (refused-taken e)
+checks-taken false r o e = e
 
 -- where the first checks are passed, the others decide
 pub outcome-taken : (xs ys : List Check) → outcome xs ≡ Taken → outcome (xs ++ ys) ≡ outcome ys

@@ -12,7 +12,7 @@ use Rattle.refusals.specs.declared.Outcome.the-variants.{Taken, Refused}
 use Rattle.refusals.specs.declared.Refusal.{Refusal}
 use Rattle.refusals.specs.declared.Refusal.the-variants.{OtherVariables, NoModel}
 use Rattle.refusals.specs.declared.Refusal.the-variants as refusal
-use Rattle.refusals.proofs.Outcomes.{outcome-taken, outcome-refused, unless-passed, unless-taken, refused-taken}
+use Rattle.refusals.proofs.Outcomes.{outcome-taken, outcome-refused, check-passed, checks-taken, refused-taken}
 use Rattle.tables.specs.Acceptance.{tableChecks}
 use Rattle.tables.specs.Rows.{rowsOf}
 use Rattle.dimensions.specs.declared.Dimensions.{Dimensions}
@@ -52,10 +52,10 @@ module _ (d : Dimensions) (left right : List ℕ) (run : Run) where
       go : (o : Outcome) → outcome (tableChecks d left right) ≡ o → Passed
       go Taken q =
           let s : outcome (stateChecks d run) ≡ Taken = state-decides (sym q) ∙ sym e in
-          let s₁ = unless-taken (not (wellFormed run)) refusal.State _ s in record {
+          let s₁ = checks-taken (not (wellFormed run)) refusal.State _ s in record {
             tables = q;
-            formed = not-false (wellFormed run) (unless-passed (not (wellFormed run)) refusal.State _ s);
-            same = eqb-true (run .n) (d .n) (not-false (eqb (run .n) (d .n)) (unless-passed (not (eqb (run .n) (d .n))) OtherVariables _ s₁));
+            formed = not-false (wellFormed run) (check-passed (not (wellFormed run)) refusal.State _ s);
+            same = eqb-true (run .n) (d .n) (not-false (eqb (run .n) (d .n)) (check-passed (not (eqb (run .n) (d .n))) OtherVariables _ s₁));
           }
       go (Refused r) q = absurd (refused-taken (refuse-tables r (sym q) ∙ sym e))
 

@@ -5,7 +5,6 @@ use mathlib.Core.Bool.{true, false, _||_}
 use mathlib.Core.List.{List, [], _∷_}
 use Prim.Native.Nat.{ℕ, _+_, _*_, _^_, _≤_, _<_}
 use native.Mathlib.Omega.{arith}
-use lib.Dec.{ltb}
 use lib.ListN.{length, getD, take}
 use lib.Seq.{getD-take, length-take-le}
 use borrow.Author.Tests.{ltb-false, not-false}
@@ -13,11 +12,10 @@ use Rattle.refusals.specs.Checks.{Check, check, outcome}
 use Rattle.refusals.specs.declared.Outcome.the-variants.{Taken, Refused}
 use Rattle.refusals.specs.declared.Refusal.{Refusal}
 use Rattle.refusals.specs.declared.Refusal.the-variants.{Variables, RowCount, RowBit, RowBuffer}
-use Rattle.refusals.proofs.Outcomes.{outcome-taken, outcome-refused, unless-passed, unless-taken}
+use Rattle.refusals.proofs.Outcomes.{outcome-taken, outcome-refused, check-passed, checks-taken}
 use Rattle.words.proofs.Truth.{or-l, or-r}
 use Rattle.dimensions.specs.declared.Dimensions.{Dimensions}
 use Rattle.dimensions.specs.Sizes.{outside, sizeChecks}
-use Rattle.tables.specs.Rows.{rowAt}
 use Rattle.tables.specs.Acceptance.{allBelow, short, high, tableChecks}
 use Rattle.dimensions.proofs.Limits.{least, most}
 use Rattle.tables.proofs.Tables.{below-at}
@@ -69,13 +67,13 @@ words-below n rows words h e i b = rw (getD-take (2 * rows) words i 0 b) at (bel
 
 pub accepted : (d : Dimensions) (left right : List ℕ) → outcome (tableChecks d left right) ≡ Taken → Accepted d left right
 accepted d left right e =
-    let n-in = unless-passed (outside 32 (d .n)) Variables _ e in
-    let e₁ = unless-taken (outside 32 (d .n)) Variables _ e in
-    let rows-in = unless-passed (outside 128 (d .left) || outside 128 (d .right)) RowCount _ e₁ in
-    let e₂ = unless-taken (outside 128 (d .left) || outside 128 (d .right)) RowCount _ e₁ in
-    let long = unless-passed (short (d .left) left || short (d .right) right) RowBuffer _ e₂ in
-    let e₃ = unless-taken (short (d .left) left || short (d .right) right) RowBuffer _ e₂ in
-    let low = unless-passed (high (d .n) (d .left) left || high (d .n) (d .right) right) RowBit _ e₃ in
+    let n-in = check-passed (outside 32 (d .n)) Variables _ e in
+    let e₁ = checks-taken (outside 32 (d .n)) Variables _ e in
+    let rows-in = check-passed (outside 128 (d .left) || outside 128 (d .right)) RowCount _ e₁ in
+    let e₂ = checks-taken (outside 128 (d .left) || outside 128 (d .right)) RowCount _ e₁ in
+    let long = check-passed (short (d .left) left || short (d .right) right) RowBuffer _ e₂ in
+    let e₃ = checks-taken (short (d .left) left || short (d .right) right) RowBuffer _ e₂ in
+    let low = check-passed (high (d .n) (d .left) left || high (d .n) (d .right) right) RowBit _ e₃ in
     let left-in = or-l (outside 128 (d .left)) (outside 128 (d .right)) rows-in in
     let right-in = or-r (outside 128 (d .left)) (outside 128 (d .right)) rows-in in
     let l : 2 * d .left ≤ length left = ltb-false (length left) (2 * d .left) (or-l (short (d .left) left) (short (d .right) right) long) in
@@ -92,10 +90,3 @@ accepted d left right e =
       left-words = words-below (d .n) (d .left) left l (or-l (high (d .n) (d .left) left) (high (d .n) (d .right) right) low);
       right-words = words-below (d .n) (d .right) right r (or-r (high (d .n) (d .left) left) (high (d .n) (d .right) right) low);
     }
-
--- the words of a row
-pub row-positive : (words : List ℕ) (n rows i : ℕ) → ((j : ℕ) → j < 2 * rows → getD words j 0 < 2 ^ n) → i < rows → rowAt words i .positive < 2 ^ n
-row-positive words n rows i h b = h (2 * i) (omega arith)
-
-pub row-negative : (words : List ℕ) (n rows i : ℕ) → ((j : ℕ) → j < 2 * rows → getD words j 0 < 2 ^ n) → i < rows → rowAt words i .negative < 2 ^ n
-row-negative words n rows i h b = h (2 * i + 1) (omega arith)

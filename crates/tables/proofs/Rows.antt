@@ -9,7 +9,7 @@ use Rattle.words.proofs.Upto.{any-none, any-or, any-width, count-or, count-cong
 use Rattle.words.proofs.Operations.{bit-high}
 use Rattle.words.proofs.WordOf.{wordOf-width}
 use Rattle.tables.specs.declared.Row.{Row}
-use Rattle.tables.specs.Rows.{padding, satisfied, free, holds, freeIn, freeLiterals, judged}
+use Rattle.tables.specs.Rows.{padding, satisfied, free, holds, freeIn, freeLiterals}
 
 -- the variable satisfies the row: it stands in both words, or is set as the row holds it
 abbrev pub satisfies : Row → ℕ → ℕ → ℕ → Bool
@@ -25,10 +25,6 @@ module _ (n : ℕ) (r : Row) (t f : ℕ) where
 
   pub unsatisfied-none : satisfied n r t f ≡ false → (i : ℕ) → i < n → satisfies r t f i ≡ false
   unsatisfied-none e = any-none (λ i. satisfies r t f i) n (sym satisfied-any ∙ e)
-
-  pub padding-satisfied : padding n r ≡ true → satisfied n r t f ≡ true
-  unfolding satisfied
-  padding-satisfied e = rw e
 
   pub unsatisfied-padding : satisfied n r t f ≡ false → padding n r ≡ false
   unfolding satisfied
@@ -80,6 +76,3 @@ module _ (n k : ℕ) (r : Row) (t f : ℕ) (h : n ≤ k) (hp : r .positive < 2 ^
   variables-width =
       wordOf-width (λ i. freeIn r t f i) n k h
       (λ i b. and-none (free t f i) (holds r i) (ap₂ _||_ (none-positive i b) (none-negative i b)))
-
-  pub judged-width : judged k r t f ≡ judged n r t f
-  judged-width = cc (satisfied-width, literals-width, variables-width)

@@ -13,7 +13,7 @@ use Rattle.refusals.specs.declared.Outcome.the-variants.{Taken, Refused}
 use Rattle.refusals.specs.declared.Refusal.{Refusal}
 use Rattle.refusals.specs.declared.Refusal.the-variants.{Variables, Wires, OtherVariables}
 use Rattle.refusals.specs.declared.Refusal.the-variants as refusal
-use Rattle.refusals.proofs.Outcomes.{outcome-taken, outcome-refused, unless-passed, unless-taken, refused-taken}
+use Rattle.refusals.proofs.Outcomes.{outcome-taken, outcome-refused, check-passed, checks-taken, refused-taken}
 use Rattle.words.proofs.Truth.{on}
 use Rattle.dimensions.specs.declared.Dimensions.{Dimensions}
 use Rattle.dimensions.specs.Sizes.{outside, stateWires, inputWires}
@@ -58,11 +58,11 @@ pub record Passed (d : Dimensions) (left right : List ℕ) (run : Run) (room : �
 -- the run passed its checks
 module _ (d : Dimensions) (run : Run) where
   pub state-formed : outcome (stateChecks d run) ≡ Taken → wellFormed run ≡ true
-  state-formed e = not-false (wellFormed run) (unless-passed (not (wellFormed run)) refusal.State _ e)
+  state-formed e = not-false (wellFormed run) (check-passed (not (wellFormed run)) refusal.State _ e)
 
   state-same : outcome (stateChecks d run) ≡ Taken → run .n ≡ d .n
   state-same e =
-      eqb-true (run .n) (d .n) (not-false (eqb (run .n) (d .n)) (unless-passed (not (eqb (run .n) (d .n))) OtherVariables _ (unless-taken (not (wellFormed run)) refusal.State _ e)))
+      eqb-true (run .n) (d .n) (not-false (eqb (run .n) (d .n)) (check-passed (not (eqb (run .n) (d .n))) OtherVariables _ (checks-taken (not (wellFormed run)) refusal.State _ e)))
 
   -- a run of n that is refused is not well-formed
   pub state-malformed : run .n ≡ d .n → (r : Refusal) → outcome (stateChecks d run) ≡ Refused r → wellFormed run ≡ false
@@ -75,9 +75,9 @@ passed d left right run room e = go (outcome (tableChecks d left right)) refl
     go (Refused r) q = absurd (refused-taken (refuse-tables d left right run room r q ∙ e))
     go Taken q =
         let k = sym (rest d left right run room q) ∙ e in
-        let s = unless-taken (ltb room (inputWires d)) Wires _ k in record {
+        let s = checks-taken (ltb room (inputWires d)) Wires _ k in record {
           tables = accepted d left right q;
-          enough = ltb-false room (inputWires d) (unless-passed (ltb room (inputWires d)) Wires _ k);
+          enough = ltb-false room (inputWires d) (check-passed (ltb room (inputWires d)) Wires _ k);
           formed = state-formed d run s;
           same = state-same d run s;
         }

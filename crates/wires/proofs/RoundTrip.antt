@@ -15,7 +15,7 @@ use Rattle.refusals.specs.declared.Outcome.{Outcome}
 use Rattle.refusals.specs.declared.Outcome.the-variants.{Taken, Refused}
 use Rattle.refusals.specs.declared.Refusal.the-variants.{Variables, Wires}
 use Rattle.refusals.specs.declared.Refusal.the-variants as refusal
-use Rattle.refusals.proofs.Outcomes.{unless-passed, unless-taken, refused-taken}
+use Rattle.refusals.proofs.Outcomes.{check-passed, checks-taken, refused-taken}
 use Rattle.words.specs.Booleans.{digit}
 use Rattle.words.proofs.Truth.{and-l, and-r, and-i}
 use Rattle.dimensions.specs.declared.Dimensions.{Dimensions}
@@ -110,11 +110,11 @@ module _ (n : ℕ) (bytes : List ℕ) where
   pub read-held : readBack n bytes .outcome ≡ Taken → Held n bytes (readBack n bytes .run)
   read-held e =
       let t = taken (outcome (readChecks n bytes)) refl e in
-      let t₁ = unless-taken (outside 32 n) Variables _ t in
-      let t₂ = unless-taken (ltb (length bytes) (stateWires n)) Wires _ t₁ in
-      let k : holdsState n bytes ≡ true = not-false (holdsState n bytes) (unless-passed (not (holdsState n bytes)) refusal.State _ t₂) in
+      let t₁ = checks-taken (outside 32 n) Variables _ t in
+      let t₂ = checks-taken (ltb (length bytes) (stateWires n)) Wires _ t₁ in
+      let k : holdsState n bytes ≡ true = not-false (holdsState n bytes) (check-passed (not (holdsState n bytes)) refusal.State _ t₂) in
       let q : readBack n bytes .run ≡ runIn n bytes =
-      ap (λ (r : Read). r .run) (sym (read-taken n bytes (unless-passed (outside 32 n) Variables _ t) (ltb-false (length bytes) (stateWires n) (unless-passed (ltb (length bytes) (stateWires n)) Wires _ t₁)) k)) in
+      ap (λ (r : Read). r .run) (sym (read-taken n bytes (check-passed (outside 32 n) Variables _ t) (ltb-false (length bytes) (stateWires n) (check-passed (ltb (length bytes) (stateWires n)) Wires _ t₁)) k)) in
       held q k
 
 -- ---- by the entries

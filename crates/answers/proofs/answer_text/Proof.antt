@@ -1,4 +1,4 @@
--- `answers::answer_text` meets its contract: the appends are one, and what they append has room.
+-- `answer_text` meets its contract: the appends are one, and what they append has room.
 -- Assumes nothing.
 use mathlib.Core.Path.{ap, _∙_}
 use Prim.Native.Nat.{ℕ}

@@ -1,4 +1,4 @@
--- `answers::literal` meets its contract: two appends are one, and the sign picks the definition's case.
+-- `literal` meets its contract: two appends are one, and the sign picks the definition's case.
 -- Assumes nothing.
 use mathlib.Core.Path.{sym, ap, _∙_}
 use mathlib.Core.Bool.{Bool}

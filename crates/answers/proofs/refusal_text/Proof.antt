@@ -1,4 +1,4 @@
--- `answers::refusal_text` meets its contract: what is appended to the refusal's line has room.
+-- `refusal_text` meets its contract: what is appended to the refusal's line has room.
 -- Assumes nothing.
 use Rattle.answers.proofs.Composing.{refusal-composed}
 use borrow.Author.Needs.{needs}

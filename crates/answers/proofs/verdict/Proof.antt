@@ -1,4 +1,4 @@
--- `answers::verdict` meets its contract: the appends are one, and the verdict picks the definition's case.
+-- `verdict` meets its contract: the appends are one, and the verdict picks the definition's case.
 -- Assumes nothing.
 use mathlib.Core.Path.{sym, ap, _∙_}
 use Rattle.text.specs.Texts.{appended}

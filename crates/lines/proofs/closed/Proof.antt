@@ -1,4 +1,4 @@
--- `lines::closed` meets its contract: the tests are the definition's.
+-- `closed` meets its contract: the tests are the definition's.
 -- Assumes nothing.
 use borrow.Author.Needs.{needs}
 use borrow.Author.Tests.{lt-ltb, le-ltb}

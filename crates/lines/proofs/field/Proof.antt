@@ -1,4 +1,4 @@
--- `lines::field` meets its contract. The invariant: the value so far and the digits that are left give what all digits give.
+-- `field` meets its contract. The invariant: the value so far and the digits that are left give what all digits give.
 -- Assumes nothing.
 use mathlib.Core.Path.{_≡_, sym, _∙_}
 use mathlib.Core.Bool.{true}

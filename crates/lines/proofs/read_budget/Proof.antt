@@ -1,4 +1,4 @@
--- `lines::read_budget` meets its contract: the place found gives the definition's field.
+-- `read_budget` meets its contract: the place found gives the definition's field.
 -- Assumes nothing.
 use mathlib.Core.Path.{_≡_, sym, _∙_}
 use mathlib.Core.Bool.{cond}

@@ -1,4 +1,4 @@
--- `lines::read_size` meets its contract: each place found gives the definition's field.
+-- `read_size` meets its contract: each place found gives the definition's field.
 -- Assumes nothing.
 use mathlib.Core.Path.{_≡_, sym, ap, _∙_}
 use mathlib.Core.Bool.{cond}
