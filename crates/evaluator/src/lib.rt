@@ -97,12 +97,13 @@ fn trial(gates: &[u32], inputs: &[u8], scratch: &mut [u8]) -> bool
         if m <= b {
             return false;
         }
-        // A known kind, and wire 0 behind INV: only it is held below 2. One test for both spares a jump.
         let u = 4 * kind + (scratch[b] as usize);
-        if 10 <= u {
+        let at = 4 * u + (scratch[a] as usize);
+        // A known kind, and wire 0 behind INV: only it is held below 2. One test for both spares a jump.
+        if 40 <= at {
             return false;
         }
-        scratch[m] = values[4 * u + (scratch[a] as usize)];
+        scratch[m] = values[at];
         i += 3;
         m += 1;
     }

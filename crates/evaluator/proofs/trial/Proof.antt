@@ -3,7 +3,7 @@
 -- Assumes nothing.
 use borrow.Author.Needs.{needs}
 use mathlib.Core.Path.{refl, sym, _∙_}
-use Prim.Native.Nat.{ℕ, _≤_, _<_, _-_, _+_, _/_}
+use Prim.Native.Nat.{ℕ, _≤_, _<_, _-_, _+_, _*_, _/_}
 use native.Mathlib.Omega.{arith}
 use borrow.Author.Tests.{le-ltb}
 use lib.ListN.{length, getD}
@@ -102,55 +102,48 @@ mul-u c = omega (arith, c .before .before .before .before .shared-slice-known .g
 slice-read-u : tie.Need-slice-read-u Inv-loop μ-loop
 slice-read-u c = let t = turn (c .before .before .before .before .before .before) in omega arith
 
--- the second wire's byte
-second : (c : tie.Else2 Inv-loop μ-loop)
+-- the two wires' bytes
+bytes : (c : tie.Else2 Inv-loop μ-loop)
     → let h = c .before .before .before .before .before in
     let l = h .before .loop in
-    getD (l .scratch) (getD (h .before .before .args .gates .now) (l .i + 2) 0) 0 < 4
-second c = turn (c .before .before .before .before .before) .2 _ (c .if2 .left)
+    let g = h .before .before .args .gates .now in
+    (getD (l .scratch) (getD g (l .i + 1) 0) 0 < 4) × (getD (l .scratch) (getD g (l .i + 2) 0) 0 < 4)
+bytes c = let t = turn (c .before .before .before .before .before) in (t .2 _ (c .before .if1 .left), t .2 _ (c .if2 .left))
 
 cast-u : tie.Need-cast-u Inv-loop μ-loop
-cast-u c = omega (arith, second (c .before))
+cast-u c = omega (arith, bytes (c .before))
 
 add-u : tie.Need-add-u Inv-loop μ-loop
-add-u c = omega (arith, second (c .before), c .before .before .before .before .before .shared-slice-known .given (c .before .before .before .before .before .before .before .loop .i) .fits)
+add-u c = omega (arith, bytes (c .before), c .before .before .before .before .before .shared-slice-known .given (c .before .before .before .before .before .before .before .loop .i) .fits)
+
+mul-at : tie.Need-mul-at Inv-loop μ-loop
+mul-at c = omega (arith, bytes (c .before), c .before .before .before .before .before .shared-slice-known .given (c .before .before .before .before .before .before .before .loop .i) .fits)
+
+slice-read-at : tie.Need-slice-read-at Inv-loop μ-loop
+slice-read-at c = let t = turn (c .before .before .before .before .before .before .before) in omega (arith, c .before .before .before .if1 .left)
+
+cast-at : tie.Need-cast-at Inv-loop μ-loop
+cast-at c = omega (arith, bytes (c .before .before))
+
+add-at : tie.Need-add-at Inv-loop μ-loop
+add-at c = omega (arith, bytes (c .before .before), c .before .before .before .before .before .before .shared-slice-known .given (c .before .before .before .before .before .before .before .before .loop .i) .fits)
 
 same-length-3 : tie.Need-same-length-3 Inv-loop μ-loop
-same-length-3 c = c .before .before .before .before .before .before .before .before .loop .inv .size
+same-length-3 c = c .before .before .before .before .before .before .before .before .before .loop .inv .size
 
 returns-3 : tie.Need-returns-3 Inv-loop μ-loop
 returns-3 c =
-    let h = c .before .before .before .before .before .before .before in
+    let e = c .before .before .before in
+    let h = e .before .before .before .before .before in
     let l = h .before .loop in
     let g = h .before .before .args .gates .now in
-    let p = h .before .before .pre .0 in (
-      refused (l .inv) p (within h)
-          (sym (judged-held (l .inv) p (getD g (l .i) 0) (getD g (l .i + 1) 0) (getD g (l .i + 2) 0) (c .before .before .before .if1 .left) (c .before .before .if2 .left))
-          ∙ le-ltb _ 10 (c .if3 .taken)),
-      refl,
-    )
-
-mul-scratch : tie.Need-mul-scratch Inv-loop μ-loop
-mul-scratch c = omega (arith, c .if3 .left)
-
-slice-read-scratch : tie.Need-slice-read-scratch Inv-loop μ-loop
-slice-read-scratch c = let t = turn (c .before .before .before .before .before .before .before .before) in omega (arith, c .before .before .before .before .if1 .left)
-
--- the first wire's byte
-first : (c : tie.After-slice-known2 Inv-loop μ-loop)
-    → let h = c .before .before .before .before .before .before .before .before in
-    let l = h .before .loop in
-    getD (l .scratch) (getD (h .before .before .args .gates .now) (l .i + 1) 0) 0 < 4
-first c = turn (c .before .before .before .before .before .before .before .before) .2 _ (c .before .before .before .before .if1 .left)
-
-cast-scratch : tie.Need-cast-scratch Inv-loop μ-loop
-cast-scratch c = omega (arith, first c)
-
-add-scratch : tie.Need-add-scratch Inv-loop μ-loop
-add-scratch c = omega (arith, first c, c .before .if3 .left)
+    let p = h .before .before .pre .0 in
+    let b = getD g (l .i + 2) 0 in
+    let late = judged-held (l .inv) p (getD g (l .i) 0) (getD g (l .i + 1) 0) b (e .before .if1 .left) (e .if2 .left) in
+    (refused (l .inv) p (within h) (sym late ∙ le-ltb (4 * getD g (l .i) 0 + getD (l .scratch) b 0) 10 (omega (arith, bytes e, c .if3 .taken))), refl)
 
 array-read-scratch : tie.Need-array-read-scratch Inv-loop μ-loop
-array-read-scratch c = omega (arith, first c, c .before .if3 .left)
+array-read-scratch c = omega (arith, c .if3 .left)
 
 slice-write-scratch : tie.Need-slice-write-scratch Inv-loop μ-loop
 slice-write-scratch c = let t = turn (c .before .before .before .before .before .before .before .before) in omega arith
@@ -166,9 +159,9 @@ loop-less c = omega (arith, c .before .before .before .before .before .before .b
 
 loop-again : tie.Need-loop-again Inv-loop μ-loop
 loop-again c =
-    let h = c .before .before .before .before .before .before .before .before in
-    held-again (h .before .loop .inv) (h .before .before .pre .0) (within h) (c .before .before .before .before .if1 .left) (c .before .before .before .if2 .left)
-    (c .before .if3 .left)
+    let e = c .before .before .before in
+    let h = e .before .before .before .before .before in
+    held-again (h .before .loop .inv) (h .before .before .pre .0) (within h) (e .before .if1 .left) (e .if2 .left) (omega (arith, bytes e, c .if3 .left))
 
 same-length-4 : tie.Need-same-length-4 Inv-loop μ-loop
 same-length-4 c = c .before .loop .inv .size
@@ -203,12 +196,12 @@ trial-spec =
     slice-read-u
     cast-u
     add-u
+    mul-at
+    slice-read-at
+    cast-at
+    add-at
     same-length-3
     returns-3
-    mul-scratch
-    slice-read-scratch
-    cast-scratch
-    add-scratch
     array-read-scratch
     slice-write-scratch
     add-i
