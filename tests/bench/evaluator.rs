@@ -6,7 +6,7 @@ use std::time::{Duration, Instant};
 
 const INPUTS: usize = 2_000;
 const GATES: usize = 200_000;
-const RUNS: usize = 200;
+const RUNS: usize = 1_000;
 
 extern "C" {
     fn forkhemit_evaluate(
