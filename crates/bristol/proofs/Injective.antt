@@ -6,10 +6,10 @@ use mathlib.Core.List.{List, [], _∷_, _++_, append-assoc, tail-eq-of-cons-eq, 
 use Prim.Native.Nat.{ℕ, suc, _+_, _*_, _/_, _^_, _≤_, _<_}
 use native.Mathlib.Nat.{mul-le-mul, mul-le-mul-left, eq-of-mul-eq-mul-left}
 use native.Mathlib.Omega.{arith}
-use borrow.Author.Tests.{ltb-true, ltb-false, leb-true, ne-eqb}
+use borrow.Author.Tests.{ltb-true, ltb-false, leb-true, ne-eqb, not-true}
 use lib.Dec.{eqb, leb, ltb}
 use lib.ListN.{length, getD}
-use Rattle.words.proofs.Truth.{and-l, and-r, and-i, not-f, on}
+use Rattle.words.proofs.Truth.{and-l, and-r, and-i, on}
 use Rattle.lexer.specs.Spelling.{bytes}
 use Rattle.text.specs.Decimal.{decimal}
 use Rattle.text.proofs.Decimals.{isDigit, allDigits, decimal-digits, decimal-injective}
@@ -58,10 +58,10 @@ field-split : (xs ys : List ℕ) (x y : ℕ) (s t : List ℕ) → plain xs ≡ t
 field-split [] [] x y s t h k p q e = (refl, cc, cc)
 field-split [] (b ∷ ys) x y s t h k p q e =
     let same : b ≡ x = cc in
-    absurd (false≢true (sym (not-f (ends b) (and-l (not (ends b)) _ k)) ∙ ap ends same ∙ p))
+    absurd (false≢true (sym (not-true (ends b) (and-l (not (ends b)) _ k)) ∙ ap ends same ∙ p))
 field-split (a ∷ xs) [] x y s t h k p q e =
     let same : a ≡ y = cc in
-    absurd (false≢true (sym (not-f (ends a) (and-l (not (ends a)) _ h)) ∙ ap ends same ∙ q))
+    absurd (false≢true (sym (not-true (ends a) (and-l (not (ends a)) _ h)) ∙ ap ends same ∙ q))
 field-split (a ∷ xs) (b ∷ ys) x y s t h k p q e =
     let head : a ≡ b = cc in
     let tail : xs ++ (x ∷ s) ≡ ys ++ (y ∷ t) = cc in

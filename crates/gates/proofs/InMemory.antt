@@ -1,7 +1,7 @@
 -- Gates and their words, wires and their bytes: there and back. By induction on the list, a gate or a byte at a time.
 -- Assumes nothing.
 use mathlib.Core.Path.{_≡_, refl, ap, ap₂, sym, _∙_}
-use mathlib.Core.Bool.{Bool, true, false, _&&_, false≢true}
+use mathlib.Core.Bool.{Bool, true, false, _&&_, false≢true, and-comm}
 use mathlib.Core.List.{List, [], _∷_, _++_, append-assoc}
 use Prim.Native.Nat.{ℕ, zero, suc, _+_, _*_, _<_}
 use native.Mathlib.Nat.{add-zero, not-suc-le-zero, le-of-suc-le-suc}
@@ -10,7 +10,7 @@ use borrow.Author.Tests.{ltb-true, eqb-true}
 use lib.Dec.{eqb, ltb}
 use lib.ListN.{length, length-append}
 use Rattle.words.specs.Booleans.{digit}
-use Rattle.words.proofs.Truth.{and-l, and-r, and-comm}
+use Rattle.words.proofs.Truth.{and-l, and-r}
 use Rattle.gates.specs.Gates.{Gate}
 use Rattle.gates.specs.Gates.Gate.{XOR, AND, INV}
 use Rattle.gates.specs.Memory.{gateWords, wordsOf, gateOf, gatesOf, drives, accepted, bytesOf, bitsOf, bits}

@@ -1,7 +1,7 @@
 -- What the loop that judges words goes by: what is left is judged as the whole is.
 -- Assumes nothing.
 use mathlib.Core.Path.{_≡_, refl, ap, sym, _∙_}
-use mathlib.Core.Bool.{Bool, true, false, _&&_, cond}
+use mathlib.Core.Bool.{Bool, true, false, _&&_, cond, and-false}
 use mathlib.Core.List.{List, [], _∷_}
 use Prim.Native.Nat.{ℕ, zero, suc, _+_, _*_, _%_, _^_, _≤_, _<_}
 use native.Mathlib.Numerals.{add-one}
@@ -10,7 +10,7 @@ use borrow.Author.Tests.{ltb-true, lt-ltb, le-ltb, le-leb, lt-leb, eqb-true, ne-
 use lib.Dec.{ltb, leb, eqb}
 use lib.ListN.{length, getD, drop}
 use lib.Seq.{drop-cons}
-use Rattle.words.proofs.Truth.{and-l, and-r, and-false, on}
+use Rattle.words.proofs.Truth.{and-l, and-r, on}
 use Rattle.gates.specs.Memory.{drives, accepted}
 use Rattle.gates.proofs.InMemory.{accepted-length}
 

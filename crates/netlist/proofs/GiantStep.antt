@@ -8,10 +8,10 @@ use Prim.Native.Nat.{ℕ, _<_}
 use native.Mathlib.Omega.{arith}
 use lib.Dec.{eqb, eqb·zero-suc}
 use lib.ListN.{length}
-use borrow.Author.Tests.{ne-eqb}
+use borrow.Author.Tests.{ne-eqb, not-true}
 use Rattle.words.specs.Booleans.{_⊕_}
 use Rattle.words.specs.Sets.{bit}
-use Rattle.words.proofs.Truth.{and-l, and-r, not-f}
+use Rattle.words.proofs.Truth.{and-l, and-r}
 use Rattle.tables.specs.declared.Row.{Row}
 use Rattle.tables.specs.Rows.{free}
 use Rattle.state.specs.declared.Level.{Level}
@@ -36,10 +36,10 @@ use Rattle.netlist.proofs.Moves.{moved-closing, moved-true, moved-false
 use Rattle.netlist.proofs.NextState.{signals, rule-wires, moved-by}
 
 free-t : (t f v : ℕ) → free t f v ≡ true → bit t v ≡ false
-free-t t f v h = not-f (bit t v) (and-l (not (bit t v)) _ h)
+free-t t f v h = not-true (bit t v) (and-l (not (bit t v)) _ h)
 
 free-f : (t f v : ℕ) → free t f v ≡ true → bit f v ≡ false
-free-f t f v h = not-f (bit f v) (and-r (not (bit t v)) _ h)
+free-f t f v h = not-true (bit f v) (and-r (not (bit t v)) _ h)
 
 module _ (n : ℕ) (rows : List Row) (w : Wires) where
   abbrev m : ℕ

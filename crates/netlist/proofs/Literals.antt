@@ -10,7 +10,7 @@ use lib.Dec.{eqb}
 use lib.ListN.{length}
 use Rattle.words.specs.Booleans.{_⊕_, imp}
 use Rattle.words.specs.Sets.{bit, count, lowest}
-use Rattle.words.proofs.Truth.{on, and-i, mp, not-t, taut4, same, same-eq}
+use Rattle.words.proofs.Truth.{on, and-i, mp, taut4, same, same-eq}
 use Rattle.words.proofs.Upto.{count-cong, lowest-cong}
 use Rattle.tables.specs.declared.Row.{Row}
 use Rattle.tables.specs.Rows.{satisfied, freeIn, freeLiterals}
@@ -38,7 +38,7 @@ module _ (r : Row) (t f i : ℕ) (apart : not (bit t i && bit f i) ≡ true) whe
   free-here : satisfies r t f i ≡ false → freeBit r t f i ≡ freeIn r t f i
   free-here e =
       same-eq (mp _ _ (taut4 (λ p q t f. imp (not (t && f) && not (p && q || p && t || q && f)) (same (freeHere p q (freeOf t f)) ((not t && not f) && (p || q)))) refl
-      (bit (r .positive) i) (bit (r .negative) i) (bit t i) (bit f i)) (and-i apart (not-t e)))
+      (bit (r .positive) i) (bit (r .negative) i) (bit t i) (bit f i)) (and-i apart (ap not e)))
 
 -- ---- a row's chains
 

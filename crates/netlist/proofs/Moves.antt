@@ -2,7 +2,7 @@
 -- The depth is one-hot, so the XOR over the levels is what stands at the last one.
 -- Assumes nothing.
 use mathlib.Core.Path.{_≡_, refl, sym, ap, ap₂, _∙_}
-use mathlib.Core.Bool.{Bool, true, false, _&&_}
+use mathlib.Core.Bool.{Bool, true, false, _&&_, or-false}
 use mathlib.Core.List.{List, _∷_}
 use Prim.Native.Nat.{ℕ, suc, _<_}
 use lib.Dec.{eqb, eqb·suc-suc}
@@ -10,7 +10,7 @@ use lib.ListN.{length}
 use borrow.Author.Tests.{eqb-true}
 use Rattle.words.specs.Booleans.{_⊕_}
 use Rattle.words.specs.Sets.{bit, put}
-use Rattle.words.proofs.Truth.{on, or-false, taut2, same, same-eq}
+use Rattle.words.proofs.Truth.{on, taut2, same, same-eq}
 use Rattle.words.proofs.Bits.{bit-put}
 use Rattle.state.specs.declared.Level.{Level}
 use Rattle.state.specs.declared.Standing.{Standing}

@@ -1,7 +1,7 @@
 -- The sections from rule to output: the output wires are the state's bits moved by the signals. Chains give what the levels restore, the other cells stand alone.
 -- Assumes nothing.
 use mathlib.Core.Path.{_≡_, refl, sym, ap, _∙_, subst}
-use mathlib.Core.Bool.{Bool, false, _&&_}
+use mathlib.Core.Bool.{Bool, false, _&&_, and-false}
 use mathlib.Core.List.{List}
 use Prim.Native.Nat.{ℕ, zero, suc, _≤_, _<_}
 use native.Mathlib.Nat.{le-refl}
@@ -10,7 +10,7 @@ use lib.Dec.{eqb, ltb, eqb·zero-suc, eqb·suc-suc}
 use lib.ListN.{length}
 use borrow.Author.Tests.{ltb-true, ltb-false, ne-eqb}
 use Rattle.words.specs.Booleans.{_⊕_}
-use Rattle.words.proofs.Truth.{on, and-false, taut3, taut4, same, same-eq}
+use Rattle.words.proofs.Truth.{on, taut3, taut4, same, same-eq}
 use Rattle.tables.specs.declared.Row.{Row}
 use Rattle.state.specs.State.{State, isSatisfied}
 use Rattle.wires.specs.Layout.{isRefuted}

@@ -11,7 +11,7 @@ use lib.Dec.{eqb}
 use lib.ListN.{length}
 use Rattle.words.specs.Booleans.{_⊕_}
 use Rattle.words.specs.Sets.{bit, any, lowest}
-use Rattle.words.proofs.Truth.{on, not-t, taut2, same, same-eq}
+use Rattle.words.proofs.Truth.{on, taut2, same, same-eq}
 use Rattle.words.proofs.Upto.{any-e, any-mono, lowest-hit, lowest-cong}
 use Rattle.words.proofs.Last.{any-cong, any-at, lowest-first}
 use Rattle.tables.specs.declared.Row.{Row}
@@ -146,7 +146,7 @@ module _ (n : ℕ) (rows : List Row) (s : State) (w : Wires) (on-state : OnState
   no-conflict e =
       on (w .anyConflict m)
       (λ h. absurd (true≢false (sym (any-mono (λ j. unsatisfiedWith 0 n t f (rowOf rows j)) unsatisfied m
-      (λ j b q. not-t (with-unsatisfied 0 n t f (rowOf rows j) q)) (sym some-conflict ∙ h)) ∙ (sym some-unsatisfied ∙ e))))
+      (λ j b q. ap not (with-unsatisfied 0 n t f (rowOf rows j) q)) (sym some-conflict ∙ h)) ∙ (sym some-unsatisfied ∙ e))))
       (λ h. h)
 
   variable-is : (z : ℕ → Bool) → ((i : ℕ) → i < n → w .picked i m ≡ z i) → (i : ℕ) → i < n → w .variable i ≡ eqb i (lowest z n)

@@ -1,12 +1,12 @@
 -- The survey of all rows gives the rule: the tests are those of `rule`, except that a conflict is looked for first, where not all rows are satisfied.
 -- Assumes nothing.
 use mathlib.Core.Path.{_≡_, sym, ap, _∙_}
-use mathlib.Core.Bool.{true, false, not, true≢false}
+use mathlib.Core.Bool.{true, false, not, true≢false, or-false}
 use mathlib.Core.List.{List, [], _++_, append-nil}
 use Prim.Native.Nat.{ℕ}
-use borrow.Author.Tests.{ne-eqb}
+use borrow.Author.Tests.{ne-eqb, not-true}
 use Rattle.words.specs.Sets.{bit, lowest}
-use Rattle.words.proofs.Truth.{and-l, on, not-f, or-false}
+use Rattle.words.proofs.Truth.{and-l, on}
 use Rattle.words.proofs.Upto.{lowest-cong}
 use Rattle.words.proofs.Bits.{bit-zero}
 use Rattle.tables.specs.declared.Row.{Row}
@@ -27,7 +27,7 @@ unfolding unsatisfiedWith
 conflict-open n t f rows e =
     let x = any-row-e (unsatisfiedWith 0 n t f) rows e in
     on (allRows (λ r. satisfied n r t f) rows)
-    (λ a. absurd (true≢false (sym (x .1 (λ r. satisfied n r t f) a) ∙ not-f _ (and-l (not (satisfied n (x .0) t f)) _ (x .2)))))
+    (λ a. absurd (true≢false (sym (x .1 (λ r. satisfied n r t f) a) ∙ not-true _ (and-l (not (satisfied n (x .0) t f)) _ (x .2)))))
     (λ a. a)
 
 after-none : (t f : ℕ) (rows : List Row) → ruleAfter none rows t f ≡ rule 32 rows t f

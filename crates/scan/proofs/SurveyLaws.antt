@@ -1,22 +1,23 @@
--- One more row in a survey: what its satisfaction and the word of its free variables say of the rule.
+-- One more row in a survey: what its satisfaction and the word of its free variables say of the rule. By cases on the row, satisfied, in conflict or with a free variable;
+-- and so row by row through a table.
 -- Assumes nothing.
 use mathlib.Core.Path.{_≡_, sym, ap, _∙_}
-use mathlib.Core.Bool.{Bool, true, false, not, _&&_, _||_, cond, or-assoc}
+use mathlib.Core.Bool.{Bool, true, false, not, _&&_, _||_, cond, or-assoc, and-false, or-true}
 use mathlib.Core.List.{List, [], _∷_, _++_}
 use Prim.Native.Nat.{ℕ, suc, _+_, _-_, _≤_, _<_}
 use native.Mathlib.Numerals.{add-one}
 use native.Mathlib.Omega.{arith}
 use lib.Dec.{eqb}
-use lib.Bits.{bitOr, or-add-and, and-le-l}
+use lib.Bits.{bitOr}
 use lib.Pow.{pow-pos}
 use borrow.Author.Tests.{eq-eqb, ne-eqb}
 use Rattle.words.specs.Sets.{bit, count, wordOf}
 use Rattle.words.proofs.Ones.{count-zero}
-use Rattle.words.proofs.Truth.{and-l, and-r, and-false, or-true, on}
+use Rattle.words.proofs.Truth.{and-l, and-r, on}
 use Rattle.words.proofs.Upto.{count-none, count-cong, lowest-cong}
 use Rattle.words.proofs.Bits.{bit-or, bit-zero}
 use Rattle.words.proofs.WordOf.{bit-wordOf, wordOf-lt}
-use Rattle.words.proofs.Operations.{bit-ext}
+use Rattle.words.proofs.Operations.{bit-ext, or-zero}
 use Rattle.tables.specs.declared.Row.{Row}
 use Rattle.tables.specs.declared.Judged.{Judged}
 use Rattle.tables.specs.Rows.{satisfied, freeIn, judged, rowAt, rowsFrom}
@@ -64,7 +65,7 @@ module _ (t f : ℕ) (r : Row) (j : Judged) (e : j ≡ judged 32 r t f) (s : Sur
 
     module _ (z : j .variables ≡ 0 → ⊥) where
       free-more : eqb (bitOr (s .free) (j .variables)) 0 ≡ false
-      free-more = ne-eqb (bitOr (s .free) (j .variables)) 0 (λ k. z (omega (arith, or-add-and (s .free) (j .variables), and-le-l (s .free) (j .variables))))
+      free-more = or-zero (s .free) (j .variables) ∙ rw (ne-eqb (j .variables) 0 z) (and-false (eqb (s .free) 0))
 
       no-conflict : unsatisfiedWith 0 32 t f r ≡ false
       no-conflict = with-is 0 ∙ ne-eqb _ 0 (λ k. z (bit-ext 32 _ 0 (rw variables-is (wordOf-lt (λ i. freeIn r t f i) 32)) (pow-pos 32) (λ i b. count-none (bit (j .variables)) 32 k i b ∙ sym (bit-zero i))))

@@ -37,16 +37,18 @@ unfolding freeAmong
 leftOver p n [] = 0
 leftOver p n (l ∷ ls) = (2 ^ freeAmong p n (l .t) (l .f) - 1) + leftOver p n ls
 
+-- the most steps that an open state has before it: 2 ^ (k + 1) - 1 for its k free variables that may be set, and what its levels have left
 abbrev potentialAt : (ℕ → Bool) → ℕ → State → Standing → ℕ
 potentialAt p n s Open = (2 ^ suc (freeAmong p n (s .t) (s .f)) - 1) + leftOver p n (s .levels)
 potentialAt p n s Satisfied = 0
 potentialAt p n s Refuted = 0
 
--- powers of u and of what is less
+-- what `omega` is told of the powers of u and of a lesser u′
 falls : (u u′ : ℕ) → u′ < u → (2 ^ suc u ≡ 2 ^ u * 2) × (2 ^ suc u′ ≤ 2 ^ u) × (0 < 2 ^ u) × (0 < 2 ^ suc u′)
 falls u u′ h = (pow-suc 2 u, pow-mono h, pow-pos u, pow-pos (suc u′))
 
 module _ (n : ℕ) (rows : List Row) where
+  -- how many variables that occur are free
   abbrev among : ℕ → ℕ → ℕ
   among t f = freeAmong (occurs n rows) n t f
 
@@ -57,6 +59,7 @@ module _ (n : ℕ) (rows : List Row) where
   abbrev opened : State → ℕ
   opened s = potentialAt (occurs n rows) n s Open
 
+  -- what every step keeps
   abbrev Kept : State → Type 0
   Kept s = Formed n s × (allChosen (occurs n rows) (s .levels) ≡ true)
 

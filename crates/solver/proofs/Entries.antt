@@ -1,4 +1,4 @@
--- What the entries give, by the checks that are passed or fail.
+-- What the entries give: each computes from the outcome of its checks, which decide in order.
 -- Assumes nothing.
 use mathlib.Core.Path.{_≡_, refl, sym, ap, ap₂, _∙_}
 use mathlib.Core.Bool.{Bool, true, false, not}

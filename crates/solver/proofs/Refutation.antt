@@ -1,17 +1,17 @@
 -- A refuted run leaves no assignment that makes every row true: such an assignment always agrees with T and F or with a level whose variable is still to go to F,
 -- and a refuted run has neither.
 -- Assumes nothing.
-use mathlib.Core.Path.{_≡_, refl, sym, _∙_}
+use mathlib.Core.Path.{_≡_, refl, sym, ap, _∙_}
 use mathlib.Core.Logic.{_⊎_, inl, inr}
-use mathlib.Core.Bool.{Bool, true, false, not, _&&_, _||_, Bool·beq, true≢false}
+use mathlib.Core.Bool.{Bool, true, false, not, _&&_, _||_, true≢false}
 use mathlib.Core.List.{List, [], _∷_}
 use Prim.Native.Nat.{ℕ, _≤_, _<_}
 use lib.Dec.{eqb}
 use borrow.Author.Tests.{eqb-true}
 use Rattle.words.specs.Booleans.{imp}
 use Rattle.words.specs.Sets.{bit, put, any}
-use Rattle.words.proofs.Truth.{mp, and-i, not-t, on, taut2, taut3, taut5}
-use Rattle.words.proofs.Upto.{any-e, count-none, count-digit}
+use Rattle.words.proofs.Truth.{mp, and-i, on, taut2, taut3, taut5, same, same-eq}
+use Rattle.words.proofs.Upto.{any-e, count-none, count-one}
 use Rattle.words.proofs.Bits.{bit-put, bit-zero}
 use Rattle.tables.specs.declared.Row.{Row}
 use Rattle.tables.specs.Rows.{satisfied, freeIn}
@@ -33,20 +33,17 @@ use Rattle.solver.proofs.TruthLaws.{literal, all-true-e}
 
 -- ---- one variable: p, q say whether it stands positive, negative; t, f whether it is in T, in F; a is its value
 
+-- the value is as T and F have it
 abbrev agreed : Bool → Bool → Bool → Bool
 agreed t f a = imp t a && imp f (not a)
 
+-- T, F or padding satisfies the row by it
 abbrev satisfying : Bool → Bool → Bool → Bool → Bool
 satisfying p q t f = p && q || p && t || q && f
 
+-- the value makes a literal of it true
 abbrev literals : Bool → Bool → Bool → Bool
 literals p q a = p && a || q && not a
-
-beq-eq : (a b : Bool) → Bool·beq a b ≡ true → a ≡ b
-beq-eq true true e = refl
-beq-eq true false e = sym e
-beq-eq false true e = e
-beq-eq false false e = refl
 
 -- the assignment has T's variables true and F's false
 abbrev Agrees : ℕ → (ℕ → Bool) → ℕ → ℕ → Type 0
@@ -59,7 +56,7 @@ module _ (n : ℕ) (a : ℕ → Bool) (t f : ℕ) (g : Agrees n a t f) where
       mp _ _
       (taut5 (λ p q t f a. imp (literals p q a && not (satisfying p q t f) && agreed t f a) (not t && not f && (p || q))) refl
       (bit (r .positive) i) (bit (r .negative) i) (bit t i) (bit f i) (a i))
-      (and-i (and-i h (not-t (unsatisfied-none n r t f e i b))) (g i b))
+      (and-i (and-i h (ap not (unsatisfied-none n r t f e i b))) (g i b))
 
   -- rule 2: a row in conflict is not true
   conflict-false : (r : Row) → unsatisfiedWith 0 n t f r ≡ true → any (λ i. literal a r i) n ≡ true → ⊥
@@ -75,12 +72,12 @@ module _ (n : ℕ) (a : ℕ → Bool) (t f : ℕ) (g : Agrees n a t f) where
       let r = w .row in
       let x = any-e (λ i. literal a r i) n h in
       let o = with-unsatisfied 1 n t f r (w .one-literal) in
-      let same : x .0 ≡ v =
-      count-digit (λ i. freeIn r t f i) n (with-count 1 n t f r (w .one-literal)) (x .0) v (x .1) (w .low) (by-free r (x .0) (x .1) o (x .2)) (w .free-there) in
-      let l : literal a r v ≡ true = rw same at (x .2) in
-      beq-eq _ _ (mp _ _
-      (taut5 (λ p q t f a. imp (literals p q a && not (satisfying p q t f)) (Bool·beq a p)) refl (bit (r .positive) v) (bit (r .negative) v) (bit t v) (bit f v) (a v))
-      (and-i l (not-t (unsatisfied-none n r t f o v (w .low)))))
+      let one : x .0 ≡ v =
+      count-one (λ i. freeIn r t f i) n (with-count 1 n t f r (w .one-literal)) (x .0) v (x .1) (w .low) (by-free r (x .0) (x .1) o (x .2)) (w .free-there) in
+      let l : literal a r v ≡ true = rw one at (x .2) in
+      same-eq (mp _ _
+      (taut5 (λ p q t f a. imp (literals p q a && not (satisfying p q t f)) (same a p)) refl (bit (r .positive) v) (bit (r .negative) v) (bit t v) (bit f v) (a v))
+      (and-i l (ap not (unsatisfied-none n r t f o v (w .low)))))
       ∙ sym (w .sign)
 
   agrees-t : (v : ℕ) → a v ≡ true → Agrees n a (put t v) f
@@ -104,9 +101,11 @@ abbrev Pending : ℕ → (ℕ → Bool) → List Level → Type 0
 Pending n a [] = ⊥
 Pending n a (l ∷ ls) = Agrees n a (l .t) (put (l .f) (l .chosen)) ⊎ Pending n a ls
 
+-- or with T and F themselves
 abbrev Left : ℕ → (ℕ → Bool) → State → Type 0
 Left n a s = Agrees n a (s .t) (s .f) ⊎ Pending n a (s .levels)
 
+-- a refuted run has none left
 abbrev leftAt : ℕ → (ℕ → Bool) → State → Standing → Type 0
 leftAt n a s Open = Left n a s
 leftAt n a s Satisfied = Left n a s

@@ -1,14 +1,14 @@
 -- What holds where each rule of the giant step applies. The tests of `rule` are gone through in its order.
 -- Assumes nothing.
-use mathlib.Core.Path.{_≡_, refl, sym, _∙_}
+use mathlib.Core.Path.{_≡_, refl, sym, ap, _∙_}
 use mathlib.Core.Bool.{Bool, true, false, not, _&&_, true≢false}
 use mathlib.Core.List.{List, [], _∷_}
 use Prim.Native.Nat.{ℕ, zero, suc, _<_}
 use native.Mathlib.Nat.{zero-lt-suc}
 use native.Mathlib.Omega.{arith}
-use borrow.Author.Tests.{eqb-true, eq-eqb}
+use borrow.Author.Tests.{eqb-true, eq-eqb, not-true}
 use Rattle.words.specs.Sets.{bit, count}
-use Rattle.words.proofs.Truth.{and-l, and-r, and-i, on, not-t, not-f}
+use Rattle.words.proofs.Truth.{and-l, and-r, and-i, on}
 use Rattle.words.proofs.Upto.{count-some, lowest-hit}
 use Rattle.tables.specs.declared.Row.{Row}
 use Rattle.tables.specs.Rows.{padding, satisfied, free, holds, freeIn}
@@ -44,6 +44,7 @@ pub record Chooses (n : ℕ) (rows : List Row) (t f v : ℕ) : Type 0 where
   pub low : v < n
   pub free-there : freeIn row t f v ≡ true
 
+-- what holds where the rule applies
 abbrev pub Ruled : ℕ → List Row → ℕ → ℕ → Rule → Type 0
 Ruled n rows t f AllSatisfied = allRows (λ r. satisfied n r t f) rows ≡ true
 Ruled n rows t f Conflict = Conflicts n rows t f
@@ -61,7 +62,7 @@ pub record Settable (n : ℕ) (rows : List Row) (t f v : ℕ) : Type 0 where
 module _ (k n t f : ℕ) (r : Row) (e : unsatisfiedWith k n t f r ≡ true) where
   pub with-unsatisfied : satisfied n r t f ≡ false
   unfolding unsatisfiedWith
-  with-unsatisfied = not-f _ (and-l (not (satisfied n r t f)) _ e)
+  with-unsatisfied = not-true _ (and-l (not (satisfied n r t f)) _ e)
 
   pub with-count : count (λ i. freeIn r t f i) n ≡ k
   unfolding unsatisfiedWith
@@ -72,7 +73,7 @@ unfolding unsatisfiedWith
 with-some n t f r e h = go (count (λ i. freeIn r t f i) n) refl
   where
     go : (c : ℕ) → count (λ i. freeIn r t f i) n ≡ c → 0 < c
-    go zero q = absurd (true≢false (sym (and-i (not-t e) (eq-eqb _ 0 (unsatisfied-literals n r t f e ∙ q))) ∙ h))
+    go zero q = absurd (true≢false (sym (and-i (ap not e) (eq-eqb _ 0 (unsatisfied-literals n r t f e ∙ q))) ∙ h))
     go (suc c) q = zero-lt-suc c
 
 -- ---- the rule that applies
@@ -98,10 +99,10 @@ module _ (n : ℕ) (rows : List Row) (t f : ℕ) where
     choice-hit =
         let x = not-all-rows (λ r. satisfied n r t f) rows e₁ in
         let r : Row = x .0 in
-        let c : unsatisfiedWith 0 n t f r ≡ false = not-f _ (x .1 (λ r. not (unsatisfiedWith 0 n t f r)) (no-row (unsatisfiedWith 0 n t f) rows e₂)) in
+        let c : unsatisfiedWith 0 n t f r ≡ false = not-true _ (x .1 (λ r. not (unsatisfiedWith 0 n t f r)) (no-row (unsatisfiedWith 0 n t f) rows e₂)) in
         let i = count-some (λ i. freeIn r t f i) n (with-some n t f r (x .2) c) in
         lowest-hit (λ i. anyRow (λ r. not (satisfied n r t f) && freeIn r t f i) rows) n (i .0) (i .1)
-        (any-row-i (λ r. not (satisfied n r t f) && freeIn r t f (i .0)) rows r (x .1) (and-i (not-t (x .2)) (i .2)))
+        (any-row-i (λ r. not (satisfied n r t f) && freeIn r t f (i .0)) rows r (x .1) (and-i (ap not (x .2)) (i .2)))
 
     ruled-choice : Ruled n rows t f (Choice (choice n rows t f))
     ruled-choice =
@@ -110,7 +111,7 @@ module _ (n : ℕ) (rows : List Row) (t f : ℕ) where
         record {
           row = y .0;
           of-rows = y .1;
-          unsatisfied = not-f _ (and-l (not (satisfied n (y .0) t f)) _ (y .2));
+          unsatisfied = not-true _ (and-l (not (satisfied n (y .0) t f)) _ (y .2));
           low = v .0;
           free-there = and-r (not (satisfied n (y .0) t f)) _ (y .2);
         }
@@ -131,7 +132,7 @@ module _ (n : ℕ) (rows : List Row) (t f : ℕ) where
   settable v r m e b h = record {
     low = b;
     is-free = and-l (free t f v) _ h;
-    occurring = any-row-i (λ r. not (padding n r) && holds r v) rows r m (and-i (not-t (unsatisfied-padding n r t f e)) (and-r (free t f v) _ h));
+    occurring = any-row-i (λ r. not (padding n r) && holds r v) rows r m (and-i (ap not (unsatisfied-padding n r t f e)) (and-r (free t f v) _ h));
   }
 
   pub unit-settable : {v : ℕ} {positive : Bool} → Forces n rows t f v positive → Settable n rows t f v

@@ -1,7 +1,7 @@
--- What setting a free variable keeps and lowers: T and F stay disjoint and below n, levels stay linked, and fewer variables are free.
+-- What setting a free variable keeps and lowers: T and F stay disjoint and below n, levels stay linked, and fewer variables are free. Each by the variable set and the others.
 -- Assumes nothing.
 use mathlib.Core.Path.{_≡_, refl}
-use mathlib.Core.Bool.{Bool, true, false, not, _&&_}
+use mathlib.Core.Bool.{Bool, true, false, not, _&&_, or-false, or-true, and-false}
 use mathlib.Core.List.{List, [], _∷_}
 use Prim.Native.Nat.{ℕ, _+_, _≤_, _<_}
 use native.Mathlib.Omega.{arith}
@@ -10,7 +10,7 @@ use lib.ListN.{length}
 use borrow.Author.Tests.{eqb-true, eq-eqb}
 use Rattle.words.specs.Booleans.{imp}
 use Rattle.words.specs.Sets.{bit, put, count}
-use Rattle.words.proofs.Truth.{and-l, and-r, and-i, mp, imp-i, on, or-false, or-true, taut3, taut4}
+use Rattle.words.proofs.Truth.{and-l, and-r, and-i, mp, imp-i, on, taut3, taut4}
 use Rattle.words.proofs.Upto.{count-le, count-mono, count-lt}
 use Rattle.words.proofs.Bits.{bit-put, put-lt}
 use Rattle.tables.specs.Rows.{free}
@@ -76,11 +76,7 @@ module _ (n t f v : ℕ) (b : v < n) (h : free t f v ≡ true) where
   free-less-t p hp = free-less p n t f (put t v) f v b hp h (rw put-has) (λ i c. put-keeps t v i) (λ i c e. e)
 
   pub free-less-f : (p : ℕ → Bool) → p v ≡ true → freeAmong p n t (put f v) < freeAmong p n t f
-  free-less-f p hp = free-less p n t f t (put f v) v b hp h (rw put-has (none (not (bit t v)))) (λ i c e. e) (λ i c. put-keeps f v i)
-    where
-      none : (a : Bool) → a && false ≡ false
-      none true = refl
-      none false = refl
+  free-less-f p hp = free-less p n t f t (put f v) v b hp h (rw put-has (and-false (not (bit t v)))) (λ i c e. e) (λ i c. put-keeps f v i)
 
 -- ---- levels
 

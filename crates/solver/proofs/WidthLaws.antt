@@ -1,7 +1,7 @@
 -- Rows whose words are below 2 ^ n call for the same rule at every greater width: each row is judged alike, and the lowest variable found is below n.
 -- Assumes nothing.
 use mathlib.Core.Path.{_≡_, refl, ap, ap₂, _∙_, fun-ext}
-use mathlib.Core.Bool.{Bool, true, false, not, _&&_, _||_}
+use mathlib.Core.Bool.{Bool, true, false, not, _&&_}
 use mathlib.Core.List.{List, [], _∷_}
 use Prim.Native.Nat.{ℕ, _≤_}
 use native.Mathlib.Omega.{arith}
@@ -15,24 +15,9 @@ use Rattle.tables.proofs.Rows.{satisfied-width, literals-width}
 use Rattle.scan.specs.declared.Rule.{Rule}
 use Rattle.scan.specs.declared.Rule.the-variants.{Unit, Choice}
 use Rattle.scan.specs.Rules.{allRows, anyRow, unsatisfiedWith, unitOr, choice, rule}
-use Rattle.scan.proofs.RowLaws.{In, in-head, in-tail}
+use Rattle.scan.proofs.RowLaws.{all-rows-cong, any-row-cong}
 use Rattle.solver.proofs.RuleLaws.{with-count, choice-hit}
 use Rattle.solver.proofs.LowRows.{lowRow, low-positive, low-negative}
-
--- ---- tests that agree
-
-module _ (p q : Row → Bool) where
-  all-rows-cong : (rows : List Row) → ((r : Row) → In r rows → p r ≡ q r) → allRows p rows ≡ allRows q rows
-  unfolding allRows
-  all-rows-cong [] h = refl
-  all-rows-cong (r ∷ rs) h = ap₂ _&&_ (h r (in-head r rs)) (all-rows-cong rs (λ x m. h x (in-tail x r rs m)))
-
-  any-row-cong : (rows : List Row) → ((r : Row) → In r rows → p r ≡ q r) → anyRow p rows ≡ anyRow q rows
-  unfolding anyRow
-  any-row-cong [] h = refl
-  any-row-cong (r ∷ rs) h = ap₂ _||_ (h r (in-head r rs)) (any-row-cong rs (λ x m. h x (in-tail x r rs m)))
-
--- ---- the rule
 
 module _ (n k : ℕ) (wide : n ≤ k) (t f : ℕ) where
   satisfied-alike : (r : Row) → lowRow n r ≡ true → satisfied k r t f ≡ satisfied n r t f

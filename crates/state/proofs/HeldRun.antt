@@ -5,12 +5,13 @@ use mathlib.Core.Bool.{true, not, _&&_}
 use mathlib.Core.List.{List, [], _∷_, _++_, reverse, reverse-cons, append-assoc}
 use Prim.Native.Nat.{ℕ, zero, suc, _+_, _-_, _≤_}
 use native.Mathlib.Omega.{arith}
-use lib.Dec.{eqb, ltb}
+use lib.Dec.{eqb}
 use lib.ListN.{getD, length, take, drop, replicate, take-append-drop, length-drop, length-reverse}
 use lib.Seq.{take-suc, getD-append-add, drop-at}
-use borrow.Author.Tests.{eqb-true, ltb-false, le-ltb, not-true}
-use Rattle.words.proofs.Truth.{and-l, and-r, or-l, or-r}
+use borrow.Author.Tests.{eqb-true, le-ltb, not-true}
+use Rattle.words.proofs.Truth.{and-l, and-r}
 use Rattle.dimensions.specs.Sizes.{outside}
+use Rattle.dimensions.proofs.Limits.{least, most}
 use Rattle.state.specs.declared.Level.{Level}
 use Rattle.state.specs.declared.Run.{Run}
 use Rattle.state.specs.State.{State, stateOf, levelsOf, none, runOf}
@@ -56,7 +57,7 @@ pub returned : (n : ℕ) (s : State) (run : Run) → Tidy run → run .n ≡ n �
 returned n s run h e q = run-back run h ∙ ap₂ runOf e q
 
 -- levels that pass the test are zero
-pub unused-zero : (levels : List Level) → unused levels ≡ true → levels ≡ replicate (length levels) none
+unused-zero : (levels : List Level) → unused levels ≡ true → levels ≡ replicate (length levels) none
 unfolding unused
 unused-zero [] e = refl
 unused-zero (l ∷ ls) e =
@@ -84,13 +85,13 @@ unfolding wellFormed
 formed-run-e run w =
     let i = and-l (not (outside 32 (run .n)) && wellFormedState (run .n) (stateOf run)) _ w in
     let n = not-true (outside 32 (run .n)) (and-l (not (outside 32 (run .n))) _ i) in record {
-      least = ltb-false (run .n) 1 (or-l (ltb (run .n) 1) (ltb 32 (run .n)) n);
-      most = ltb-false 32 (run .n) (or-r (ltb (run .n) 1) (ltb 32 (run .n)) n);
+      least = least 32 (run .n) n;
+      most = most 32 (run .n) n;
       state = and-r (not (outside 32 (run .n))) _ i;
       rest = and-r (not (outside 32 (run .n)) && wellFormedState (run .n) (stateOf run)) _ w;
     }
 
-pub formed-run-i : (run : Run) → FormedRun run → wellFormed run ≡ true
+formed-run-i : (run : Run) → FormedRun run → wellFormed run ≡ true
 unfolding wellFormed
 formed-run-i run o = rw (le-ltb (run .n) 1 (o .least), le-ltb 32 (run .n) (o .most), o .state) (o .rest)
 

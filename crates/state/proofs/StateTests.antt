@@ -1,23 +1,20 @@
--- What tests of words say of T, F and levels: a word of no digit is a test of every variable.
+-- What the code's tests of words say of T, F and levels, in its order: a word is 0 where the definition's test holds of every variable.
 -- Assumes nothing.
-use mathlib.Core.Path.{_≡_, refl, sym, ap, ap₂, _∙_}
+use mathlib.Core.Path.{_≡_, refl, sym, ap, ap₂, _∙_, fun-ext}
 use mathlib.Core.Bool.{Bool, true, false, not, _&&_, _||_}
 use mathlib.Core.List.{List}
 use Prim.Native.Nat.{ℕ, zero, suc, _+_, _-_, _^_, _≤_, _<_}
 use native.Mathlib.Numerals.{add-one}
 use native.Mathlib.Omega.{arith}
 use lib.Dec.{eqb, ltb, leb}
-use lib.Pow.{pow-pos}
-use lib.Bits.{bitAnd, bitOr, or-add-and, and-le-l, and-le-r}
+use lib.Bits.{bitAnd, bitOr}
 use lib.ListN.{length, drop, getD, drop-of-length-le}
 use lib.Seq.{drop-cons}
-use borrow.Author.Tests.{eq-eqb, ne-eqb, eqb-true, eqb-false, lt-ltb, le-ltb, le-leb, lt-leb, ltb-true, ltb-false, not-true, not-false}
+use borrow.Author.Tests.{eq-eqb, ne-eqb, lt-ltb, le-ltb, le-leb, lt-leb, ltb-true, ltb-false, not-true, not-false}
 use Rattle.words.specs.Booleans.{imp}
 use Rattle.words.specs.Sets.{bit, all}
-use Rattle.words.proofs.Truth.{on, not-f, and-i, and-l, and-r}
-use Rattle.words.proofs.Upto.{all-e, all-i}
-use Rattle.words.proofs.Bits.{bit-zero, bit-or}
-use Rattle.words.proofs.Operations.{bit-and, bit-ext, bit-not, bit-high, and-lt-left}
+use Rattle.words.proofs.Bits.{bit-or}
+use Rattle.words.proofs.Operations.{bit-and, bit-not, bit-high, zero-word, or-zero, and-lt-left}
 use Rattle.tables.specs.Rows.{free}
 use Rattle.state.specs.declared.Level.{Level}
 use Rattle.state.specs.declared.Run.{Run}
@@ -28,45 +25,24 @@ use Rattle.state.proofs.HeldRun.{length-levels}
 
 -- ---- words
 
--- a word has no digit where each variable passes
-pub no-digit : (n w : ℕ) (p : ℕ → Bool) → w < 2 ^ n → ((i : ℕ) → i < n → p i ≡ not (bit w i)) → eqb w 0 ≡ all p n
-no-digit n w p l h =
-    on (eqb w 0)
-    (λ e. e ∙ sym (all-i p n (λ i b. h i b ∙ ap not (ap (λ (x : ℕ). bit x i) (eqb-true w 0 e) ∙ bit-zero i))))
-    (λ e. e ∙ sym (on (all p n)
-    (λ q. absurd (eqb-false w 0 e (bit-ext n w 0 l (pow-pos n) (λ i b. not-f _ (sym (h i b) ∙ all-e p n q i b) ∙ sym (bit-zero i)))))
-    (λ q. q)))
-
-pub disjoint-word : (n t f : ℕ) → t < 2 ^ n → eqb (bitAnd t f) 0 ≡ disjoint n t f
+disjoint-word : (n t f : ℕ) → t < 2 ^ n → eqb (bitAnd t f) 0 ≡ disjoint n t f
 unfolding disjoint
-disjoint-word n t f h = no-digit n (bitAnd t f) (λ i. not (bit t i && bit f i)) (and-lt-left n t f h) (λ i b. ap not (sym (bit-and t f i)))
+disjoint-word n t f h = zero-word n (bitAnd t f) (and-lt-left n t f h) ∙ ap (λ (p : ℕ → Bool). all p n) (fun-ext (λ i. ap not (bit-and t f i)))
 
 imp-not : (a b : Bool) → imp a b ≡ not (a && not b)
 imp-not true true = refl
 imp-not true false = refl
 imp-not false b = refl
 
-pub within-word : (n a b : ℕ) → a < 2 ^ n → a < 2 ^ 32 → b < 2 ^ 32 → eqb (bitAnd a (4294967295 - b)) 0 ≡ within n a b
+within-word : (n a b : ℕ) → a < 2 ^ n → a < 2 ^ 32 → b < 2 ^ 32 → eqb (bitAnd a (4294967295 - b)) 0 ≡ within n a b
 unfolding within
-within-word n a b h ha hb = no-digit n (bitAnd a (4294967295 - b)) (λ i. imp (bit a i) (bit b i)) (and-lt-left n a (4294967295 - b) h) same
+within-word n a b h ha hb =
+    zero-word n (bitAnd a (4294967295 - b)) (and-lt-left n a (4294967295 - b) h)
+    ∙ ap (λ (p : ℕ → Bool). all p n) (fun-ext (λ i. ap not (bit-and a (4294967295 - b) i ∙ sym (low i (ltb i 32) refl)) ∙ sym (imp-not (bit a i) (bit b i))))
   where
     low : (i : ℕ) (x : Bool) → ltb i 32 ≡ x → bit a i && not (bit b i) ≡ bit a i && bit (4294967295 - b) i
     low i true e = ap (λ (x : Bool). bit a i && x) (sym (bit-not 32 b i hb (ltb-true i 32 e)))
     low i false e = let z : bit a i ≡ false = bit-high 32 a i ha (ltb-false i 32 e) in rw z
-
-    same : (i : ℕ) → i < n → imp (bit a i) (bit b i) ≡ not (bit (bitAnd a (4294967295 - b)) i)
-    same i k = imp-not (bit a i) (bit b i) ∙ ap not (low i (ltb i 32) refl ∙ sym (bit-and a (4294967295 - b) i))
-
--- a union is empty where both are
-pub or-zero : (a b : ℕ) → eqb (bitOr a b) 0 ≡ eqb a 0 && eqb b 0
-or-zero a b =
-    on (eqb (bitOr a b) 0)
-    (λ e. e ∙ sym (let z = eqb-true (bitOr a b) 0 e in and-i (eq-eqb a 0 (omega (arith, or-add-and a b, and-le-r a b))) (eq-eqb b 0 (omega (arith, or-add-and a b, and-le-l a b)))))
-    (λ e. e ∙ sym (on (eqb a 0 && eqb b 0)
-    (λ q. let x = eqb-true a 0 (and-l (eqb a 0) (eqb b 0) q) in
-    let y = eqb-true b 0 (and-r (eqb a 0) (eqb b 0) q) in
-    absurd (eqb-false (bitOr a b) 0 e (omega (arith, or-add-and a b))))
-    (λ q. q)))
 
 -- ---- T and F
 

@@ -33,7 +33,7 @@ module _ (n t f : ℕ) where
         apart = all-e _ n (and-r (ltb t (2 ^ n) && ltb f (2 ^ n)) _ e);
       }
 
-  pub sets-i : Sets n t f → sets n t f ≡ true
+  sets-i : Sets n t f → sets n t f ≡ true
   unfolding sets
   sets-i s = and-i (and-i (lt-ltb t (2 ^ n) (s .low-t)) (lt-ltb f (2 ^ n) (s .low-f))) (all-i _ n (s .apart))
 
@@ -60,7 +60,7 @@ unfolding within
 within-i n a b s = all-i _ n (λ i h. imp-i _ _ (s i h))
 
 module _ (n : ℕ) (l : Level) (t f : ℕ) where
-  pub precedes-e : precedes n l t f ≡ true → Precedes n l t f
+  precedes-e : precedes n l t f ≡ true → Precedes n l t f
   unfolding precedes
   precedes-e e =
       let a = sets n (l .t) (l .f) in
@@ -76,7 +76,7 @@ module _ (n : ℕ) (l : Level) (t f : ℕ) where
         now-true = and-r (a && b && c) _ e;
       }
 
-  pub precedes-i : Precedes n l t f → precedes n l t f ≡ true
+  precedes-i : Precedes n l t f → precedes n l t f ≡ true
   unfolding precedes
   precedes-i s =
       and-i

@@ -1,8 +1,8 @@
--- Laws of Booleans. A tautology is proved by computing its truth table.
+-- Laws of Booleans that the library lacks: by cases on one of them, and a tautology by computing its truth table.
 -- Assumes nothing.
 use mathlib.Core.Path.{_≡_, refl, sym}
 use mathlib.Core.Bool.{Bool, true, false, not, _&&_, _||_, true≢false, false≢true}
-use lib.Dec.{T}
+use borrow.Author.Tests.{not-true}
 use Rattle.words.specs.Booleans.{imp}
 
 pub and-l : (a b : Bool) → a && b ≡ true → a ≡ true
@@ -17,26 +17,6 @@ pub and-i : {a b : Bool} → a ≡ true → b ≡ true → a && b ≡ true
 and-i {a = true} p q = q
 and-i {a = false} p q = p
 
-pub not-t : {a : Bool} → a ≡ false → not a ≡ true
-not-t {a = true} e = sym e
-not-t {a = false} e = refl
-
-pub not-f : (a : Bool) → not a ≡ true → a ≡ false
-not-f true e = sym e
-not-f false e = refl
-
-pub or-false : (a : Bool) → a || false ≡ a
-or-false true = refl
-or-false false = refl
-
-pub and-false : (a : Bool) → a && false ≡ false
-and-false true = refl
-and-false false = refl
-
-pub or-true : (a : Bool) → a || true ≡ true
-or-true true = refl
-or-true false = refl
-
 pub or-l : (a b : Bool) → a || b ≡ false → a ≡ false
 or-l true b e = e
 or-l false b e = refl
@@ -44,12 +24,6 @@ or-l false b e = refl
 pub or-r : (a b : Bool) → a || b ≡ false → b ≡ false
 or-r true b e = absurd (true≢false e)
 or-r false b e = e
-
-pub and-comm : (a b : Bool) → a && b ≡ b && a
-and-comm true true = refl
-and-comm true false = refl
-and-comm false true = refl
-and-comm false false = refl
 
 pub not-or : (a b : Bool) → not (a || b) ≡ not a && not b
 not-or true b = refl
@@ -69,14 +43,6 @@ mp false b e h = absurd (false≢true h)
 pub imp-i : (a b : Bool) → (a ≡ true → b ≡ true) → imp a b ≡ true
 imp-i true b h = h refl
 imp-i false b h = refl
-
-pub T-so : (b : Bool) → T b → b ≡ true
-T-so true t = refl
-T-so false t = absurd t
-
-pub so-T : (b : Bool) → b ≡ true → T b
-so-T true e = tt
-so-T false e = absurd (false≢true e)
 
 -- case analysis that keeps the equation
 pub on {ℓ} : {C : Type ℓ} (b : Bool) → (b ≡ true → C) → (b ≡ false → C) → C
@@ -112,4 +78,4 @@ same false b = not b
 -- an equation between two sides that a truth table shows to be the same
 pub same-eq : {a b : Bool} → same a b ≡ true → a ≡ b
 same-eq {a = true} e = sym e
-same-eq {a = false} {b = b} e = sym (not-f b e)
+same-eq {a = false} {b = b} e = sym (not-true b e)

@@ -2,7 +2,7 @@
 -- Assumes nothing.
 use mathlib.Core.Path.{_≡_, refl, sym, ap, ap₂, _∙_}
 use mathlib.Core.Bool.{Bool, true, false}
-use Prim.Native.Nat.{ℕ, zero, suc, _+_, _*_, _/_, _^_, _≤_, _<_, zero-le, suc-le-suc}
+use Prim.Native.Nat.{ℕ, zero, suc, _+_, _*_, _/_, _^_, _<_, suc-le-suc}
 use native.Mathlib.Nat.{le-of-suc-le-suc, not-suc-le-zero, zero-lt-suc, pow-suc}
 use native.Mathlib.Omega.{arith}
 use Rattle.words.specs.Booleans.{digit}
@@ -45,11 +45,3 @@ pub wordOf-cong : (p q : ℕ → Bool) (n : ℕ) → ((i : ℕ) → i < n → p 
 unfolding wordOf
 wordOf-cong p q zero h = refl
 wordOf-cong p q (suc n) h = ap₂ (λ (x y : ℕ). x + 2 * y) (ap digit (h zero (zero-lt-suc n))) (wordOf-cong (λ j. p (suc j)) (λ j. q (suc j)) n (λ i b. h (suc i) (suc-le-suc b)))
-
--- what passes nothing from n to k has one word below n and below k
-pub wordOf-width : (p : ℕ → Bool) (n k : ℕ) → n ≤ k → ((i : ℕ) → n ≤ i → p i ≡ false) → wordOf p k ≡ wordOf p n
-unfolding wordOf
-wordOf-width p zero zero h z = refl
-wordOf-width p zero (suc k) h z = rw (z zero zero-le) (omega (arith, wordOf-width (λ j. p (suc j)) zero k zero-le (λ i b. z (suc i) zero-le)))
-wordOf-width p (suc n) zero h z = absurd (not-suc-le-zero h)
-wordOf-width p (suc n) (suc k) h z = ap (λ (x : ℕ). digit (p zero) + 2 * x) (wordOf-width (λ j. p (suc j)) n k (le-of-suc-le-suc h) (λ i b. z (suc i) (suc-le-suc b)))

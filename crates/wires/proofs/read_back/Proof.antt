@@ -1,13 +1,12 @@
 -- `read_back` meets its contract: each test of the code is a condition of the definition, in its order.
 -- Assumes nothing.
 use mathlib.Core.Path.{_≡_, ap, subst, _∙_}
-use mathlib.Core.Bool.{false}
+use mathlib.Core.Bool.{false, or-true}
 use mathlib.Core.Logic.{⊎-elim}
 use Prim.Native.Nat.{ℕ, _≤_, _<_}
 use lib.Dec.{ltb}
 use lib.ListN.{length}
 use borrow.Author.Tests.{lt-ltb, le-ltb, ltb-false, not-true, not-false}
-use Rattle.words.proofs.Truth.{or-true}
 use Rattle.refusals.specs.declared.Outcome.the-variants.{Taken}
 use Rattle.state.specs.declared.Run.{Run}
 use Rattle.dimensions.specs.Sizes.{outside}
