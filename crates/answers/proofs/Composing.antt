@@ -17,9 +17,9 @@ use Rattle.text.specs.Decimal.{decimal}
 use Rattle.text.proofs.Appending.{appended-join, appended-then, appended-text}
 use Rattle.text.proofs.Decimals.{decimal-length, decimal-short}
 use Rattle.solver.specs.declared.Answer.{Answer}
-use Rattle.solver.specs.declared.Verdict.{Verdict}
-use Rattle.solver.specs.declared.Verdict.the-variants.{Satisfiable, Unsatisfiable, Unknown}
-use Rattle.answers.specs.Answers.{literal, literals, verdictText, answerText, refusedLine, refusalText}
+use Rattle.verdicts.specs.declared.Verdict.{Verdict}
+use Rattle.verdicts.specs.declared.Verdict.the-variants.{Satisfiable, Unsatisfiable, Unknown}
+use Rattle.answers.specs.Printed.{literal, literals, verdictText, answerText, refusedLine, refusalText}
 
 -- what is left gives what the whole gives, when one literal is appended
 pub literals-next : (t r : Text) (n i model : ℕ) → i < n → r ≡ appended t (literal (i + 1) (bit model i))

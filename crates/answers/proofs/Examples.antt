@@ -5,8 +5,8 @@ use Rattle.words.specs.Sets.{bit}
 use Rattle.refusals.specs.declared.Refusal.the-variants.{TextsDiffer}
 use Rattle.lexer.specs.Spelling.{bytes}
 use Rattle.text.specs.Decimal.{decimal}
-use Rattle.solver.specs.declared.Verdict.the-variants.{Satisfiable, Unsatisfiable, Unknown}
-use Rattle.answers.specs.Answers.{literals, answerText, refusalText}
+use Rattle.verdicts.specs.declared.Verdict.the-variants.{Satisfiable, Unsatisfiable, Unknown}
+use Rattle.answers.specs.Printed.{literals, answerText, refusalText}
 
 example : answerText 2 (record { count = 3; verdict = Satisfiable 2 }) ≡ bytes "c steps 3\ns SATISFIABLE\nv -1 2 0\n"
 unfolding answerText literals decimal bit

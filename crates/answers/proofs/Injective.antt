@@ -7,20 +7,20 @@ use mathlib.Core.List.{List, [], _∷_, _++_, append-assoc, append-cancel-left}
 use Prim.Native.Nat.{ℕ, zero, suc, _+_, _^_, _≤_, _<_}
 use native.Mathlib.Nat.{lt-of-le-of-lt}
 use native.Mathlib.Omega.{arith}
-use lib.Dec.{lit<}
 use lib.ListN.{length, getD}
 use Rattle.words.specs.Sets.{bit}
 use Rattle.words.proofs.Operations.{bit-ext}
 use Rattle.words.proofs.Truth.{and-l, and-r}
 use Rattle.refusals.specs.declared.Refusal.{Refusal}
-use Rattle.refusals.specs.declared.Refusal.the-variants as refusal
 use Rattle.refusals.specs.Numbers.{numberOf}
+use Rattle.refusals.proofs.Numbers.{number-injective, number-lt}
 use Rattle.lexer.specs.Spelling.{bytes}
 use Rattle.text.specs.Decimal.{decimal}
 use Rattle.text.proofs.Decimals.{isDigit, allDigits, decimal-digits, decimal-injective, decimal-some}
 use Rattle.tables.specs.declared.Row.{Row}
 use Rattle.state.specs.State.{State, fresh}
-use Rattle.solver.specs.Answers.{Ran, runFrom, verdictOf, answerOf}
+use Rattle.verdicts.specs.Verdicts.{verdictOf}
+use Rattle.solver.specs.Entries.{Ran, runFrom, answerOf}
 use Rattle.solver.proofs.RunLaws.{RunOf, run-of}
 use Rattle.solver.proofs.StepLaws.{fresh-formed, after-formed}
 use Rattle.solver.specs.declared.Answer.{Answer}
@@ -28,9 +28,9 @@ use Rattle.solver.specs.declared.Solved.{Solved}
 use Rattle.solver.specs.declared.Solved.the-variants as solved
 use Rattle.state.specs.declared.Standing.{Standing}
 use Rattle.state.specs.declared.Standing.the-variants.{Open, Satisfied, Refuted}
-use Rattle.solver.specs.declared.Verdict.{Verdict}
-use Rattle.solver.specs.declared.Verdict.the-variants.{Satisfiable, Unsatisfiable, Unknown}
-use Rattle.answers.specs.Answers.{literal, literals, verdictText, answerText, refusalText, solvedText}
+use Rattle.verdicts.specs.declared.Verdict.{Verdict}
+use Rattle.verdicts.specs.declared.Verdict.the-variants.{Satisfiable, Unsatisfiable, Unknown}
+use Rattle.answers.specs.Printed.{literal, literals, verdictText, answerText, refusalText, solvedText}
 
 -- ---- pieces
 
@@ -149,50 +149,12 @@ run-within n rows budget h = record { count = lt-of-le-of-lt (ran .most) h; mode
 
 -- ---- refusals
 
--- the refusal of a number
-refusalOf : ℕ → Refusal
-refusalOf k =
-    getD (refusal.NoModel ∷ refusal.Variables ∷ refusal.RowCount ∷ refusal.RowBit ∷ refusal.RowBuffer ∷ refusal.Text ∷ refusal.TextsDiffer ∷ refusal.GateBuffer ∷ refusal.NumberLine ∷ refusal.Gates ∷ refusal.Wires ∷ refusal.LineBuffer ∷ refusal.State ∷ refusal.OtherVariables ∷ []) k refusal.NoModel
-
-back : (r : Refusal) → refusalOf (numberOf r) ≡ r
-unfolding refusalOf
-back refusal.Variables = refl
-back refusal.RowCount = refl
-back refusal.RowBit = refl
-back refusal.RowBuffer = refl
-back refusal.Text = refl
-back refusal.TextsDiffer = refl
-back refusal.GateBuffer = refl
-back refusal.NumberLine = refl
-back refusal.Gates = refl
-back refusal.Wires = refl
-back refusal.LineBuffer = refl
-back refusal.State = refl
-back refusal.OtherVariables = refl
-back refusal.NoModel = refl
-
-number-below : (r : Refusal) → numberOf r < 2 ^ 64
-number-below refusal.Variables = lit< tt
-number-below refusal.RowCount = lit< tt
-number-below refusal.RowBit = lit< tt
-number-below refusal.RowBuffer = lit< tt
-number-below refusal.Text = lit< tt
-number-below refusal.TextsDiffer = lit< tt
-number-below refusal.GateBuffer = lit< tt
-number-below refusal.NumberLine = lit< tt
-number-below refusal.Gates = lit< tt
-number-below refusal.Wires = lit< tt
-number-below refusal.LineBuffer = lit< tt
-number-below refusal.State = lit< tt
-number-below refusal.OtherVariables = lit< tt
-number-below refusal.NoModel = lit< tt
-
 refusal-spread : (r : Refusal) → refusalText r ≡ bytes "c refused " ++ (decimal (numberOf r) ++ (10 ∷ bytes "s UNKNOWN\n"))
 unfolding refusalText
 refusal-spread r = simp append-assoc
 
 pub refusal-injective : (q r : Refusal) → refusalText q ≡ refusalText r → q ≡ r
-refusal-injective q r e = sym (back q) ∙ ap refusalOf (decimal-injective (numberOf q) (numberOf r) (number-below q) (number-below r) (parts .0)) ∙ back r
+refusal-injective q r e = number-injective q r (decimal-injective (numberOf q) (numberOf r) (omega (arith, number-lt q)) (omega (arith, number-lt r)) (parts .0))
   where
     parts : (decimal (numberOf q) ≡ decimal (numberOf r)) × (bytes "s UNKNOWN\n" ≡ bytes "s UNKNOWN\n")
     parts =

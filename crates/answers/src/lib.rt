@@ -1,17 +1,17 @@
 // What the pair program prints, composed whole.
 use refusals::Refusal;
 use solver::Answer;
-use solver::Verdict;
 use text::Text;
+use verdicts::Verdict;
 ghost use mathlib.Core.Path.{_≡_};
 ghost use Prim.Native.Nat.{_+_, _≤_, min};
 ghost use Rattle.text.specs.Texts.{textOf, appended};
-ghost use Rattle.answers.specs.Answers as Answers;
-ghost use Rattle.answers.specs.Answers.{verdictText, answerText, refusedLine, refusalText};
+ghost use Rattle.answers.specs.Printed as Printed;
+ghost use Rattle.answers.specs.Printed.{verdictText, answerText, refusedLine, refusalText};
 
 // The text with a variable more, negative where it is false.
 fn literal(text: Text, variable: u32, positive: bool) -> Text
-    ensures { λ r. ⌜ r ≡ appended text (Answers.literal variable positive) ⌝ }
+    ensures { λ r. ⌜ r ≡ appended text (Printed.literal variable positive) ⌝ }
 {
     if positive {
         text.append(b" ").decimal(variable as u64)
@@ -23,7 +23,7 @@ fn literal(text: Text, variable: u32, positive: bool) -> Text
 // The text with the literals of the first n variables more.
 fn literals(text: Text, n: u32, model: u32) -> Text
     requires { ⌜ n ≤ 32 ⌝ }
-    ensures { λ r. ⌜ r ≡ appended text (Answers.literals n 0 model) ⌝ }
+    ensures { λ r. ⌜ r ≡ appended text (Printed.literals n 0 model) ⌝ }
 {
     let mut out = text;
     let mut i = 0;

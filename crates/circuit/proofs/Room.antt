@@ -19,7 +19,7 @@ use Rattle.dimensions.specs.Sizes.{outside, ceiling}
 use Rattle.text.specs.declared.Text.{Text}
 use Rattle.text.specs.Texts.{textOf}
 use Rattle.text.proofs.Appending.{text-within}
-use Rattle.answers.specs.Answers.{refusedLine}
+use Rattle.answers.specs.Printed.{refusedLine}
 use Rattle.gates.specs.Memory.{wordsOf, over}
 use Rattle.gates.proofs.InMemory.{words-length}
 use Rattle.generator.specs.declared.Generated.{Generated}

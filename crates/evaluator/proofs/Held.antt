@@ -13,12 +13,12 @@ use lib.ListN.{length, getD, take, drop, set, length-map, List·getD-map}
 use lib.Seq.{take-at, take-length, length-take-le, getD-take, take-suc, drop-cons, append-snoc, set-at, drop-set-lt}
 use Rattle.words.specs.Booleans.{digit, imp}
 use Rattle.words.specs.Sets.{all}
-use Rattle.words.proofs.Truth.{mp}
+use Rattle.words.proofs.Truth.{mp, digit-lt}
 use Rattle.gates.specs.Gates.{wire, value, wiresOf}
 use Rattle.evaluator.specs.Values.{held, plain}
 use Rattle.gates.specs.Memory.{gateOf, gatesOf, drives, accepted, bytesOf, bitsOf, bits, over}
 use Rattle.gates.proofs.InMemory.{accepted-length, bytesOf-bitsOf}
-use Rattle.evaluator.proofs.Running.{Run, digit-lt, value-read, at-each, read-front, front-length, next, values-length}
+use Rattle.evaluator.proofs.Running.{Run, value-read, at-each, read-front, front-length, next, values-length}
 
 -- what wire i's byte has beyond its value
 abbrev mark : ℕ → ℕ

@@ -12,7 +12,7 @@ use lib.ListN.{length, getD, take, drop, set, length-set, length-map, drop-of-le
 use lib.Seq.{take-length, take-append-seam, drop-append-add, drop-drop, getD-take, take-suc-set, drop-set-lt, length-take-le}
 use Rattle.words.specs.Booleans.{digit, _⊕_}
 use Rattle.words.specs.Sets.{all}
-use Rattle.words.proofs.Truth.{on}
+use Rattle.words.proofs.Truth.{on, digit-lt, digit-bit}
 use Rattle.words.proofs.Upto.{all-e}
 use Rattle.gates.specs.Gates.{Gate, wire, value, wiresOf}
 use Rattle.evaluator.specs.Values.{table}
@@ -21,18 +21,10 @@ use Rattle.gates.proofs.Judging.{drop-three, accepted-at, accepted-uneven, driv
 use Rattle.gates.proofs.Circuits.{wires-length}
 use Rattle.gates.proofs.InMemory.{accepted-length}
 
-bit-digit : (p : Bool) → eqb (digit p) 1 ≡ p
-bit-digit true = refl
-bit-digit false = refl
-
-pub digit-lt : (p : Bool) → digit p < 2
-digit-lt true = omega arith
-digit-lt false = omega arith
-
 -- a gate's value from the bytes that it reads
 pub value-read : (w : List Bool) (k a b x y : ℕ) → x ≡ digit (wire w a) → y ≡ digit (wire w b)
     → value (bitsOf (x ∷ (y ∷ []))) (gateOf k 0 1) ≡ value w (gateOf k a b)
-value-read w k a b x y ex ey = go k (ap (λ (v : ℕ). eqb v 1) ex ∙ bit-digit (wire w a)) (ap (λ (v : ℕ). eqb v 1) ey ∙ bit-digit (wire w b))
+value-read w k a b x y ex ey = go k (ap (λ (v : ℕ). eqb v 1) ex ∙ digit-bit (wire w a)) (ap (λ (v : ℕ). eqb v 1) ey ∙ digit-bit (wire w b))
   where
     go : (k : ℕ) → eqb x 1 ≡ wire w a → eqb y 1 ≡ wire w b → value (bitsOf (x ∷ (y ∷ []))) (gateOf k 0 1) ≡ value w (gateOf k a b)
     go zero p q = ap₂ (λ (s t : Bool). s ⊕ t) p q

@@ -21,7 +21,7 @@ use Rattle.state.specs.declared.Run.{Run}
 use Rattle.solver.specs.declared.Stepped.{Stepped}
 use Rattle.solver.specs.declared.Solved.{Solved}
 use Rattle.solver.specs.declared.Solved.the-variants as solved′
-use Rattle.solver.specs.Answers.{stepped, solved}
+use Rattle.solver.specs.Entries.{stepped, solved}
 use Rattle.stored.specs.Words.{runIn}
 use Rattle.generator.specs.declared.Generated.{Generated}
 use Rattle.generator.specs.declared.Generated.the-variants as generated′

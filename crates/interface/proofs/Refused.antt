@@ -2,22 +2,22 @@
 -- Assumes nothing.
 use mathlib.Core.Path.{_≡_}
 use mathlib.Core.List.{List, [], _∷_, _++_}
-use mathlib.Core.Bool.{not, _||_}
+use mathlib.Core.Bool.{not}
 use Prim.Native.Nat.{ℕ, _*_}
 use lib.Dec.{ltb}
 use lib.ListN.{length}
 use Rattle.refusals.specs.Checks.{Check, check, outcome}
 use Rattle.refusals.specs.declared.Refusal.{Refusal}
-use Rattle.refusals.specs.declared.Refusal.the-variants.{RowBuffer, RowBit, GateBuffer, Gates, Wires, LineBuffer}
+use Rattle.refusals.specs.declared.Refusal.the-variants.{GateBuffer, Gates, Wires, LineBuffer}
 use Rattle.refusals.specs.declared.Outcome.the-variants.{Refused}
 use Rattle.refusals.proofs.Outcomes.{outcome-refused}
 use Rattle.dimensions.specs.declared.Dimensions.{Dimensions}
 use Rattle.dimensions.specs.Sizes.{sizeChecks, ceiling, inputWires}
-use Rattle.tables.specs.Acceptance.{short, high, tableChecks}
+use Rattle.tables.specs.Acceptance.{wordChecks, tableChecks}
 use Rattle.state.specs.declared.Run.{Run}
 use Rattle.solver.specs.declared.Solved.the-variants as solved′
 use Rattle.state.specs.WellFormed.{stateChecks}
-use Rattle.solver.specs.Answers.{stepped, solved}
+use Rattle.solver.specs.Entries.{stepped, solved}
 use Rattle.generator.specs.declared.Generated.the-variants as generated′
 use Rattle.generator.specs.Generation.{generated, written}
 use Rattle.wires.specs.Packing.{packChecks, packed}
@@ -35,7 +35,7 @@ module _ (d : Dimensions) (q : Refusal) (h : outcome (sizeChecks (d .n) (d .left
 
   module _ (left right : List ℕ) where
     pub accept-refused : outcome (tableChecks d left right) ≡ Refused q
-    accept-refused = first-refused (check (short (d .left) left || short (d .right) right) RowBuffer ∷ (check (high (d .n) (d .left) left || high (d .n) (d .right) right) RowBit ∷ []))
+    accept-refused = first-refused (wordChecks d left right)
 
     more-refused : (rest : List Check) → outcome (tableChecks d left right ++ rest) ≡ Refused q
     more-refused rest = outcome-refused (tableChecks d left right) rest q accept-refused

@@ -3,8 +3,8 @@ use Prim.Native.Nat.{ℕ}
 use mathlib.Core.List.{List, [], _∷_}
 use Rattle.refusals.specs.Numbers.{numberOf}
 use Rattle.solver.specs.declared.Answer.{Answer}
-use Rattle.solver.specs.declared.Modelled.{Modelled}
-use Rattle.solver.specs.declared.Modelled.the-variants as modelled
+use Rattle.verdicts.specs.declared.Modelled.{Modelled}
+use Rattle.verdicts.specs.declared.Modelled.the-variants as modelled
 use Rattle.solver.specs.declared.Solved.{Solved}
 use Rattle.solver.specs.declared.Solved.the-variants as solved
 use Rattle.generator.specs.declared.Generated.{Generated}

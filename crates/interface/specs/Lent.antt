@@ -13,7 +13,7 @@ use Rattle.dimacs.specs.Pair.{pairOf}
 use Rattle.dimensions.specs.Sizes.{outside, ceiling, inputWires, stateWires}
 use Rattle.dimensions.specs.declared.Dimensions.{Dimensions}
 use Rattle.solver.specs.declared.Stepped.{Stepped}
-use Rattle.solver.specs.Answers.{stepped}
+use Rattle.solver.specs.Entries.{stepped}
 use Rattle.stored.specs.Words.{runIn}
 use Rattle.wires.specs.Reading.{readChecks}
 use Rattle.repeats.specs.declared.Applied.{Applied}

@@ -1,11 +1,12 @@
 // Runs: the giant step in place, and the budgeted run.
 use refusals::Refusal;
-use solver::Modelled;
 use solver::Solved;
 use state::Run;
+use verdicts::Modelled;
 ghost use mathlib.Core.Path.{_≡_};
 ghost use Rattle.refusals.specs.Checks.{outcome};
-ghost use Rattle.solver.specs.Answers.{solved, modelOf};
+ghost use Rattle.verdicts.specs.Verdicts.{modelOf};
+ghost use Rattle.solver.specs.Entries.{solved};
 ghost use Rattle.state.specs.State.{fresh, runOf};
 ghost use Rattle.stored.specs.Words.{runIn};
 ghost use Rattle.lent.specs.Codes.{codeOf};
@@ -85,7 +86,7 @@ pub extern "C" fn forkhemit_model(run: &[u32], model: &mut [u64]) -> u8
     ensures { λ r. ⌜ r ≡ modelCode (modelOf (runIn (now (run .entry)))) ⌝ }
     ensures { λ _. ⌜ now (model .exit) ≡ front (modelNumbers (modelOf (runIn (now (run .entry))))) (now (model .entry)) ⌝ }
 {
-    match solver::model(stored::load(run)) {
+    match verdicts::model(stored::load(run)) {
         Modelled::Model(word) => {
             let numbers = [word as u64];
             lent::put(&numbers, model);

@@ -7,7 +7,7 @@ ghost use mathlib.Core.Path.{_≡_};
 ghost use Prim.Native.Nat.{min};
 ghost use lib.ListN as ListN;
 ghost use Rattle.bristol.specs.Writing as Writing;
-ghost use Rattle.answers.specs.Answers.{answerText};
+ghost use Rattle.answers.specs.Printed.{answerText};
 ghost use Rattle.lines.specs.Numbers.{budgetOf};
 ghost use Rattle.lent.specs.Codes.{codeOf};
 ghost use Rattle.interface.specs.Codes.{lineCode, lineNumbers, linesCode, linesNumbers, budgetCode, budgetNumbers, answerFrom};

@@ -19,9 +19,9 @@ use Rattle.scan.specs.declared.Rule.{Rule}
 use Rattle.scan.specs.declared.Rule.the-variants.{AllSatisfied, Conflict, Unit, Choice}
 use Rattle.state.specs.declared.Standing.{Standing}
 use Rattle.state.specs.declared.Standing.the-variants.{Open, Satisfied, Refuted}
-use Rattle.state.specs.State.{State, isSatisfied}
+use Rattle.state.specs.State.{State, isSatisfied, ifOpen}
 use Rattle.scan.specs.Rules.{rule}
-use Rattle.solver.specs.Step.{ifOpen, follow, step}
+use Rattle.solver.specs.Step.{follow, step}
 use Rattle.state.specs.WellFormed.{wellFormedState}
 use Rattle.solver.proofs.RuleLaws.{Ruled, ruled, unit-settable, choice-settable}
 use Rattle.state.proofs.WellFormedLaws.{formed-e, chain-head}

@@ -10,9 +10,9 @@ use Rattle.dimensions.specs.declared.Dimensions.{Dimensions}
 use Rattle.tables.specs.declared.Row.{Row}
 use Rattle.dimensions.specs.Sizes.{ceiling, stateWires, inputWires}
 use Rattle.tables.specs.Rows.{rowsOf}
-use Rattle.state.specs.State.{State}
+use Rattle.state.specs.State.{State, ifOpen}
 use Rattle.state.specs.WellFormed.{wellFormedState}
-use Rattle.solver.specs.Step.{ifOpen, step}
+use Rattle.solver.specs.Step.{step}
 use Rattle.gates.specs.Memory.{accepted, bytesOf}
 use Rattle.evaluator.specs.Evaluation.{checks, filled}
 use Rattle.wires.specs.Layout.{stateBits}

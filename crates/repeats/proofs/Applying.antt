@@ -15,7 +15,7 @@ use Rattle.refusals.specs.declared.Outcome.{Outcome}
 use Rattle.refusals.specs.declared.Outcome.the-variants.{Taken, Refused}
 use Rattle.refusals.specs.declared.Refusal.the-variants.{Wires}
 use Rattle.words.specs.Booleans.{digit}
-use Rattle.words.proofs.Truth.{on}
+use Rattle.words.proofs.Truth.{on, digit-bit}
 use Rattle.dimensions.specs.declared.Dimensions.{Dimensions}
 use Rattle.dimensions.specs.Sizes.{stateWires, inputWires}
 use Rattle.tables.specs.Rows.{rowsOf}
@@ -45,10 +45,6 @@ use Rattle.repeats.specs.Application.{turnedBack, nextRun, judged, wires
 use Rattle.repeats.specs.Repeats.{Attempt, circuitWords, longEnough}
 use Rattle.repeats.specs.Demand3.{Accepts}
 use Rattle.repeats.proofs.Judging.{refused, refuse-packing, refuse-wires, take-all, wires-then}
-
-digit-bit : (b : Bool) → eqb (digit b) 1 ≡ b
-digit-bit true = refl
-digit-bit false = refl
 
 -- ---- the circuit in memory
 

@@ -17,11 +17,12 @@ use Rattle.solver.specs.declared.Answer.{Answer}
 use Rattle.state.specs.declared.Run.{Run}
 use Rattle.state.specs.declared.Standing.{Standing}
 use Rattle.state.specs.declared.Standing.the-variants.{Open, Satisfied, Refuted}
-use Rattle.solver.specs.declared.Verdict.{Verdict}
-use Rattle.solver.specs.declared.Verdict.the-variants.{Satisfiable, Unsatisfiable, Unknown}
-use Rattle.state.specs.State.{State, fresh, runOf}
-use Rattle.solver.specs.Step.{ifOpen, after}
-use Rattle.solver.specs.Answers.{Ran, runFrom, verdictOf, answerOf}
+use Rattle.verdicts.specs.declared.Verdict.{Verdict}
+use Rattle.verdicts.specs.declared.Verdict.the-variants.{Satisfiable, Unsatisfiable, Unknown}
+use Rattle.state.specs.State.{State, fresh, runOf, ifOpen}
+use Rattle.solver.specs.Step.{after}
+use Rattle.verdicts.specs.Verdicts.{verdictOf}
+use Rattle.solver.specs.Entries.{Ran, runFrom, answerOf}
 use Rattle.solver.proofs.StepLaws.{fresh-well-formed}
 use Rattle.solver.proofs.RunLaws.{RunOf, run-of}
 use Rattle.gates.specs.Memory.{gatesOf}
@@ -30,7 +31,7 @@ use Rattle.wires.proofs.Series.{length-upto, upto-at, upto-cong}
 use Rattle.netlist.specs.Outputs.{closed}
 use Rattle.netlist.proofs.EveryState.{gates-carry-out}
 use Rattle.bristol.specs.Lines.{circuitText}
-use Rattle.answers.specs.Answers.{answerText}
+use Rattle.answers.specs.Printed.{answerText}
 use Rattle.repeats.specs.Repeats.{Attempt, History, circuitWords, ended, longOnes}
 use Rattle.repeats.specs.Demand3.{Accepts, historyOf, Follows, answerFor, Ends, seen, Demand3}
 use Rattle.repeats.proofs.Histories.{closed-open, open-closed, repeated, number, repeats-are}

@@ -11,9 +11,9 @@ use Rattle.tables.specs.declared.Row.{Row}
 use Rattle.tables.specs.Rows.{rowsOf}
 use Rattle.state.specs.declared.Standing.{Standing}
 use Rattle.state.specs.declared.Standing.the-variants.{Open, Satisfied, Refuted}
-use Rattle.state.specs.State.{State, runOf}
-use Rattle.solver.specs.Step.{ifOpen, step, after}
-use Rattle.solver.specs.Answers.{Ran, runFrom}
+use Rattle.state.specs.State.{State, runOf, ifOpen}
+use Rattle.solver.specs.Step.{step, after}
+use Rattle.solver.specs.Entries.{Ran, runFrom}
 use Rattle.state.specs.WellFormed.{wellFormedState}
 use Rattle.solver.proofs.StepLaws.{step-well-formed}
 use Rattle.wires.specs.Layout.{upto}

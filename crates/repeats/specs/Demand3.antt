@@ -12,11 +12,12 @@ use Rattle.tables.specs.Acceptance.{tableChecks}
 use Rattle.solver.specs.declared.Answer.{Answer}
 use Rattle.state.specs.State.{fresh, runOf}
 use Rattle.solver.specs.Step.{after}
-use Rattle.solver.specs.Answers.{verdictOf, answerOf}
+use Rattle.verdicts.specs.Verdicts.{verdictOf}
+use Rattle.solver.specs.Entries.{answerOf}
 use Rattle.gates.specs.Memory.{gatesOf}
 use Rattle.netlist.specs.Outputs.{closed, CarriesOut}
 use Rattle.bristol.specs.Lines.{circuitText}
-use Rattle.answers.specs.Answers.{answerText}
+use Rattle.answers.specs.Printed.{answerText}
 use Rattle.repeats.specs.Repeats.{Attempt, History, circuitWords, repeats, ended, longOnes}
 
 -- ---- history

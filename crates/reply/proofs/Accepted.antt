@@ -21,14 +21,14 @@ use Rattle.dimacs.specs.Text.{tableOf}
 use Rattle.dimacs.proofs.Accepted.{Within, accepted-pair}
 use Rattle.solver.specs.declared.Solved.{Solved}
 use Rattle.solver.specs.declared.Solved.the-variants as solved′
-use Rattle.solver.specs.Answers.{answerOf, solved}
+use Rattle.solver.specs.Entries.{answerOf, solved}
 use Rattle.solver.specs.Demand2.{Demand2}
 use Rattle.solver.proofs.Demand2.{demand2}
 use Rattle.text.specs.declared.Text.{Text}
 use Rattle.text.specs.Texts.{textOf}
 use Rattle.text.proofs.Appending.{text-within}
 use Rattle.lines.specs.Numbers.{budgetOf}
-use Rattle.answers.specs.Answers.{solvedText}
+use Rattle.answers.specs.Printed.{solvedText}
 use Rattle.lines.specs.declared.Budget.the-variants as budget
 use Rattle.reply.specs.Reply.{dimensionsOf, answered, replied, replyText}
 

@@ -15,9 +15,9 @@ use Rattle.tables.specs.Acceptance.{allBelow}
 use Rattle.dimacs.specs.Clauses.{clauses}
 use Rattle.dimacs.specs.Header.{pastRemarks}
 use Rattle.dimacs.specs.Text.{tableOf}
-use Rattle.solver.specs.Answers.{answerOf, solved}
+use Rattle.solver.specs.Entries.{answerOf, solved}
 use Rattle.lines.specs.Numbers.{fieldOf}
-use Rattle.answers.specs.Answers.{literals, answerText, refusalText}
+use Rattle.answers.specs.Printed.{literals, answerText, refusalText}
 use Rattle.reply.specs.Reply.{replyText}
 
 printed : String → String → String → List ℕ

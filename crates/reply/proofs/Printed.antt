@@ -11,7 +11,7 @@ use Rattle.tables.specs.Rows.{rowsOf}
 use Rattle.dimacs.specs.declared.Pair.{Pair}
 use Rattle.solver.specs.declared.Solved.the-variants as solved
 use Rattle.lines.specs.Numbers.{budgetOf}
-use Rattle.answers.specs.Answers.{solvedText}
+use Rattle.answers.specs.Printed.{solvedText}
 use Rattle.lines.specs.declared.Budget.{Budget}
 use Rattle.lines.specs.declared.Budget.the-variants as budget
 use Rattle.lines.proofs.Readings.{budget-below}

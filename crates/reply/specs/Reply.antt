@@ -6,11 +6,11 @@ use Rattle.dimensions.specs.declared.Dimensions.{Dimensions}
 use Rattle.dimacs.specs.Pair.{pairOf}
 use Rattle.dimacs.specs.Text.{tableOf}
 use Rattle.dimacs.specs.declared.Pair.{Pair}
-use Rattle.solver.specs.Answers.{solved}
+use Rattle.solver.specs.Entries.{solved}
 use Rattle.solver.specs.declared.Solved.{Solved}
 use Rattle.solver.specs.declared.Solved.the-variants.{Refused}
 use Rattle.lines.specs.Numbers.{budgetOf}
-use Rattle.answers.specs.Answers.{solvedText}
+use Rattle.answers.specs.Printed.{solvedText}
 use Rattle.lines.specs.declared.Budget.{Budget}
 use Rattle.lines.specs.declared.Budget.the-variants as budget
 

@@ -8,7 +8,7 @@ use text::Text;
 ghost use mathlib.Core.Path.{_≡_};
 ghost use Prim.Native.Nat.{min};
 ghost use Rattle.text.specs.Texts.{textOf};
-ghost use Rattle.answers.specs.Answers.{solvedText};
+ghost use Rattle.answers.specs.Printed.{solvedText};
 ghost use Rattle.reply.specs.Reply.{answered, replied, replyText};
 
 // The budgeted run over the tables of a pair, or 8.

@@ -14,11 +14,12 @@ use Rattle.state.specs.declared.Level.{Level}
 use Rattle.state.specs.declared.Run.{Run}
 use Rattle.state.specs.declared.Standing.{Standing}
 use Rattle.state.specs.declared.Standing.the-variants.{Open, Satisfied, Refuted}
-use Rattle.solver.specs.declared.Verdict.{Verdict}
-use Rattle.state.specs.State.{State, fresh, stateOf, runOf}
-use Rattle.solver.specs.Step.{ifOpen, step}
+use Rattle.verdicts.specs.declared.Verdict.{Verdict}
+use Rattle.state.specs.State.{State, fresh, stateOf, runOf, ifOpen}
+use Rattle.solver.specs.Step.{step}
 use Rattle.state.specs.WellFormed.{wellFormed}
-use Rattle.solver.specs.Answers.{Ran, runFrom, verdictOf, answerOf}
+use Rattle.verdicts.specs.Verdicts.{verdictOf}
+use Rattle.solver.specs.Entries.{Ran, runFrom, answerOf}
 use Rattle.solver.proofs.StepLaws.{fresh-well-formed}
 use Rattle.state.proofs.HeldRun.{state-back, run-of-formed}
 use Rattle.solver.proofs.HeldStep.{step-formed-run}

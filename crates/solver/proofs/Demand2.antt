@@ -15,12 +15,13 @@ use Rattle.tables.specs.Acceptance.{tableChecks}
 use Rattle.tables.proofs.Accepted.{accepted}
 use Rattle.state.specs.declared.Standing.{Standing}
 use Rattle.state.specs.declared.Standing.the-variants.{Open, Satisfied, Refuted}
-use Rattle.solver.specs.declared.Verdict.the-variants.{Satisfiable, Unsatisfiable, Unknown}
+use Rattle.verdicts.specs.declared.Verdict.the-variants.{Satisfiable, Unsatisfiable, Unknown}
 use Rattle.scan.specs.Rules.{allRows}
 use Rattle.state.specs.State.{State, fresh}
 use Rattle.solver.specs.Step.{after}
 use Rattle.solver.specs.Truth.{allTrue}
-use Rattle.solver.specs.Answers.{Ran, runFrom, verdictOf, answerOf}
+use Rattle.verdicts.specs.Verdicts.{verdictOf}
+use Rattle.solver.specs.Entries.{Ran, runFrom, answerOf}
 use Rattle.solver.specs.Demand2.{Demand2}
 use Rattle.solver.proofs.RunLaws.{RunOf, run-of}
 use Rattle.solver.proofs.LowRows.{lowRow, accepted-low}

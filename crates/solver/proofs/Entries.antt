@@ -1,31 +1,28 @@
 -- What the entries give: each computes from the outcome of its checks, which decide in order.
 -- Assumes nothing.
 use mathlib.Core.Path.{_≡_, refl, sym, ap, ap₂, _∙_}
-use mathlib.Core.Bool.{Bool, true, false, not}
-use mathlib.Core.List.{List, [], _∷_, _++_}
+use mathlib.Core.Bool.{true, not}
+use mathlib.Core.List.{List, _++_}
 use Prim.Native.Nat.{ℕ}
 use lib.Dec.{eqb}
 use borrow.Author.Tests.{eqb-true, not-false}
-use Rattle.refusals.specs.Checks.{check, outcome, given}
+use Rattle.refusals.specs.Checks.{outcome, given}
 use Rattle.refusals.specs.declared.Outcome.{Outcome}
 use Rattle.refusals.specs.declared.Outcome.the-variants.{Taken, Refused}
 use Rattle.refusals.specs.declared.Refusal.{Refusal}
-use Rattle.refusals.specs.declared.Refusal.the-variants.{OtherVariables, NoModel}
+use Rattle.refusals.specs.declared.Refusal.the-variants.{OtherVariables}
 use Rattle.refusals.specs.declared.Refusal.the-variants as refusal
 use Rattle.refusals.proofs.Outcomes.{outcome-taken, outcome-refused, check-passed, checks-taken, refused-taken}
 use Rattle.tables.specs.Acceptance.{tableChecks}
 use Rattle.tables.specs.Rows.{rowsOf}
 use Rattle.dimensions.specs.declared.Dimensions.{Dimensions}
 use Rattle.solver.specs.declared.Answer.{Answer}
-use Rattle.solver.specs.declared.Modelled.the-variants as modelled
 use Rattle.state.specs.declared.Run.{Run}
 use Rattle.solver.specs.declared.Solved.the-variants as solved′
-use Rattle.state.specs.declared.Standing.{Standing}
-use Rattle.state.specs.declared.Standing.the-variants.{Open, Satisfied, Refuted}
 use Rattle.solver.specs.declared.Stepped.{Stepped}
-use Rattle.state.specs.State.{stateOf, runOf, isSatisfied}
+use Rattle.state.specs.State.{stateOf, runOf}
 use Rattle.solver.specs.Step.{step}
-use Rattle.solver.specs.Answers.{answerOf, stepped, solved, modelOf}
+use Rattle.solver.specs.Entries.{answerOf, stepped, solved}
 use Rattle.state.specs.WellFormed.{wellFormed, stateChecks}
 
 -- ---- the checks of tables and run
@@ -86,26 +83,3 @@ module _ (d : Dimensions) (left right : List ℕ) (budget : ℕ) where
 
   pub solve-refused : (r : Refusal) → Refused r ≡ outcome (tableChecks d left right) → solved′.Refused r ≡ solved d left right budget
   solve-refused r e = solve-as (Refused r) e
-
--- ---- the model
-
-module _ (run : Run) where
-  pub model-unformed : wellFormed run ≡ false → modelled.Refused refusal.State ≡ modelOf run
-  unfolding modelOf
-  model-unformed e = rw e
-
-  module _ (w : wellFormed run ≡ true) where
-    model-as : (st : Standing) → run .standing ≡ st → given (outcome (check (not (isSatisfied st)) NoModel ∷ [])) (modelled.Model (run .t)) modelled.Refused ≡ modelOf run
-    unfolding modelOf
-    model-as st e = sym (ap₂
-        (λ (a : Bool) (x : Standing). given (outcome (check (not a) refusal.State ∷ check (not (isSatisfied x)) NoModel ∷ [])) (modelled.Model (run .t)) modelled.Refused)
-        w e)
-
-    pub model-satisfied : run .standing ≡ Satisfied → modelled.Model (run .t) ≡ modelOf run
-    model-satisfied e = model-as Satisfied e
-
-    pub model-open : run .standing ≡ Open → modelled.Refused NoModel ≡ modelOf run
-    model-open e = model-as Open e
-
-    pub model-refuted : run .standing ≡ Refuted → modelled.Refused NoModel ≡ modelOf run
-    model-refuted e = model-as Refuted e

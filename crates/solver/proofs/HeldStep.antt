@@ -13,8 +13,8 @@ use Rattle.state.specs.declared.Run.{Run}
 use Rattle.state.specs.declared.Standing.{Standing}
 use Rattle.state.specs.declared.Standing.the-variants.{Open, Satisfied, Refuted}
 use Rattle.scan.specs.Rules.{rule}
-use Rattle.state.specs.State.{stateOf, runOf}
-use Rattle.solver.specs.Step.{ifOpen, follow, step}
+use Rattle.state.specs.State.{stateOf, runOf, ifOpen}
+use Rattle.solver.specs.Step.{follow, step}
 use Rattle.state.specs.WellFormed.{wellFormed, wellFormedState}
 use Rattle.solver.proofs.RuleLaws.{rule-unit, rule-choice}
 use Rattle.solver.proofs.StepLaws.{step-well-formed, choice-depth}

@@ -22,8 +22,8 @@ use Rattle.scan.specs.declared.Rule.the-variants.{AllSatisfied, Conflict, Unit,
 use Rattle.state.specs.declared.Standing.{Standing}
 use Rattle.state.specs.declared.Standing.the-variants.{Open, Satisfied, Refuted}
 use Rattle.scan.specs.Rules.{unsatisfiedWith, allRows, rule}
-use Rattle.state.specs.State.{State, fresh}
-use Rattle.solver.specs.Step.{back, assign, follow, ifOpen, step, after}
+use Rattle.state.specs.State.{State, fresh, ifOpen}
+use Rattle.solver.specs.Step.{back, assign, follow, step, after}
 use Rattle.solver.specs.Truth.{allTrue}
 use Rattle.scan.proofs.RowLaws.{In}
 use Rattle.solver.proofs.RuleLaws.{Ruled, ruled, Forces, with-unsatisfied, with-count}

@@ -10,7 +10,7 @@ use Rattle.state.specs.declared.Standing.{Standing}
 use Rattle.state.specs.declared.Standing.the-variants.{Open, Satisfied, Refuted}
 use Rattle.state.specs.State.{State}
 use Rattle.solver.specs.Step.{step, after}
-use Rattle.solver.specs.Answers.{Ran, runFrom}
+use Rattle.solver.specs.Entries.{Ran, runFrom}
 
 module _ (n : ℕ) (rows : List Row) where
   -- what a run from s with this budget is

@@ -18,8 +18,8 @@ use Rattle.scan.specs.declared.Rule.the-variants.{AllSatisfied, Conflict, Unit,
 use Rattle.state.specs.declared.Standing.{Standing}
 use Rattle.state.specs.declared.Standing.the-variants.{Open, Satisfied, Refuted}
 use Rattle.scan.specs.Rules.{allRows, rule}
-use Rattle.state.specs.State.{State, fresh}
-use Rattle.solver.specs.Step.{back, follow, ifOpen, step, after}
+use Rattle.state.specs.State.{State, fresh, ifOpen}
+use Rattle.solver.specs.Step.{back, follow, step, after}
 use Rattle.solver.specs.Truth.{rowTrue, allTrue}
 use Rattle.scan.proofs.RowLaws.{all-rows-mono}
 use Rattle.solver.proofs.RuleLaws.{Ruled, ruled}

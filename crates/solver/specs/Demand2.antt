@@ -7,7 +7,7 @@ use Rattle.words.specs.Sets.{bit}
 use Rattle.tables.specs.declared.Row.{Row}
 use Rattle.state.specs.declared.Standing.the-variants.{Open}
 use Rattle.solver.specs.declared.Answer.{Answer}
-use Rattle.solver.specs.declared.Verdict.the-variants.{Satisfiable, Unsatisfiable, Unknown}
+use Rattle.verdicts.specs.declared.Verdict.the-variants.{Satisfiable, Unsatisfiable, Unknown}
 use Rattle.state.specs.State.{fresh}
 use Rattle.solver.specs.Step.{after}
 use Rattle.solver.specs.Truth.{allTrue, occurring}

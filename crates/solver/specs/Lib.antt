@@ -1,4 +1,4 @@
 pub mod Step
-pub mod Answers
+pub mod Entries
 pub mod Truth
 pub mod Demand2

@@ -7,9 +7,8 @@ use Rattle.tables.specs.declared.Row.{Row}
 use Rattle.state.specs.declared.Level.{Level}
 use Rattle.scan.specs.declared.Rule.{Rule}
 use Rattle.scan.specs.declared.Rule.the-variants.{AllSatisfied, Conflict, Unit, Choice}
-use Rattle.state.specs.declared.Standing.{Standing}
 use Rattle.state.specs.declared.Standing.the-variants.{Open, Satisfied, Refuted}
-use Rattle.state.specs.State.{State}
+use Rattle.state.specs.State.{State, ifOpen}
 use Rattle.scan.specs.Rules.{rule}
 
 -- rule 2: with no level left, refuted; else the last level is removed, its T and F are restored, and its variable goes to F
@@ -33,12 +32,6 @@ follow s (Choice v) = record {
   f = s .f;
   levels = record { t = s .t; f = s .f; chosen = v } ∷ s .levels;
 }
-
--- one thing of an open standing, another of a closed one
-abbrev pub ifOpen {ℓ} : {A : Type ℓ} → Standing → A → A → A
-ifOpen Open a b = a
-ifOpen Satisfied a b = b
-ifOpen Refuted a b = b
 
 -- one giant step; a closed state stays as it is
 unfoldable pub step : ℕ → List Row → State → State

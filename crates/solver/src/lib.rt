@@ -5,30 +5,20 @@ use dimensions::Dimensions;
 use refusals::Outcome;
 use refusals::Refusal;
 use state::Run;
-use state::Standing;
+use verdicts::Verdict;
 ghost use mathlib.Core.Path.{_≡_};
-ghost use mathlib.Core.Bool.{false};
 ghost use mathlib.Core.List.{_++_};
-ghost use lib.Dec.{ltb};
 ghost use Rattle.refusals.specs.Checks.{outcome};
 ghost use Rattle.refusals.specs.declared.Outcome.the-variants.{Taken};
 ghost use Rattle.tables.specs.Acceptance.{tableChecks};
 ghost use Rattle.tables.specs.Rows.{rowsOf};
 ghost use Rattle.state.specs.WellFormed.{stateChecks};
-ghost use Rattle.solver.specs.Step.{ifOpen};
-ghost use Rattle.solver.specs.Answers.{verdictOf, answerOf, stepped, solved, modelOf};
+ghost use Rattle.solver.specs.Entries.{answerOf, stepped, solved};
 
 // A run after one step, or as it was with the refusal.
 pub struct Stepped {
     pub outcome: Outcome,
     pub run: Run,
-}
-
-// Satisfiable has its model: the set of the variables that are true.
-pub enum Verdict {
-    Satisfiable(u32),
-    Unsatisfiable,
-    Unknown,
 }
 
 // How many steps were taken, and what they led to.
@@ -40,12 +30,6 @@ pub struct Answer {
 // The budgeted run's answer, or why there is none.
 pub enum Solved {
     Of(Answer),
-    Refused(Refusal),
-}
-
-// A run's model, or why there is none.
-pub enum Modelled {
-    Model(u32),
     Refused(Refusal),
 }
 
@@ -84,30 +68,6 @@ pub fn step_in_place(d: Dimensions, left: &[u32], right: &[u32], run: &mut Run) 
     next.outcome
 }
 
-// Whether the run has steps left to take.
-fn goes_on(run: Run, count: u64, budget: u64) -> bool
-    ensures { λ r. ⌜ r ≡ ifOpen (run .standing) (ltb count budget) false ⌝ }
-{
-    let standing = run.standing;
-    match standing {
-        Standing::Open => count < budget,
-        Standing::Satisfied => false,
-        Standing::Refuted => false,
-    }
-}
-
-// The verdict of a run that goes no further.
-fn verdict_of(run: Run) -> Verdict
-    ensures { λ r. ⌜ r ≡ verdictOf (run .standing) (run .t) ⌝ }
-{
-    let standing = run.standing;
-    match standing {
-        Standing::Open => Verdict::Unknown,
-        Standing::Satisfied => Verdict::Satisfiable(run.t),
-        Standing::Refuted => Verdict::Unsatisfiable,
-    }
-}
-
 // The answer of a fresh run over accepted tables.
 fn run_to_close(d: Dimensions, left: &[u32], right: &[u32], budget: u64) -> Answer
     requires { ⌜ outcome (tableChecks d (now left) (now right)) ≡ Taken ⌝ }
@@ -115,13 +75,13 @@ fn run_to_close(d: Dimensions, left: &[u32], right: &[u32], budget: u64) -> Answ
 {
     let mut run = Run::fresh(d.n);
     let mut count = 0;
-    while goes_on(run, count, budget) {
+    while verdicts::goes_on(run, count, budget) {
         run = rules::giant_step(d, left, right, run);
         count += 1;
     }
     Answer {
         count,
-        verdict: verdict_of(run),
+        verdict: verdicts::verdict_of(run),
     }
 }
 
@@ -133,20 +93,5 @@ pub fn solve(d: Dimensions, left: &[u32], right: &[u32], budget: u64) -> Solved
     match checked {
         Outcome::Refused(refusal) => Solved::Refused(refusal),
         Outcome::Taken => Solved::Of(run_to_close(d, left, right, budget)),
-    }
-}
-
-// The model of a satisfied run; 12 or 14 if there is none.
-pub fn model(run: Run) -> Modelled
-    ensures { λ r. ⌜ r ≡ modelOf run ⌝ }
-{
-    if !state::well_formed(run) {
-        return Modelled::Refused(Refusal::State);
-    }
-    let standing = run.standing;
-    match standing {
-        Standing::Satisfied => Modelled::Model(run.t),
-        Standing::Open => Modelled::Refused(Refusal::NoModel),
-        Standing::Refuted => Modelled::Refused(Refusal::NoModel),
     }
 }

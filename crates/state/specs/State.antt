@@ -19,10 +19,17 @@ pub record State : Type 0 where
 abbrev pub fresh : State
 fresh = record { standing = Open; t = 0; f = 0; levels = [] }
 
+-- the standing is satisfied
 abbrev pub isSatisfied : Standing → Bool
 isSatisfied Open = false
 isSatisfied Satisfied = true
 isSatisfied Refuted = false
+
+-- one thing of an open standing, another of a closed one
+abbrev pub ifOpen {ℓ} : {A : Type ℓ} → Standing → A → A → A
+ifOpen Open a b = a
+ifOpen Satisfied a b = b
+ifOpen Refuted a b = b
 
 -- an unused level
 abbrev pub none : Level

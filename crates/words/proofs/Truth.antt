@@ -2,8 +2,11 @@
 -- Assumes nothing.
 use mathlib.Core.Path.{_≡_, refl, sym}
 use mathlib.Core.Bool.{Bool, true, false, not, _&&_, _||_, true≢false, false≢true}
+use Prim.Native.Nat.{_<_}
+use native.Mathlib.Omega.{arith}
+use lib.Dec.{eqb}
 use borrow.Author.Tests.{not-true}
-use Rattle.words.specs.Booleans.{imp}
+use Rattle.words.specs.Booleans.{imp, digit}
 
 pub and-l : (a b : Bool) → a && b ≡ true → a ≡ true
 and-l true b e = refl
@@ -79,3 +82,13 @@ same false b = not b
 pub same-eq : {a b : Bool} → same a b ≡ true → a ≡ b
 same-eq {a = true} e = sym e
 same-eq {a = false} {b = b} e = sym (not-true b e)
+
+-- ---- a Boolean as a digit
+
+pub digit-lt : (b : Bool) → digit b < 2
+digit-lt true = omega arith
+digit-lt false = omega arith
+
+pub digit-bit : (b : Bool) → eqb (digit b) 1 ≡ b
+digit-bit true = refl
+digit-bit false = refl

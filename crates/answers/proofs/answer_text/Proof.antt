@@ -4,7 +4,7 @@ use mathlib.Core.Path.{ap, _∙_}
 use Prim.Native.Nat.{ℕ}
 use native.Mathlib.Omega.{arith}
 use Rattle.text.specs.Texts.{textOf}
-use Rattle.answers.specs.Answers.{answerText}
+use Rattle.answers.specs.Printed.{answerText}
 use Rattle.answers.proofs.Composing.{answer-composed}
 use borrow.Author.Needs.{needs}
 use Rattle.answers.proofs.answer_text.Statement.{statement}

@@ -6,7 +6,7 @@ use Rattle.lexer.specs.Spelling.{bytes}
 use Rattle.text.specs.Texts.{appended}
 use Rattle.text.specs.Decimal.{decimal}
 use Rattle.text.proofs.Appending.{appended-then}
-use Rattle.answers.specs.Answers.{literal}
+use Rattle.answers.specs.Printed.{literal}
 use borrow.Author.Needs.{needs}
 use Rattle.answers.proofs.literal.Statement.{statement}
 use Rattle.answers.proofs.literal.Tie as tie

@@ -8,7 +8,7 @@ use native.Mathlib.Omega.{arith}
 use borrow.Author.Needs.{needs}
 use Rattle.words.specs.Sets.{bit}
 use Rattle.text.specs.Texts.{appended}
-use Rattle.answers.specs.Answers.{literal, literals}
+use Rattle.answers.specs.Printed.{literal, literals}
 use Rattle.answers.proofs.Composing.{literals-next}
 use Rattle.answers.proofs.literals.Statement.{statement}
 use Rattle.answers.proofs.literals.Tie as tie

@@ -2,8 +2,8 @@
 -- Assumes nothing.
 use mathlib.Core.Path.{sym, ap, _∙_}
 use Rattle.text.specs.Texts.{appended}
-use Rattle.solver.specs.declared.Verdict.{Verdict}
-use Rattle.answers.specs.Answers.{verdictText}
+use Rattle.verdicts.specs.declared.Verdict.{Verdict}
+use Rattle.answers.specs.Printed.{verdictText}
 use Rattle.answers.proofs.Composing.{satisfiable-composed}
 use borrow.Author.Needs.{needs}
 use Rattle.answers.proofs.verdict.Statement.{statement}

@@ -4,7 +4,7 @@ use mathlib.Core.Path.{sym, ap, _∙_}
 use Prim.Native.Nat.{ℕ}
 use lib.Bits.{and-mask, mask-lt}
 use borrow.Author.Tests.{ne-eqb}
-use Rattle.solver.specs.declared.Verdict.the-variants.{Satisfiable}
+use Rattle.verdicts.specs.declared.Verdict.the-variants.{Satisfiable}
 use Rattle.lent.specs.Codes.{verdictFrom}
 use Rattle.lent.proofs.verdict_from.Statement.{statement}
 use Rattle.lent.proofs.verdict_from.Tie as tie

@@ -3,7 +3,7 @@
 use mathlib.Core.Path.{sym, ap, _∙_}
 use Prim.Native.Nat.{min}
 use Rattle.text.specs.Texts.{textOf}
-use Rattle.answers.specs.Answers.{solvedText}
+use Rattle.answers.specs.Printed.{solvedText}
 use Rattle.solver.specs.declared.Solved.{Solved}
 use borrow.Author.Needs.{needs}
 use Rattle.reply.proofs.print.Statement.{statement}

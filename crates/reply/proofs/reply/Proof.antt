@@ -4,7 +4,7 @@ use mathlib.Core.Path.{ap, _∙_}
 use Prim.Native.Nat.{min}
 use Rattle.text.specs.Texts.{textOf}
 use Rattle.dimacs.specs.declared.Pair.{Pair}
-use Rattle.answers.specs.Answers.{solvedText}
+use Rattle.answers.specs.Printed.{solvedText}
 use Rattle.solver.specs.declared.Solved.{Solved}
 use Rattle.reply.specs.Reply.{replied, replyText}
 use Rattle.reply.proofs.Accepted.{printed}

@@ -48,7 +48,7 @@ use Rattle.refusals.proofs.Outcome.Laws as O′
 use Rattle.dimensions.specs.declared.Dimensions.{Dimensions}
 use Rattle.dimensions.proofs.Dimensions as D
 use Rattle.dimensions.proofs.Dimensions.Laws as D′
-use Rattle.solver.specs.Answers.{stepped}
+use Rattle.solver.specs.Entries.{stepped}
 use Rattle.state.specs.declared.Run.{Run}
 use Rattle.solver.specs.declared.Stepped.{Stepped}
 use Rattle.state.proofs.Run as R

@@ -7,8 +7,8 @@ use native.Mathlib.Omega.{arith}
 use lib.ListN.{length, take}
 use Rattle.text.specs.declared.Text.{Text}
 use Rattle.text.specs.Texts.{textOf}
-use Rattle.solver.specs.declared.Verdict.{Verdict}
-use Rattle.answers.specs.Answers.{answerText}
+use Rattle.verdicts.specs.declared.Verdict.{Verdict}
+use Rattle.answers.specs.Printed.{answerText}
 use Rattle.lent.specs.Codes.{codeOf}
 use Rattle.interface.specs.Codes.{answerFrom}
 use Rattle.lent.specs.Lent.{frontIf, textOutcome}

@@ -2,10 +2,10 @@
 -- Assumes nothing.
 use mathlib.Core.Path.{sym, ap}
 use Rattle.state.specs.declared.Standing.{Standing}
-use Rattle.solver.specs.Answers.{verdictOf}
+use Rattle.verdicts.specs.Verdicts.{verdictOf}
 use borrow.Author.Needs.{needs}
-use Rattle.solver.proofs.verdict_of.Statement.{statement}
-use Rattle.solver.proofs.verdict_of.Tie as tie
+use Rattle.verdicts.proofs.verdict_of.Statement.{statement}
+use Rattle.verdicts.proofs.verdict_of.Tie as tie
 
 enum-told : tie.Need-enum-told
 enum-told c = search needs

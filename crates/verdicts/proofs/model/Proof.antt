@@ -2,10 +2,10 @@
 -- Assumes nothing.
 use mathlib.Core.Path.{sym, _∙_}
 use borrow.Author.Tests.{not-true, not-false}
-use Rattle.solver.proofs.Entries.{model-unformed, model-satisfied, model-open, model-refuted}
+use Rattle.verdicts.proofs.Models.{model-unformed, model-satisfied, model-open, model-refuted}
 use borrow.Author.Needs.{needs}
-use Rattle.solver.proofs.model.Statement.{statement}
-use Rattle.solver.proofs.model.Tie as tie
+use Rattle.verdicts.proofs.model.Statement.{statement}
+use Rattle.verdicts.proofs.model.Tie as tie
 
 well-formed-requires : tie.Need-well-formed-requires
 well-formed-requires c κs = search needs

@@ -4,10 +4,10 @@ use mathlib.Core.Path.{sym, ap}
 use mathlib.Core.Bool.{false}
 use lib.Dec.{ltb}
 use Rattle.state.specs.declared.Standing.{Standing}
-use Rattle.solver.specs.Step.{ifOpen}
+use Rattle.state.specs.State.{ifOpen}
 use borrow.Author.Needs.{needs}
-use Rattle.solver.proofs.goes_on.Statement.{statement}
-use Rattle.solver.proofs.goes_on.Tie as tie
+use Rattle.verdicts.proofs.goes_on.Statement.{statement}
+use Rattle.verdicts.proofs.goes_on.Tie as tie
 
 enum-told : tie.Need-enum-told
 enum-told c = search needs

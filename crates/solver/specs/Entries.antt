@@ -1,28 +1,21 @@
 -- The budgeted run's answer, and what each entry gives: document 01, "Giant step" and "Turned back".
 use Prim.Native.Nat.{ℕ, zero, suc}
-use mathlib.Core.Bool.{not}
-use mathlib.Core.List.{List, [], _∷_, _++_}
-use Rattle.refusals.specs.Checks.{check, outcome, given}
+use mathlib.Core.List.{List, _++_}
+use Rattle.refusals.specs.Checks.{outcome, given}
 use Rattle.refusals.specs.declared.Outcome.the-variants.{Taken}
 use Rattle.refusals.specs.declared.Outcome.the-variants as outcomes
-use Rattle.refusals.specs.declared.Refusal.the-variants.{NoModel}
-use Rattle.refusals.specs.declared.Refusal.the-variants as refusal
 use Rattle.dimensions.specs.declared.Dimensions.{Dimensions}
 use Rattle.tables.specs.declared.Row.{Row}
 use Rattle.tables.specs.Rows.{rowsOf}
 use Rattle.tables.specs.Acceptance.{tableChecks}
 use Rattle.solver.specs.declared.Answer.{Answer}
-use Rattle.solver.specs.declared.Modelled.{Modelled}
-use Rattle.solver.specs.declared.Modelled.the-variants as modelled
 use Rattle.state.specs.declared.Run.{Run}
 use Rattle.solver.specs.declared.Solved.{Solved}
 use Rattle.solver.specs.declared.Solved.the-variants as solved′
-use Rattle.state.specs.declared.Standing.{Standing}
 use Rattle.state.specs.declared.Standing.the-variants.{Open, Satisfied, Refuted}
 use Rattle.solver.specs.declared.Stepped.{Stepped}
-use Rattle.solver.specs.declared.Verdict.{Verdict}
-use Rattle.solver.specs.declared.Verdict.the-variants.{Satisfiable, Unsatisfiable, Unknown}
-use Rattle.state.specs.State.{State, fresh, stateOf, runOf, isSatisfied}
+use Rattle.state.specs.State.{State, fresh, stateOf, runOf}
+use Rattle.verdicts.specs.Verdicts.{verdictOf}
 use Rattle.solver.specs.Step.{step}
 use Rattle.state.specs.WellFormed.{wellFormed, stateChecks}
 
@@ -43,12 +36,6 @@ runFrom n rows (suc budget) s =
       | Satisfied ↦ record { steps = 0; final = s }
       | Refuted ↦ record { steps = 0; final = s }
     ]
-
--- the verdict, with T as the model if it is satisfiable
-abbrev pub verdictOf : Standing → ℕ → Verdict
-verdictOf Open t = Unknown
-verdictOf Satisfied t = Satisfiable t
-verdictOf Refuted t = Unsatisfiable
 
 -- the answer of the fresh run: its count and its verdict
 unfoldable pub answerOf : ℕ → List Row → ℕ → Answer
@@ -71,10 +58,3 @@ stepped d left right run =
 unfoldable pub solved : Dimensions → List ℕ → List ℕ → ℕ → Solved
 unfolding answerOf
 solved d left right budget = given (outcome (tableChecks d left right)) (solved′.Of (answerOf (d .n) (rowsOf d left right) budget)) solved′.Refused
-
--- the model of a run: 12, 14
-unfoldable pub modelOf : Run → Modelled
-unfolding wellFormed
-modelOf run =
-    given (outcome (check (not (wellFormed run)) refusal.State ∷ check (not (isSatisfied (run .standing))) NoModel ∷ []))
-    (modelled.Model (run .t)) modelled.Refused

@@ -1,0 +1,50 @@
+-- No two refusals have one number: a number has the refusal back that it stands for. By computation, refusal by refusal.
+-- Assumes nothing.
+use mathlib.Core.Path.{_≡_, refl, sym, ap, _∙_}
+use mathlib.Core.List.{List, [], _∷_}
+use Prim.Native.Nat.{ℕ, _<_}
+use lib.Dec.{lit<}
+use lib.ListN.{getD}
+use Rattle.refusals.specs.Numbers.{numberOf}
+use Rattle.refusals.specs.declared.Refusal.{Refusal}
+use Rattle.refusals.specs.declared.Refusal.the-variants.{Variables, RowCount, RowBit, RowBuffer, Text, TextsDiffer, GateBuffer, NumberLine, Gates, Wires, LineBuffer, State, OtherVariables, NoModel}
+
+-- the refusal of a number; no refusal has 0
+refusalOf : ℕ → Refusal
+refusalOf k = getD (NoModel ∷ Variables ∷ RowCount ∷ RowBit ∷ RowBuffer ∷ Text ∷ TextsDiffer ∷ GateBuffer ∷ NumberLine ∷ Gates ∷ Wires ∷ LineBuffer ∷ State ∷ OtherVariables ∷ []) k NoModel
+
+refusal-back : (r : Refusal) → refusalOf (numberOf r) ≡ r
+unfolding refusalOf
+refusal-back Variables = refl
+refusal-back RowCount = refl
+refusal-back RowBit = refl
+refusal-back RowBuffer = refl
+refusal-back Text = refl
+refusal-back TextsDiffer = refl
+refusal-back GateBuffer = refl
+refusal-back NumberLine = refl
+refusal-back Gates = refl
+refusal-back Wires = refl
+refusal-back LineBuffer = refl
+refusal-back State = refl
+refusal-back OtherVariables = refl
+refusal-back NoModel = refl
+
+pub number-injective : (q r : Refusal) → numberOf q ≡ numberOf r → q ≡ r
+number-injective q r e = sym (refusal-back q) ∙ ap refusalOf e ∙ refusal-back r
+
+pub number-lt : (r : Refusal) → numberOf r < 15
+number-lt Variables = lit< tt
+number-lt RowCount = lit< tt
+number-lt RowBit = lit< tt
+number-lt RowBuffer = lit< tt
+number-lt Text = lit< tt
+number-lt TextsDiffer = lit< tt
+number-lt GateBuffer = lit< tt
+number-lt NumberLine = lit< tt
+number-lt Gates = lit< tt
+number-lt Wires = lit< tt
+number-lt LineBuffer = lit< tt
+number-lt State = lit< tt
+number-lt OtherVariables = lit< tt
+number-lt NoModel = lit< tt
