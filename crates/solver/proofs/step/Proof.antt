@@ -23,12 +23,14 @@ enum-told-2 c = search needs
 returns : tie.Need-returns
 returns c =
     let start = c .before .before .before .before .before .before in
-    step-taken (start .args .d) (now (start .args .left)) (now (start .args .right)) (start .args .run) (c .before .before .before .check-all .result) (c .before .before .before .check-all .ensures) (c .before .enum-told .given .1) _ (c .giant-step .ensures)
+    let checked = c .before .before .before .check-all in
+    step-taken (start .args .d) (now (start .args .left)) (now (start .args .right)) (start .args .run) (checked .result) (checked .ensures) (c .before .enum-told .given .1) _ (c .giant-step .ensures)
 
 returns-2 : tie.Need-returns-2
 returns-2 c =
     let start = c .before .before .before .before .before in
-    step-refused (start .args .d) (now (start .args .left)) (now (start .args .right)) (start .args .run) (c .before .before .check-all .result) (c .before .before .check-all .ensures) (c .enum-told2 .given .0 .0) (c .enum-told2 .given .1)
+    let checked = c .before .before .check-all in
+    step-refused (start .args .d) (now (start .args .left)) (now (start .args .right)) (start .args .run) (checked .result) (checked .ensures) (c .enum-told2 .given .0 .0) (c .enum-told2 .given .1)
 
 pub step-spec : {M : Type 1} → statement M
 step-spec =

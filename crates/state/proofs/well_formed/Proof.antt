@@ -26,19 +26,28 @@ cast-if4 : tie.Need-cast-if4
 cast-if4 c = search needs
 
 returns-4 : tie.Need-returns-4
-returns-4 c = too-deep _ (c .before .before .before .before .before .if1 .left) (c .before .before .before .before .if2 .left) (sym (c .before .before .before .sets .ensures) ∙ not-false _ (c .before .before .if3 .left)) (c .if4 .taken)
+returns-4 c =
+    let own = c .before .before in
+    too-deep _ (own .before .before .before .if1 .left) (own .before .before .if2 .left) (sym (own .before .sets .ensures) ∙ not-false _ (own .if3 .left)) (c .if4 .taken)
 
 chain-requires : tie.Need-chain-requires
 chain-requires c κs = search needs
 
 returns-5 : tie.Need-returns-5
-returns-5 c = not-linked _ (c .before .before .before .before .before .before .before .if1 .left) (c .before .before .before .before .before .before .if2 .left) (sym (c .before .before .before .before .before .sets .ensures) ∙ not-false _ (c .before .before .before .before .if3 .left)) (c .before .before .if4 .left) (sym (c .before .chain .ensures) ∙ not-true _ (c .if5 .taken))
+returns-5 c =
+    let own = c .before .before .before .before in
+    not-linked _ (own .before .before .before .if1 .left) (own .before .before .if2 .left) (sym (own .before .sets .ensures) ∙ not-false _ (own .if3 .left))
+    (c .before .before .if4 .left) (sym (c .before .chain .ensures) ∙ not-true _ (c .if5 .taken))
 
 unused-requires : tie.Need-unused-requires
 unused-requires c κs = search needs
 
 returns-6 : tie.Need-returns-6
-returns-6 c = c .unused .ensures ∙ rest-decides _ (c .before .before .before .before .before .before .before .before .if1 .left) (c .before .before .before .before .before .before .before .if2 .left) (sym (c .before .before .before .before .before .before .sets .ensures) ∙ not-false _ (c .before .before .before .before .before .if3 .left)) (c .before .before .before .if4 .left) (sym (c .before .before .chain .ensures) ∙ not-false _ (c .before .if5 .left))
+returns-6 c =
+    let own = c .before .before .before .before .before in
+    c .unused .ensures
+    ∙ rest-decides _ (own .before .before .before .if1 .left) (own .before .before .if2 .left) (sym (own .before .sets .ensures) ∙ not-false _ (own .if3 .left))
+    (c .before .before .before .if4 .left) (sym (c .before .before .chain .ensures) ∙ not-false _ (c .before .if5 .left))
 
 pub well-formed-spec : {M : Type 1} → statement M
 well-formed-spec =

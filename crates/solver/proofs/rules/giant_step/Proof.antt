@@ -38,7 +38,10 @@ enum-known-rule-2 c = search needs
 choose-requires : tie.Need-choose-requires
 choose-requires c κs =
     let start = c .before .before .before .before .before .before .before .before in
-    (start .pre .1 .0, (choice-low _ _ (start .args .run) (start .pre .1 .1) (start .pre .1 .0) _ (c .before .before .before .rule .ensures) _ (c .before .rule3 .given .1), choice-room _ _ (start .args .run) (start .pre .1 .1) (start .pre .1 .0) _ (c .before .before .before .rule .ensures) _ (c .before .rule3 .given .1)))
+    let found = c .before .before .before .rule .ensures in (
+      start .pre .1 .0,
+      (choice-low _ _ (start .args .run) (start .pre .1 .1) (start .pre .1 .0) _ found _ (c .before .rule3 .given .1), choice-room _ _ (start .args .run) (start .pre .1 .1) (start .pre .1 .0) _ found _ (c .before .rule3 .given .1)),
+    )
 
 enum-told-4 : tie.Need-enum-told-4
 enum-told-4 c = search needs
