@@ -81,7 +81,7 @@ module _ (W : ℕ → Bool) (t : List Gate) (o : ordered 8 t ≡ true) where
     array-at slots outer inner b m n h j i l =
         line-at (along slots outer j) inner (b + (z + length t * n) * j) n (array-holds slots outer inner b m n h j l) i
 
-xor-self : (p : Bool) → p ⊕ p ≡ false
+pub xor-self : (p : Bool) → p ⊕ p ≡ false
 xor-self true = refl
 xor-self false = refl
 

@@ -1,21 +1,23 @@
--- The circuit's wires meet the equations of the interface: each equation is read off the placed cell that drives the wire, whose template is computed.
+-- The circuit's wires meet the equations of the interface: for each section one law says what a gate of its cells gives on the wires that the cell takes,
+-- and each equation is that law at one gate, the template computed.
 -- Assumes nothing.
 use mathlib.Core.Path.{_≡_, refl, ap, ap₂, sym, _∙_}
 use mathlib.Core.Bool.{Bool, false, _&&_}
-use mathlib.Core.List.{[], _∷_}
-use Prim.Native.Nat.{ℕ, suc, _+_, _*_, _<_}
+use mathlib.Core.List.{List, [], _∷_, map}
+use Prim.Native.Nat.{ℕ, suc, _+_, _*_, _≤_, _<_}
 use native.Mathlib.Omega.{arith}
 use Rattle.words.specs.Booleans.{_⊕_}
-use Rattle.words.proofs.Truth.{taut1, taut4, same, same-eq}
-use Rattle.gates.specs.Gates.{wiresOf}
+use Rattle.words.proofs.Truth.{taut4, same, same-eq}
+use Rattle.gates.specs.Gates.{Gate, wire, wiresOf}
 use Rattle.gates.proofs.Circuits.{ordered}
 use Rattle.wires.specs.Unpacking.{stateAt}
 use Rattle.netlist.specs.declared.Addresses.{Addresses}
 use Rattle.netlist.specs.Templates as Templates
 use Rattle.netlist.specs.Arrays.{none}
-use Rattle.netlist.specs.Netlist.{ruleSlots, standingSlots}
+use Rattle.netlist.specs.Netlist.{two, ruleSlots, standingSlots}
 use Rattle.netlist.proofs.Interface.{Wires, Cells}
-use Rattle.netlist.proofs.Arrays.{cell-at, cells-at, line-at, array-at, zeros-at, line-zero, array-zero}
+use Rattle.netlist.proofs.Chains.{xor-false}
+use Rattle.netlist.proofs.Arrays.{xor-self, cell-at, cells-at, line-at, array-at, zeros-at, line-zero, array-zero}
 use Rattle.netlist.proofs.SectionGates.{Sections}
 
 module _ (W : ℕ → Bool) (a : Addresses) where
@@ -76,105 +78,211 @@ module _ (W : ℕ → Bool) (a : Addresses) where
     closing = W (a .outputs + 3 * n + 1 + 3 * n * n + 2);
   }
 
-  module _ (s : Sections W a) (e : a .standing ≡ a .state + 3 * n + 1 + 3 * (n * n)) where
-    backF-zero : (i : ℕ) → i < n → backF i 0 ≡ false
-    backF-zero i h = array-zero W 1 Templates.level _ _ _ _ _ _ (s .levelsF-hold) i h 0 _ (omega arith) (omega arith)
+  -- ---- the wires that a cell takes
 
-    backV-zero : (i : ℕ) → i < n → backV i 0 ≡ false
-    backV-zero i h = array-zero W 1 Templates.level _ _ _ _ _ _ (s .levelsV-hold) i h 0 _ (omega arith) (omega arith)
+  abbrev literalWires : ℕ → ℕ → List ℕ
+  literalWires j i =
+      let b = a .literals in
+      let row = (4 + 15 * n) * j in
+      (2 * n * j + i) ∷ (2 * n * j + n + i) ∷ (a .state + (n + i)) ∷ (a .inputs + 2 + 2 * i)
+      ∷ (b + row + 15 * i) ∷ (b + 1 + row + 15 * i) ∷ (b + 2 + row + 15 * i) ∷ (b + 3 + row + 15 * i) ∷ []
+
+  abbrev rowWires : ℕ → List ℕ
+  rowWires j =
+      let r = a .literals in
+      let row = (4 + 15 * n) * j in
+      let b = a .scan in
+      (r + row + 15 * n) ∷ (r + 1 + row + 15 * n) ∷ (r + 2 + row + 15 * n) ∷ (r + 3 + row + 15 * n)
+      ∷ (b + 16 * j) ∷ (b + 1 + 16 * j) ∷ (b + 2 + 16 * j) ∷ (b + 3 + 16 * j) ∷ []
+
+  abbrev lowestWires : ℕ → List ℕ
+  lowestWires i = two (a .picks + (1 + 4 * m) * i + 4 * m) (a .lowest + 3 * i)
+
+  -- the state's wires for satisfied and refuted
+  abbrev satisfiedAt : ℕ
+  satisfiedAt = a .state + (n + (n + (suc n + ((n + (n + n)) * n + 0))))
+
+  abbrev refutedAt : ℕ
+  refutedAt = a .state + (n + (n + (suc n + ((n + (n + n)) * n + 1))))
+
+  abbrev ruleWires : List ℕ
+  ruleWires =
+      let s = a .scan in
+      satisfiedAt ∷ refutedAt ∷ (s + 16 * m) ∷ (s + 1 + 16 * m) ∷ (s + 2 + 16 * m) ∷ (s + 3 + 16 * m) ∷ (a .state + (n + (n + 0))) ∷ 0 ∷ []
+
+  abbrev selectWires : ℕ → List ℕ
+  selectWires l = (a .rule + 6) ∷ (a .state + (n + (n + suc l))) ∷ (a .rule + 10) ∷ (a .state + (n + (n + l))) ∷ 0 ∷ 0 ∷ 0 ∷ 0 ∷ []
+
+  -- the level's wire k of its three sets, what a push stores there, and what was restored before
+  abbrev levelWires : ℕ → ℕ → ℕ → ℕ → List ℕ
+  levelWires l k stored restored =
+      (a .selects + 2 * suc l) ∷ (a .state + (n + (n + (suc n + ((n + (n + n)) * l + k))))) ∷ (a .selects + 1 + 2 * suc l) ∷ stored ∷ restored ∷ 0 ∷ 0 ∷ 0 ∷ []
+
+  -- the state's wire, two restored, and the wire that sets the variable
+  abbrev assignmentWires : ℕ → ℕ → ℕ → ℕ → ℕ → List ℕ
+  assignmentWires i now restored more set = (a .rule + 6) ∷ now ∷ restored ∷ more ∷ set ∷ (a .lowest + 2 + 3 * i) ∷ 0 ∷ 0 ∷ []
+
+  abbrev standingWires : List ℕ
+  standingWires = satisfiedAt ∷ (a .rule + 3) ∷ refutedAt ∷ (a .rule + 5) ∷ 0 ∷ 0 ∷ 0 ∷ 0 ∷ []
+
+  -- gate k of a cell
+  abbrev gateOn : List ℕ → List Gate → ℕ → Bool
+  gateOn slots template k = wire (wiresOf (map W slots) template) (8 + k)
+
+  module _ (s : Sections W a) (e : a .standing ≡ a .state + 3 * n + 1 + 3 * (n * n)) where
+    -- ---- gate k of each section's cells, at wire x
+
+    literal-gate : (j i : ℕ) → j < m → i < n → (k x : ℕ) → k < 15 → x ≡ a .literals + (4 + 15 * n) * j + 4 + 15 * i + k → W x ≡ gateOn (literalWires j i) Templates.literal k
+    unfolding ordered
+    literal-gate j i h b = array-at W Templates.literal refl 4 _ _ _ _ _ _ (s .literals-hold) j i h b (literalWires j i) (omega arith) refl
+
+    row-gate : (j : ℕ) → j < m → (k x : ℕ) → k < 16 → x ≡ a .scan + 4 + 16 * j + k → W x ≡ gateOn (rowWires j) Templates.row k
+    unfolding ordered
+    row-gate j h = line-at W Templates.row refl 4 _ _ _ _ (s .scan-holds) j h (rowWires j) (omega arith) refl
+
+    lowest-gate : (i : ℕ) → i < n → (k x : ℕ) → k < 3 → x ≡ a .lowest + 1 + 3 * i + k → W x ≡ gateOn (lowestWires i) Templates.lowest k
+    unfolding ordered
+    lowest-gate i h = line-at W Templates.lowest refl 1 _ _ _ _ (s .lowest-holds) i h (lowestWires i) (omega arith) refl
+
+    rule-gate : (k x : ℕ) → k < 14 → x ≡ a .rule + k → W x ≡ gateOn ruleWires Templates.rule k
+    unfolding ordered
+    rule-gate = cell-at W Templates.rule refl (ruleSlots a) (a .rule) (s .rule-holds) ruleWires (omega (arith, e)) refl
+
+    select-gate : (l : ℕ) → l < n → (k x : ℕ) → k < 2 → x ≡ a .selects + 2 + 2 * l + k → W x ≡ gateOn (selectWires l) Templates.select k
+    unfolding ordered
+    select-gate l h = line-at W Templates.select refl 2 _ _ _ _ (s .select-line-holds) l h (selectWires l) (omega arith) refl
+
+    levelT-gate : (i l : ℕ) → i < n → l < n → (k x : ℕ) → k < 4 → x ≡ a .levels + (1 + 4 * n) * i + 1 + 4 * l + k
+        → W x ≡ gateOn (levelWires l i (a .state + i) (a .levels + (1 + 4 * n) * i + 4 * l)) Templates.level k
+    unfolding ordered
+    levelT-gate i l h b = array-at W Templates.level refl 1 _ _ _ _ _ _ (s .levelsT-hold) i l h b (levelWires l i _ _) (omega arith) refl
+
+    levelF-gate : (i l : ℕ) → i < n → l < n → (k x : ℕ) → k < 4 → x ≡ a .levels + a .block + (1 + 4 * n) * i + 1 + 4 * l + k
+        → W x ≡ gateOn (levelWires l (n + i) (a .state + (n + i)) (a .levels + a .block + (1 + 4 * n) * i + 4 * l)) Templates.level k
+    unfolding ordered
+    levelF-gate i l h b = array-at W Templates.level refl 1 _ _ _ _ _ _ (s .levelsF-hold) i l h b (levelWires l (n + i) _ _) (omega arith) refl
+
+    levelV-gate : (i l : ℕ) → i < n → l < n → (k x : ℕ) → k < 4 → x ≡ a .levels + 2 * a .block + (1 + 4 * n) * i + 1 + 4 * l + k
+        → W x ≡ gateOn (levelWires l (n + (n + i)) (a .lowest + 2 + 3 * i) (a .levels + 2 * a .block + (1 + 4 * n) * i + 4 * l)) Templates.level k
+    unfolding ordered
+    levelV-gate i l h b = array-at W Templates.level refl 1 _ _ _ _ _ _ (s .levelsV-hold) i l h b (levelWires l (n + (n + i)) _ _) (omega arith) refl
+
+    standing-gate : (k x : ℕ) → k < 3 → x ≡ a .outputs + 3 * n + 1 + 3 * n * n + k → W x ≡ gateOn standingWires Templates.standing k
+    unfolding ordered
+    standing-gate = cell-at W Templates.standing refl (standingSlots a) (a .outputs + 3 * n + 1 + 3 * n * n) (s .next-standing-holds) standingWires (omega (arith, e)) refl
+
+    -- ---- the outputs: a state's wire and its change
+
+    assignment-sum : (j i : ℕ) → j < 2 → i < n → (x y z : ℕ) → y ≡ a .state + n * j + i → z ≡ a .assignments + 4 + 5 * n * j + 5 * i → x ≡ a .outputs + n * j + i
+        → W x ≡ W y ⊕ W z
+    unfolding wiresOf ordered
+    assignment-sum j i h b x y z ey ez ex = array-at W Templates.sum refl 0 _ _ _ _ _ _ (s .next-assignment-holds) j i h b (two y z) (omega arith) refl 0 x (omega arith) (omega arith)
+
+    level-sum : (l j i : ℕ) → l < n → j < 3 → i < n → (x y z : ℕ) → y ≡ a .state + 3 * n + 1 + 3 * n * l + n * j + i → z ≡ a .levels + 3 + 4 * l + a .block * j + (1 + 4 * n) * i
+        → x ≡ a .outputs + 3 * n + 1 + 3 * n * l + n * j + i → W x ≡ W y ⊕ W z
+    unfolding wiresOf ordered
+    level-sum l j i hl h b x y z ey ez ex = array-at W Templates.sum refl 0 _ _ _ _ _ _ (s .next-level-holds l hl) j i h b (two y z) (omega arith) refl 0 x (omega arith) (omega arith)
+
+    -- ---- what a pop restores
 
     backF-suc : (i l : ℕ) → i < n → l < n → backF i (suc l) ≡ backF i l ⊕ (wiresAt .popAt (suc l) && wiresAt .now .levelF l i)
-    unfolding wiresOf ordered
-    backF-suc i l h b = array-at W Templates.level refl 1 _ _ _ _ _ _ (s .levelsF-hold) i l h b ((a .selects + 2 * suc l) ∷ (a .state + (n + (n + (suc n + ((n + (n + n)) * l + (n + i)))))) ∷ (a .selects + 1 + 2 * suc l) ∷ (a .state + (n + i)) ∷ (a .levels + a .block + (1 + 4 * n) * i + 4 * l) ∷ 0 ∷ 0 ∷ 0 ∷ []) (omega arith) refl 3 _ (omega arith) (omega arith)
+    unfolding wiresOf
+    backF-suc i l h b = levelF-gate i l h b 3 _ (omega arith) (omega arith)
 
     backV-suc : (i l : ℕ) → i < n → l < n → backV i (suc l) ≡ backV i l ⊕ (wiresAt .popAt (suc l) && wiresAt .now .chosen l i)
-    unfolding wiresOf ordered
-    backV-suc i l h b = array-at W Templates.level refl 1 _ _ _ _ _ _ (s .levelsV-hold) i l h b ((a .selects + 2 * suc l) ∷ (a .state + (n + (n + (suc n + ((n + (n + n)) * l + (n + (n + i))))))) ∷ (a .selects + 1 + 2 * suc l) ∷ (a .lowest + 2 + 3 * i) ∷ (a .levels + 2 * a .block + (1 + 4 * n) * i + 4 * l) ∷ 0 ∷ 0 ∷ 0 ∷ []) (omega arith) refl 3 _ (omega arith) (omega arith)
+    unfolding wiresOf
+    backV-suc i l h b = levelV-gate i l h b 3 _ (omega arith) (omega arith)
 
     apart : (x y p q : Bool) → (x ⊕ p) ⊕ (y ⊕ q) ≡ ((x ⊕ y) ⊕ p) ⊕ q
     apart x y p q = same-eq (taut4 (λ x y p q. same ((x ⊕ p) ⊕ (y ⊕ q)) (((x ⊕ y) ⊕ p) ⊕ q)) refl x y p q)
 
-    xor-false : (x y : Bool) → y ≡ false → x ⊕ y ≡ x
-    xor-false x y h = ap (λ (b : Bool). x ⊕ b) h ∙ same-eq (taut1 (λ b. same (b ⊕ false) b) refl x)
-
     zero-wire : W (a .inputs) ≡ false
     unfolding wiresOf ordered
-    zero-wire = cell-at W Templates.sum refl none (a .inputs) (s .zeroGate-holds) (0 ∷ 0 ∷ 0 ∷ 0 ∷ 0 ∷ 0 ∷ 0 ∷ 0 ∷ []) (omega arith) refl 0 _ (omega arith) (omega arith) ∙ same-eq (taut1 (λ b. same (b ⊕ b) false) refl (W 0))
+    zero-wire = cell-at W Templates.sum refl none (a .inputs) (s .zeroGate-holds) none (omega arith) refl 0 _ (omega arith) (omega arith) ∙ xor-self (W 0)
 
+    -- T has nothing more to restore: its cell takes the zero gate there
     assignT-wire : (i : ℕ) → i < n → wiresAt .δT i ≡ ((wiresAt .rule .pop && wiresAt .now .T i) ⊕ (wiresAt .restoredT i n ⊕ W (a .inputs))) ⊕ (wiresAt .rule .setT && wiresAt .variable i)
     unfolding wiresOf ordered
-    assignT-wire i h = cells-at W Templates.assignment refl _ _ _ _ (s .assignT-holds) i h ((a .rule + 6) ∷ (a .state + i) ∷ (a .levels + (1 + 4 * n) * i + 4 * n) ∷ (a .inputs) ∷ (a .rule + 13) ∷ (a .lowest + 2 + 3 * i) ∷ 0 ∷ 0 ∷ []) (omega arith) refl 4 _ (omega arith) (omega arith)
+    assignT-wire i h =
+        cells-at W Templates.assignment refl _ _ _ _ (s .assignT-holds) i h
+        (assignmentWires i (a .state + i) (a .levels + (1 + 4 * n) * i + 4 * n) (a .inputs) (a .rule + 13)) (omega arith) refl 4 _ (omega arith) (omega arith)
 
-    closing-wire : wiresAt .closing ≡ (wiresAt .now .satisfied ⊕ wiresAt .rule .done) ⊕ (wiresAt .now .refuted ⊕ wiresAt .rule .refute)
+    assignF-wire : (i : ℕ) → i < n → wiresAt .δF i ≡ ((wiresAt .rule .pop && wiresAt .now .F i) ⊕ wiresAt .restoredF i n) ⊕ (wiresAt .rule .setF && wiresAt .variable i)
     unfolding wiresOf ordered
-    closing-wire = cell-at W Templates.standing refl (standingSlots a) (a .outputs + 3 * n + 1 + 3 * n * n) (s .next-standing-holds) ((a .state + (n + (n + (suc n + ((n + (n + n)) * n + 0))))) ∷ (a .rule + 3) ∷ (a .state + (n + (n + (suc n + ((n + (n + n)) * n + 1))))) ∷ (a .rule + 5) ∷ 0 ∷ 0 ∷ 0 ∷ 0 ∷ []) (omega (arith, e)) refl 2 _ (omega arith) (omega arith)
+    assignF-wire i h =
+        cells-at W Templates.assignment refl _ _ _ _ (s .assignF-holds) i h
+        (assignmentWires i (a .state + (n + i)) (a .levels + a .block + (1 + 4 * n) * i + 4 * n) (a .levels + 2 * a .block + (1 + 4 * n) * i + 4 * n) (a .rule + 12))
+        (omega arith) refl 4 _ (omega arith) (omega arith)
 
-    satisfied-wire : wiresAt .next .satisfied ≡ wiresAt .now .satisfied ⊕ wiresAt .rule .done
-    unfolding wiresOf ordered
-    satisfied-wire = cell-at W Templates.standing refl (standingSlots a) (a .outputs + 3 * n + 1 + 3 * n * n) (s .next-standing-holds) ((a .state + (n + (n + (suc n + ((n + (n + n)) * n + 0))))) ∷ (a .rule + 3) ∷ (a .state + (n + (n + (suc n + ((n + (n + n)) * n + 1))))) ∷ (a .rule + 5) ∷ 0 ∷ 0 ∷ 0 ∷ 0 ∷ []) (omega (arith, e)) refl 0 _ (omega arith) (omega arith)
-
-    refuted-wire : wiresAt .next .refuted ≡ wiresAt .now .refuted ⊕ wiresAt .rule .refute
-    unfolding wiresOf ordered
-    refuted-wire = cell-at W Templates.standing refl (standingSlots a) (a .outputs + 3 * n + 1 + 3 * n * n) (s .next-standing-holds) ((a .state + (n + (n + (suc n + ((n + (n + n)) * n + 0))))) ∷ (a .rule + 3) ∷ (a .state + (n + (n + (suc n + ((n + (n + n)) * n + 1))))) ∷ (a .rule + 5) ∷ 0 ∷ 0 ∷ 0 ∷ 0 ∷ []) (omega (arith, e)) refl 1 _ (omega arith) (omega arith)
+    -- ---- all equations
 
     pub cells-met : Cells n m wiresAt
     unfolding wiresOf ordered
     cells-met = record {
-      free-is = λ i h. cells-at W Templates.variable refl _ _ _ _ (s .variables-hold) i h ((a .state + i) ∷ (a .state + (n + i)) ∷ 0 ∷ 0 ∷ 0 ∷ 0 ∷ 0 ∷ 0 ∷ []) (omega arith) refl 1 _ (omega arith) (omega arith);
-      literal-is = λ j i h b. array-at W Templates.literal refl 4 _ _ _ _ _ _ (s .literals-hold) j i h b ((2 * n * j + i) ∷ (2 * n * j + n + i) ∷ (a .state + (n + i)) ∷ (a .inputs + 2 + 2 * i) ∷ (a .literals + (4 + 15 * n) * j + 15 * i) ∷ (a .literals + 1 + (4 + 15 * n) * j + 15 * i) ∷ (a .literals + 2 + (4 + 15 * n) * j + 15 * i) ∷ (a .literals + 3 + (4 + 15 * n) * j + 15 * i) ∷ []) (omega arith) refl 2 _ (omega arith) (omega arith);
+      free-is = λ i h. cells-at W Templates.variable refl _ _ _ _ (s .variables-hold) i h (two (a .state + i) (a .state + (n + i))) (omega arith) refl 1 _ (omega arith) (omega arith);
+      literal-is = λ j i h b. literal-gate j i h b 2 _ (omega arith) (omega arith);
       satisfied-zero = λ j h. array-zero W 4 Templates.literal _ _ _ _ _ _ (s .literals-hold) j h 0 _ (omega arith) (omega arith);
-      satisfied-suc = λ j i h b. array-at W Templates.literal refl 4 _ _ _ _ _ _ (s .literals-hold) j i h b ((2 * n * j + i) ∷ (2 * n * j + n + i) ∷ (a .state + (n + i)) ∷ (a .inputs + 2 + 2 * i) ∷ (a .literals + (4 + 15 * n) * j + 15 * i) ∷ (a .literals + 1 + (4 + 15 * n) * j + 15 * i) ∷ (a .literals + 2 + (4 + 15 * n) * j + 15 * i) ∷ (a .literals + 3 + (4 + 15 * n) * j + 15 * i) ∷ []) (omega arith) refl 11 _ (omega arith) (omega arith);
+      satisfied-suc = λ j i h b. literal-gate j i h b 11 _ (omega arith) (omega arith);
       odd-zero = λ j h. array-zero W 4 Templates.literal _ _ _ _ _ _ (s .literals-hold) j h 1 _ (omega arith) (omega arith);
-      odd-suc = λ j i h b. array-at W Templates.literal refl 4 _ _ _ _ _ _ (s .literals-hold) j i h b ((2 * n * j + i) ∷ (2 * n * j + n + i) ∷ (a .state + (n + i)) ∷ (a .inputs + 2 + 2 * i) ∷ (a .literals + (4 + 15 * n) * j + 15 * i) ∷ (a .literals + 1 + (4 + 15 * n) * j + 15 * i) ∷ (a .literals + 2 + (4 + 15 * n) * j + 15 * i) ∷ (a .literals + 3 + (4 + 15 * n) * j + 15 * i) ∷ []) (omega arith) refl 12 _ (omega arith) (omega arith);
+      odd-suc = λ j i h b. literal-gate j i h b 12 _ (omega arith) (omega arith);
       many-zero = λ j h. array-zero W 4 Templates.literal _ _ _ _ _ _ (s .literals-hold) j h 2 _ (omega arith) (omega arith);
-      many-suc = λ j i h b. array-at W Templates.literal refl 4 _ _ _ _ _ _ (s .literals-hold) j i h b ((2 * n * j + i) ∷ (2 * n * j + n + i) ∷ (a .state + (n + i)) ∷ (a .inputs + 2 + 2 * i) ∷ (a .literals + (4 + 15 * n) * j + 15 * i) ∷ (a .literals + 1 + (4 + 15 * n) * j + 15 * i) ∷ (a .literals + 2 + (4 + 15 * n) * j + 15 * i) ∷ (a .literals + 3 + (4 + 15 * n) * j + 15 * i) ∷ []) (omega arith) refl 13 _ (omega arith) (omega arith);
+      many-suc = λ j i h b. literal-gate j i h b 13 _ (omega arith) (omega arith);
       sign-zero = λ j h. array-zero W 4 Templates.literal _ _ _ _ _ _ (s .literals-hold) j h 3 _ (omega arith) (omega arith);
-      sign-suc = λ j i h b. array-at W Templates.literal refl 4 _ _ _ _ _ _ (s .literals-hold) j i h b ((2 * n * j + i) ∷ (2 * n * j + n + i) ∷ (a .state + (n + i)) ∷ (a .inputs + 2 + 2 * i) ∷ (a .literals + (4 + 15 * n) * j + 15 * i) ∷ (a .literals + 1 + (4 + 15 * n) * j + 15 * i) ∷ (a .literals + 2 + (4 + 15 * n) * j + 15 * i) ∷ (a .literals + 3 + (4 + 15 * n) * j + 15 * i) ∷ []) (omega arith) refl 14 _ (omega arith) (omega arith);
-      unsatisfied-is = λ j h. line-at W Templates.row refl 4 _ _ _ _ (s .scan-holds) j h ((a .literals + (4 + 15 * n) * j + 15 * n) ∷ (a .literals + 1 + (4 + 15 * n) * j + 15 * n) ∷ (a .literals + 2 + (4 + 15 * n) * j + 15 * n) ∷ (a .literals + 3 + (4 + 15 * n) * j + 15 * n) ∷ (a .scan + 16 * j) ∷ (a .scan + 1 + 16 * j) ∷ (a .scan + 2 + 16 * j) ∷ (a .scan + 3 + 16 * j) ∷ []) (omega arith) refl 0 _ (omega arith) (omega arith);
-      first-is = λ j h. line-at W Templates.row refl 4 _ _ _ _ (s .scan-holds) j h ((a .literals + (4 + 15 * n) * j + 15 * n) ∷ (a .literals + 1 + (4 + 15 * n) * j + 15 * n) ∷ (a .literals + 2 + (4 + 15 * n) * j + 15 * n) ∷ (a .literals + 3 + (4 + 15 * n) * j + 15 * n) ∷ (a .scan + 16 * j) ∷ (a .scan + 1 + 16 * j) ∷ (a .scan + 2 + 16 * j) ∷ (a .scan + 3 + 16 * j) ∷ []) (omega arith) refl 10 _ (omega arith) (omega arith);
+      sign-suc = λ j i h b. literal-gate j i h b 14 _ (omega arith) (omega arith);
+      unsatisfied-is = λ j h. row-gate j h 0 _ (omega arith) (omega arith);
+      first-is = λ j h. row-gate j h 10 _ (omega arith) (omega arith);
       anyUnsatisfied-zero = line-zero W 4 Templates.row _ _ _ _ (s .scan-holds) 0 _ (omega arith) (omega arith);
-      anyUnsatisfied-suc = λ j h. line-at W Templates.row refl 4 _ _ _ _ (s .scan-holds) j h ((a .literals + (4 + 15 * n) * j + 15 * n) ∷ (a .literals + 1 + (4 + 15 * n) * j + 15 * n) ∷ (a .literals + 2 + (4 + 15 * n) * j + 15 * n) ∷ (a .literals + 3 + (4 + 15 * n) * j + 15 * n) ∷ (a .scan + 16 * j) ∷ (a .scan + 1 + 16 * j) ∷ (a .scan + 2 + 16 * j) ∷ (a .scan + 3 + 16 * j) ∷ []) (omega arith) refl 12 _ (omega arith) (omega arith);
+      anyUnsatisfied-suc = λ j h. row-gate j h 12 _ (omega arith) (omega arith);
       anyConflict-zero = line-zero W 4 Templates.row _ _ _ _ (s .scan-holds) 1 _ (omega arith) (omega arith);
-      anyConflict-suc = λ j h. line-at W Templates.row refl 4 _ _ _ _ (s .scan-holds) j h ((a .literals + (4 + 15 * n) * j + 15 * n) ∷ (a .literals + 1 + (4 + 15 * n) * j + 15 * n) ∷ (a .literals + 2 + (4 + 15 * n) * j + 15 * n) ∷ (a .literals + 3 + (4 + 15 * n) * j + 15 * n) ∷ (a .scan + 16 * j) ∷ (a .scan + 1 + 16 * j) ∷ (a .scan + 2 + 16 * j) ∷ (a .scan + 3 + 16 * j) ∷ []) (omega arith) refl 13 _ (omega arith) (omega arith);
+      anyConflict-suc = λ j h. row-gate j h 13 _ (omega arith) (omega arith);
       anyUnit-zero = line-zero W 4 Templates.row _ _ _ _ (s .scan-holds) 2 _ (omega arith) (omega arith);
-      anyUnit-suc = λ j h. line-at W Templates.row refl 4 _ _ _ _ (s .scan-holds) j h ((a .literals + (4 + 15 * n) * j + 15 * n) ∷ (a .literals + 1 + (4 + 15 * n) * j + 15 * n) ∷ (a .literals + 2 + (4 + 15 * n) * j + 15 * n) ∷ (a .literals + 3 + (4 + 15 * n) * j + 15 * n) ∷ (a .scan + 16 * j) ∷ (a .scan + 1 + 16 * j) ∷ (a .scan + 2 + 16 * j) ∷ (a .scan + 3 + 16 * j) ∷ []) (omega arith) refl 14 _ (omega arith) (omega arith);
+      anyUnit-suc = λ j h. row-gate j h 14 _ (omega arith) (omega arith);
       positive-zero = line-zero W 4 Templates.row _ _ _ _ (s .scan-holds) 3 _ (omega arith) (omega arith);
-      positive-suc = λ j h. line-at W Templates.row refl 4 _ _ _ _ (s .scan-holds) j h ((a .literals + (4 + 15 * n) * j + 15 * n) ∷ (a .literals + 1 + (4 + 15 * n) * j + 15 * n) ∷ (a .literals + 2 + (4 + 15 * n) * j + 15 * n) ∷ (a .literals + 3 + (4 + 15 * n) * j + 15 * n) ∷ (a .scan + 16 * j) ∷ (a .scan + 1 + 16 * j) ∷ (a .scan + 2 + 16 * j) ∷ (a .scan + 3 + 16 * j) ∷ []) (omega arith) refl 15 _ (omega arith) (omega arith);
-      weight-is = λ j h. cells-at W Templates.weight refl _ _ _ _ (s .weights-hold) j h ((a .scan + 4 + 16 * j) ∷ (a .scan + 14 + 16 * j) ∷ (a .scan + 2 + 16 * m) ∷ 0 ∷ 0 ∷ 0 ∷ 0 ∷ 0 ∷ []) (omega arith) refl 2 _ (omega arith) (omega arith);
+      positive-suc = λ j h. row-gate j h 15 _ (omega arith) (omega arith);
+      weight-is = λ j h. cells-at W Templates.weight refl _ _ _ _ (s .weights-hold) j h
+          ((a .scan + 4 + 16 * j) ∷ (a .scan + 14 + 16 * j) ∷ (a .scan + 2 + 16 * m) ∷ 0 ∷ 0 ∷ 0 ∷ 0 ∷ 0 ∷ []) (omega arith) refl 2 _ (omega arith) (omega arith);
       picked-zero = λ i h. array-zero W 1 Templates.pick _ _ _ _ _ _ (s .picks-hold) i h 0 _ (omega arith) (omega arith);
-      picked-suc = λ i j h b. array-at W Templates.pick refl 1 _ _ _ _ _ _ (s .picks-hold) i j h b ((a .weights + 2 + 3 * j) ∷ (a .literals + 6 + 15 * i + (4 + 15 * n) * j) ∷ (a .picks + (1 + 4 * m) * i + 4 * j) ∷ 0 ∷ 0 ∷ 0 ∷ 0 ∷ 0 ∷ []) (omega arith) refl 3 _ (omega arith) (omega arith);
+      picked-suc = λ i j h b. array-at W Templates.pick refl 1 _ _ _ _ _ _ (s .picks-hold) i j h b
+          ((a .weights + 2 + 3 * j) ∷ (a .literals + 6 + 15 * i + (4 + 15 * n) * j) ∷ (a .picks + (1 + 4 * m) * i + 4 * j) ∷ 0 ∷ 0 ∷ 0 ∷ 0 ∷ 0 ∷ [])
+          (omega arith) refl 3 _ (omega arith) (omega arith);
       seen-zero = line-zero W 1 Templates.lowest _ _ _ _ (s .lowest-holds) 0 _ (omega arith) (omega arith);
-      seen-suc = λ i h. line-at W Templates.lowest refl 1 _ _ _ _ (s .lowest-holds) i h ((a .picks + (1 + 4 * m) * i + 4 * m) ∷ (a .lowest + 3 * i) ∷ 0 ∷ 0 ∷ 0 ∷ 0 ∷ 0 ∷ 0 ∷ []) (omega arith) refl 2 _ (omega arith) (omega arith);
-      variable-is = λ i h. line-at W Templates.lowest refl 1 _ _ _ _ (s .lowest-holds) i h ((a .picks + (1 + 4 * m) * i + 4 * m) ∷ (a .lowest + 3 * i) ∷ 0 ∷ 0 ∷ 0 ∷ 0 ∷ 0 ∷ 0 ∷ []) (omega arith) refl 1 _ (omega arith) (omega arith);
-      done-is = cell-at W Templates.rule refl (ruleSlots a) (a .rule) (s .rule-holds) ((a .state + (n + (n + (suc n + ((n + (n + n)) * n + 0))))) ∷ (a .state + (n + (n + (suc n + ((n + (n + n)) * n + 1))))) ∷ (a .scan + 16 * m) ∷ (a .scan + 1 + 16 * m) ∷ (a .scan + 2 + 16 * m) ∷ (a .scan + 3 + 16 * m) ∷ (a .state + (n + (n + 0))) ∷ 0 ∷ []) (omega (arith, e)) refl 3 _ (omega arith) (omega arith);
-      refute-is = cell-at W Templates.rule refl (ruleSlots a) (a .rule) (s .rule-holds) ((a .state + (n + (n + (suc n + ((n + (n + n)) * n + 0))))) ∷ (a .state + (n + (n + (suc n + ((n + (n + n)) * n + 1))))) ∷ (a .scan + 16 * m) ∷ (a .scan + 1 + 16 * m) ∷ (a .scan + 2 + 16 * m) ∷ (a .scan + 3 + 16 * m) ∷ (a .state + (n + (n + 0))) ∷ 0 ∷ []) (omega (arith, e)) refl 5 _ (omega arith) (omega arith);
-      pop-is = cell-at W Templates.rule refl (ruleSlots a) (a .rule) (s .rule-holds) ((a .state + (n + (n + (suc n + ((n + (n + n)) * n + 0))))) ∷ (a .state + (n + (n + (suc n + ((n + (n + n)) * n + 1))))) ∷ (a .scan + 16 * m) ∷ (a .scan + 1 + 16 * m) ∷ (a .scan + 2 + 16 * m) ∷ (a .scan + 3 + 16 * m) ∷ (a .state + (n + (n + 0))) ∷ 0 ∷ []) (omega (arith, e)) refl 6 _ (omega arith) (omega arith);
-      push-is = cell-at W Templates.rule refl (ruleSlots a) (a .rule) (s .rule-holds) ((a .state + (n + (n + (suc n + ((n + (n + n)) * n + 0))))) ∷ (a .state + (n + (n + (suc n + ((n + (n + n)) * n + 1))))) ∷ (a .scan + 16 * m) ∷ (a .scan + 1 + 16 * m) ∷ (a .scan + 2 + 16 * m) ∷ (a .scan + 3 + 16 * m) ∷ (a .state + (n + (n + 0))) ∷ 0 ∷ []) (omega (arith, e)) refl 10 _ (omega arith) (omega arith);
-      setF-is = cell-at W Templates.rule refl (ruleSlots a) (a .rule) (s .rule-holds) ((a .state + (n + (n + (suc n + ((n + (n + n)) * n + 0))))) ∷ (a .state + (n + (n + (suc n + ((n + (n + n)) * n + 1))))) ∷ (a .scan + 16 * m) ∷ (a .scan + 1 + 16 * m) ∷ (a .scan + 2 + 16 * m) ∷ (a .scan + 3 + 16 * m) ∷ (a .state + (n + (n + 0))) ∷ 0 ∷ []) (omega (arith, e)) refl 12 _ (omega arith) (omega arith);
-      setT-is = cell-at W Templates.rule refl (ruleSlots a) (a .rule) (s .rule-holds) ((a .state + (n + (n + (suc n + ((n + (n + n)) * n + 0))))) ∷ (a .state + (n + (n + (suc n + ((n + (n + n)) * n + 1))))) ∷ (a .scan + 16 * m) ∷ (a .scan + 1 + 16 * m) ∷ (a .scan + 2 + 16 * m) ∷ (a .scan + 3 + 16 * m) ∷ (a .state + (n + (n + 0))) ∷ 0 ∷ []) (omega (arith, e)) refl 13 _ (omega arith) (omega arith);
+      seen-suc = λ i h. lowest-gate i h 2 _ (omega arith) (omega arith);
+      variable-is = λ i h. lowest-gate i h 1 _ (omega arith) (omega arith);
+      done-is = rule-gate 3 _ (omega arith) refl;
+      refute-is = rule-gate 5 _ (omega arith) refl;
+      pop-is = rule-gate 6 _ (omega arith) refl;
+      push-is = rule-gate 10 _ (omega arith) refl;
+      setF-is = rule-gate 12 _ (omega arith) refl;
+      setT-is = rule-gate 13 _ (omega arith) refl;
       popAt-zero = line-zero W 2 Templates.select _ _ _ _ (s .select-line-holds) 0 _ (omega arith) (omega arith);
-      popAt-suc = λ l h. line-at W Templates.select refl 2 _ _ _ _ (s .select-line-holds) l h ((a .rule + 6) ∷ (a .state + (n + (n + suc l))) ∷ (a .rule + 10) ∷ (a .state + (n + (n + l))) ∷ 0 ∷ 0 ∷ 0 ∷ 0 ∷ []) (omega arith) refl 0 _ (omega arith) (omega arith);
+      popAt-suc = λ l h. select-gate l h 0 _ (omega arith) (omega arith);
       popAt-end = zeros-at W _ 2 (s .select-end-holds) 0 _ (omega arith) (omega arith);
       pushAt-zero = line-zero W 2 Templates.select _ _ _ _ (s .select-line-holds) 1 _ (omega arith) (omega arith);
-      pushAt-suc = λ l h. line-at W Templates.select refl 2 _ _ _ _ (s .select-line-holds) l h ((a .rule + 6) ∷ (a .state + (n + (n + suc l))) ∷ (a .rule + 10) ∷ (a .state + (n + (n + l))) ∷ 0 ∷ 0 ∷ 0 ∷ 0 ∷ []) (omega arith) refl 1 _ (omega arith) (omega arith);
+      pushAt-suc = λ l h. select-gate l h 1 _ (omega arith) (omega arith);
       pushAt-end = zeros-at W _ 2 (s .select-end-holds) 1 _ (omega arith) (omega arith);
-      δlevelT-is = λ l i h b. array-at W Templates.level refl 1 _ _ _ _ _ _ (s .levelsT-hold) i l b h ((a .selects + 2 * suc l) ∷ (a .state + (n + (n + (suc n + ((n + (n + n)) * l + i))))) ∷ (a .selects + 1 + 2 * suc l) ∷ (a .state + i) ∷ (a .levels + (1 + 4 * n) * i + 4 * l) ∷ 0 ∷ 0 ∷ 0 ∷ []) (omega arith) refl 2 _ (omega arith) (omega arith);
-      δlevelF-is = λ l i h b. array-at W Templates.level refl 1 _ _ _ _ _ _ (s .levelsF-hold) i l b h ((a .selects + 2 * suc l) ∷ (a .state + (n + (n + (suc n + ((n + (n + n)) * l + (n + i)))))) ∷ (a .selects + 1 + 2 * suc l) ∷ (a .state + (n + i)) ∷ (a .levels + a .block + (1 + 4 * n) * i + 4 * l) ∷ 0 ∷ 0 ∷ 0 ∷ []) (omega arith) refl 2 _ (omega arith) (omega arith);
-      δchosen-is = λ l i h b. array-at W Templates.level refl 1 _ _ _ _ _ _ (s .levelsV-hold) i l b h ((a .selects + 2 * suc l) ∷ (a .state + (n + (n + (suc n + ((n + (n + n)) * l + (n + (n + i))))))) ∷ (a .selects + 1 + 2 * suc l) ∷ (a .lowest + 2 + 3 * i) ∷ (a .levels + 2 * a .block + (1 + 4 * n) * i + 4 * l) ∷ 0 ∷ 0 ∷ 0 ∷ []) (omega arith) refl 2 _ (omega arith) (omega arith);
+      δlevelT-is = λ l i h b. levelT-gate i l b h 2 _ (omega arith) (omega arith);
+      δlevelF-is = λ l i h b. levelF-gate i l b h 2 _ (omega arith) (omega arith);
+      δchosen-is = λ l i h b. levelV-gate i l b h 2 _ (omega arith) (omega arith);
       restoredT-zero = λ i h. array-zero W 1 Templates.level _ _ _ _ _ _ (s .levelsT-hold) i h 0 _ (omega arith) (omega arith);
-      restoredT-suc = λ i l h b. array-at W Templates.level refl 1 _ _ _ _ _ _ (s .levelsT-hold) i l h b ((a .selects + 2 * suc l) ∷ (a .state + (n + (n + (suc n + ((n + (n + n)) * l + i))))) ∷ (a .selects + 1 + 2 * suc l) ∷ (a .state + i) ∷ (a .levels + (1 + 4 * n) * i + 4 * l) ∷ 0 ∷ 0 ∷ 0 ∷ []) (omega arith) refl 3 _ (omega arith) (omega arith);
-      restoredF-zero = λ i h. ap₂ _⊕_ (backF-zero i h) (backV-zero i h);
+      restoredT-suc = λ i l h b. levelT-gate i l h b 3 _ (omega arith) (omega arith);
+      restoredF-zero = λ i h. ap₂ _⊕_ (array-zero W 1 Templates.level _ _ _ _ _ _ (s .levelsF-hold) i h 0 _ (omega arith) (omega arith))
+          (array-zero W 1 Templates.level _ _ _ _ _ _ (s .levelsV-hold) i h 0 _ (omega arith) (omega arith));
       restoredF-suc = λ i l h b. ap₂ _⊕_ (backF-suc i l h b) (backV-suc i l h b) ∙ apart (backF i l) (backV i l) _ _;
-      δT-is = λ i h. assignT-wire i h ∙ ap (λ (b : Bool). ((wiresAt .rule .pop && wiresAt .now .T i) ⊕ b) ⊕ (wiresAt .rule .setT && wiresAt .variable i)) (xor-false _ _ zero-wire);
-      δF-is = λ i h. cells-at W Templates.assignment refl _ _ _ _ (s .assignF-holds) i h ((a .rule + 6) ∷ (a .state + (n + i)) ∷ (a .levels + a .block + (1 + 4 * n) * i + 4 * n) ∷ (a .levels + 2 * a .block + (1 + 4 * n) * i + 4 * n) ∷ (a .rule + 12) ∷ (a .lowest + 2 + 3 * i) ∷ 0 ∷ 0 ∷ []) (omega arith) refl 4 _ (omega arith) (omega arith);
-      δdepth-is = λ k h. cells-at W Templates.depth refl _ _ _ _ (s .depths-hold) k (omega arith) ((a .selects + 2 * k) ∷ (a .selects + 1 + 2 * k) ∷ (a .selects + 2 * suc k) ∷ (a .selects + 1 + 2 * suc k) ∷ 0 ∷ 0 ∷ 0 ∷ 0 ∷ []) (omega arith) refl 2 _ (omega arith) (omega arith);
-      T-is = λ i h. array-at W Templates.sum refl 0 _ _ _ _ _ _ (s .next-assignment-holds) 0 i (omega arith) h ((a .state + i) ∷ (a .assignments + 4 + 5 * i) ∷ 0 ∷ 0 ∷ 0 ∷ 0 ∷ 0 ∷ 0 ∷ []) (omega arith) refl 0 _ (omega arith) (omega arith);
-      F-is = λ i h. array-at W Templates.sum refl 0 _ _ _ _ _ _ (s .next-assignment-holds) 1 i (omega arith) h ((a .state + (n + i)) ∷ (a .assignments + 5 * n + 4 + 5 * i) ∷ 0 ∷ 0 ∷ 0 ∷ 0 ∷ 0 ∷ 0 ∷ []) (omega arith) refl 0 _ (omega arith) (omega arith);
-      depth-is = λ k h. cells-at W Templates.sum refl _ _ _ _ (s .next-depth-holds) k (omega arith) ((a .state + (n + (n + k))) ∷ (a .depths + 2 + 3 * k) ∷ 0 ∷ 0 ∷ 0 ∷ 0 ∷ 0 ∷ 0 ∷ []) (omega arith) refl 0 _ (omega arith) (omega arith);
-      levelT-is = λ l i h b. array-at W Templates.sum refl 0 _ _ _ _ _ _ (s .next-level-holds l h) 0 i (omega arith) b ((a .state + (n + (n + (suc n + ((n + (n + n)) * l + i))))) ∷ (a .levels + 3 + (1 + 4 * n) * i + 4 * l) ∷ 0 ∷ 0 ∷ 0 ∷ 0 ∷ 0 ∷ 0 ∷ []) (omega arith) refl 0 _ (omega arith) (omega arith);
-      levelF-is = λ l i h b. array-at W Templates.sum refl 0 _ _ _ _ _ _ (s .next-level-holds l h) 1 i (omega arith) b ((a .state + (n + (n + (suc n + ((n + (n + n)) * l + (n + i)))))) ∷ (a .levels + a .block + 3 + (1 + 4 * n) * i + 4 * l) ∷ 0 ∷ 0 ∷ 0 ∷ 0 ∷ 0 ∷ 0 ∷ []) (omega arith) refl 0 _ (omega arith) (omega arith);
-      chosen-is = λ l i h b. array-at W Templates.sum refl 0 _ _ _ _ _ _ (s .next-level-holds l h) 2 i (omega arith) b ((a .state + (n + (n + (suc n + ((n + (n + n)) * l + (n + (n + i))))))) ∷ (a .levels + 2 * a .block + 3 + (1 + 4 * n) * i + 4 * l) ∷ 0 ∷ 0 ∷ 0 ∷ 0 ∷ 0 ∷ 0 ∷ []) (omega arith) refl 0 _ (omega arith) (omega arith);
-      satisfied-is = satisfied-wire;
-      refuted-is = refuted-wire;
-      closing-is = closing-wire ∙ sym (ap₂ _⊕_ satisfied-wire refuted-wire);
+      δT-is = λ i h. assignT-wire i h
+          ∙ ap (λ (b : Bool). ((wiresAt .rule .pop && wiresAt .now .T i) ⊕ b) ⊕ (wiresAt .rule .setT && wiresAt .variable i))
+          (ap (λ (b : Bool). wiresAt .restoredT i n ⊕ b) zero-wire ∙ xor-false _);
+      δF-is = assignF-wire;
+      δdepth-is = λ k h. cells-at W Templates.depth refl _ _ _ _ (s .depths-hold) k (omega arith)
+          ((a .selects + 2 * k) ∷ (a .selects + 1 + 2 * k) ∷ (a .selects + 2 * suc k) ∷ (a .selects + 1 + 2 * suc k) ∷ 0 ∷ 0 ∷ 0 ∷ 0 ∷ [])
+          (omega arith) refl 2 _ (omega arith) (omega arith);
+      T-is = λ i h. assignment-sum 0 i (omega arith) h _ _ _ (omega arith) (omega arith) (omega arith);
+      F-is = λ i h. assignment-sum 1 i (omega arith) h _ _ _ (omega arith) (omega arith) (omega arith);
+      depth-is = λ k h. cells-at W Templates.sum refl _ _ _ _ (s .next-depth-holds) k (omega arith) (two (a .state + (n + (n + k))) (a .depths + 2 + 3 * k))
+          (omega arith) refl 0 _ (omega arith) (omega arith);
+      levelT-is = λ l i h b. level-sum l 0 i h (omega arith) b _ _ _ (omega arith) (omega arith) (omega arith);
+      levelF-is = λ l i h b. level-sum l 1 i h (omega arith) b _ _ _ (omega arith) (omega arith) (omega arith);
+      chosen-is = λ l i h b. level-sum l 2 i h (omega arith) b _ _ _ (omega arith) (omega arith) (omega arith);
+      satisfied-is = standing-gate 0 _ (omega arith) (omega arith);
+      refuted-is = standing-gate 1 _ (omega arith) (omega arith);
+      closing-is = standing-gate 2 _ (omega arith) refl ∙ sym (ap₂ _⊕_ (standing-gate 0 _ (omega arith) (omega arith)) (standing-gate 1 _ (omega arith) (omega arith)));
     }
