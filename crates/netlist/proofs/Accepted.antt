@@ -14,7 +14,7 @@ use Rattle.netlist.specs.Templates as Templates
 use Rattle.netlist.specs.Arrays.{none, rows}
 use Rattle.netlist.specs.Netlist.{addresses, zeroGate, variables, literals, scan, weights, picks, lowest, ruleSlots, rule, selects, selectLine, selectEnd, levels, levelsT, levelsF, levelsV, assignments, assignT, assignF, depths, nextAssignment, nextDepth, nextLevel, standingSlots, nextStanding, judging, choosing, changing, outputs, circuit}
 use Rattle.netlist.proofs.Arrays.{append-ordered, rows-ordered, cell-ordered, cells-ordered, zeros-ordered, line-ordered, array-ordered}
-use Rattle.netlist.proofs.Counts.{variables-length, literals-length, scan-length, picks-length, lowest-length, select-line-length, levels-length, assignments-length, next-assignment-length, next-depth-length, next-level-length, next-levels-length, judging-length, choosing-length, changing-length}
+use Rattle.netlist.proofs.Counts.{variables-length, literals-length, scan-length, picks-length, lowest-length, select-line-length, levelsT-length, levelsF-length, levelsV-length, assignT-length, assignF-length, next-assignment-length, next-depth-length, next-level-length, next-levels-length, judging-length, choosing-length, changing-length}
 
 -- gates from wire b on, and behind them gates from wire c on
 followed : (b c : ℕ) (xs ys : List Gate) → b + length xs ≡ c → ordered b xs ≡ true → ordered c ys ≡ true → ordered b (xs ++ ys) ≡ true
@@ -23,6 +23,10 @@ followed b c xs ys e p q = append-ordered b xs ys p (ap (λ (k : ℕ). ordered k
 module _ (n m : ℕ) where
   abbrev a : Addresses
   a = addresses n m
+
+  zero-ordered : ordered (a .inputs) (zeroGate a) ≡ true
+  unfolding ordered
+  zero-ordered = cell-ordered none (a .inputs) refl (omega arith) Templates.sum refl
 
   variables-ordered : ordered (a .inputs + 1) (variables a) ≡ true
   unfolding ordered
@@ -72,6 +76,25 @@ module _ (n m : ℕ) where
   assignments-ordered b s r q e p hb hs hr hq hp =
       cells-ordered Templates.assignment refl _ _ _ _ (λ i l. (refl, omega (arith, mul-le-mul-left n l, hq i l)))
 
+  levelsT-ordered : ordered (a .levels) (levelsT a) ≡ true
+  levelsT-ordered = levels-ordered (a .levels) (a .state + 3 * n + 1) (a .state) 1 (omega arith) (omega arith) (omega arith)
+
+  levelsF-ordered : ordered (a .levels + a .block) (levelsF a) ≡ true
+  levelsF-ordered = levels-ordered (a .levels + a .block) (a .state + 4 * n + 1) (a .state + n) 1 (omega arith) (omega arith) (omega arith)
+
+  levelsV-ordered : ordered (a .levels + 2 * a .block) (levelsV a) ≡ true
+  levelsV-ordered = levels-ordered (a .levels + 2 * a .block) (a .state + 5 * n + 1) (a .lowest + 2) 3 (omega arith) (omega arith) (omega arith)
+
+  assignT-ordered : ordered (a .assignments) (assignT a) ≡ true
+  assignT-ordered =
+      assignments-ordered (a .assignments) (a .state) (a .levels + 4 * n) (a .inputs) 0 (a .rule + 13)
+      (omega arith) (omega arith) (omega arith) (λ i l. omega arith) (omega arith)
+
+  assignF-ordered : ordered (a .assignments + 5 * n) (assignF a) ≡ true
+  assignF-ordered =
+      assignments-ordered (a .assignments + 5 * n) (a .state + n) (a .levels + a .block + 4 * n) (a .levels + 2 * a .block + 4 * n) (1 + 4 * n) (a .rule + 12)
+      (omega arith) (omega arith) (omega arith) (λ i l. omega (arith, mul-le-mul-left n l)) (omega arith)
+
   depths-ordered : ordered (a .depths) (depths a) ≡ true
   unfolding ordered
   depths-ordered = cells-ordered Templates.depth refl _ _ _ _ (λ k l. (refl, omega arith))
@@ -95,52 +118,39 @@ module _ (n m : ℕ) where
   unfolding ordered
   next-standing-ordered = cell-ordered (standingSlots a) _ refl (omega arith) Templates.standing refl
 
+  -- ---- one section behind the other
+
   judging-ordered : ordered (a .inputs) (judging a) ≡ true
-  unfolding ordered
   judging-ordered =
-      followed (a .inputs) (a .inputs + 1) (zeroGate a) (variables a ++ (literals a ++ (scan a ++ weights a))) refl
-      (cell-ordered none (a .inputs) refl (omega arith) Templates.sum refl)
-      (followed (a .inputs + 1) (a .literals) (variables a) (literals a ++ (scan a ++ weights a)) (omega (arith, variables-length a)) variables-ordered
-      (followed (a .literals) (a .scan) (literals a) (scan a ++ weights a) (omega (arith, literals-length a)) literals-ordered
-      (followed (a .scan) (a .weights) (scan a) (weights a) (omega (arith, scan-length a)) scan-ordered weights-ordered)))
+      followed _ (a .inputs + 1) (zeroGate a) _ refl zero-ordered
+      (followed _ (a .literals) (variables a) _ (omega (arith, variables-length a)) variables-ordered
+      (followed _ (a .scan) (literals a) _ (omega (arith, literals-length a)) literals-ordered
+      (followed _ (a .weights) (scan a) _ (omega (arith, scan-length a)) scan-ordered weights-ordered)))
 
   choosing-ordered : ordered (a .picks) (choosing a) ≡ true
   choosing-ordered =
-      followed (a .picks) (a .lowest) (picks a) (lowest a ++ (rule a ++ selects a)) (omega (arith, picks-length a)) picks-ordered
-      (followed (a .lowest) (a .rule) (lowest a) (rule a ++ selects a) (omega (arith, lowest-length a)) lowest-ordered
-      (followed (a .rule) (a .selects) (rule a) (selects a) refl rule-ordered
-      (followed (a .selects) (a .selects + 2 + 2 * n) (selectLine a) (selectEnd a) (omega (arith, select-line-length a)) select-line-ordered select-end-ordered)))
+      followed _ (a .lowest) (picks a) _ (omega (arith, picks-length a)) picks-ordered
+      (followed _ (a .rule) (lowest a) _ (omega (arith, lowest-length a)) lowest-ordered
+      (followed _ (a .selects) (rule a) _ refl rule-ordered
+      (followed _ (a .selects + 2 + 2 * n) (selectLine a) _ (omega (arith, select-line-length a)) select-line-ordered select-end-ordered)))
 
   changing-ordered : ordered (a .levels) (changing a) ≡ true
   changing-ordered =
-      followed (a .levels) (a .levels + a .block) (levelsT a) (levelsF a ++ (levelsV a ++ (assignT a ++ (assignF a ++ depths a))))
-      (omega (arith, levels-length a (a .levels) (a .state + 3 * n + 1) (a .state) 1))
-      (levels-ordered (a .levels) (a .state + 3 * n + 1) (a .state) 1 (omega arith) (omega arith) (omega arith))
-      (followed (a .levels + a .block) (a .levels + 2 * a .block) (levelsF a) (levelsV a ++ (assignT a ++ (assignF a ++ depths a)))
-      (omega (arith, levels-length a (a .levels + a .block) (a .state + 4 * n + 1) (a .state + n) 1))
-      (levels-ordered (a .levels + a .block) (a .state + 4 * n + 1) (a .state + n) 1 (omega arith) (omega arith) (omega arith))
-      (followed (a .levels + 2 * a .block) (a .assignments) (levelsV a) (assignT a ++ (assignF a ++ depths a))
-      (omega (arith, levels-length a (a .levels + 2 * a .block) (a .state + 5 * n + 1) (a .lowest + 2) 3))
-      (levels-ordered (a .levels + 2 * a .block) (a .state + 5 * n + 1) (a .lowest + 2) 3 (omega arith) (omega arith) (omega arith))
-      (followed (a .assignments) (a .assignments + 5 * n) (assignT a) (assignF a ++ depths a)
-      (omega (arith, assignments-length a (a .assignments) (a .state) (a .levels + 4 * n) (a .inputs) 0 (a .rule + 13)))
-      (assignments-ordered (a .assignments) (a .state) (a .levels + 4 * n) (a .inputs) 0 (a .rule + 13)
-      (omega arith) (omega arith) (omega arith) (λ i l. omega arith) (omega arith))
-      (followed (a .assignments + 5 * n) (a .depths) (assignF a) (depths a)
-      (omega (arith, assignments-length a (a .assignments + 5 * n) (a .state + n) (a .levels + a .block + 4 * n) (a .levels + 2 * a .block + 4 * n) (1 + 4 * n) (a .rule + 12)))
-      (assignments-ordered (a .assignments + 5 * n) (a .state + n) (a .levels + a .block + 4 * n) (a .levels + 2 * a .block + 4 * n) (1 + 4 * n) (a .rule + 12)
-      (omega arith) (omega arith) (omega arith) (λ i l. omega (arith, mul-le-mul-left n l)) (omega arith))
-      depths-ordered))))
+      followed _ (a .levels + a .block) (levelsT a) _ (omega (arith, levelsT-length a)) levelsT-ordered
+      (followed _ (a .levels + 2 * a .block) (levelsF a) _ (omega (arith, levelsF-length a)) levelsF-ordered
+      (followed _ (a .assignments) (levelsV a) _ (omega (arith, levelsV-length a)) levelsV-ordered
+      (followed _ (a .assignments + 5 * n) (assignT a) _ (omega (arith, assignT-length a)) assignT-ordered
+      (followed _ (a .depths) (assignF a) _ (omega (arith, assignF-length a)) assignF-ordered depths-ordered))))
 
   outputs-ordered : ordered (a .outputs) (outputs a) ≡ true
   outputs-ordered =
-      followed (a .outputs) (a .outputs + 2 * n) (nextAssignment a) (nextDepth a ++ (rows (nextLevel a) n ++ nextStanding a)) (omega (arith, next-assignment-length a)) next-assignment-ordered
-      (followed (a .outputs + 2 * n) (a .outputs + 3 * n + 1) (nextDepth a) (rows (nextLevel a) n ++ nextStanding a) (omega (arith, next-depth-length a)) next-depth-ordered
-      (followed (a .outputs + 3 * n + 1) (a .outputs + 3 * n + 1 + 3 * n * n) (rows (nextLevel a) n) (nextStanding a) (omega (arith, next-levels-length a))
+      followed _ (a .outputs + 2 * n) (nextAssignment a) _ (omega (arith, next-assignment-length a)) next-assignment-ordered
+      (followed _ (a .outputs + 3 * n + 1) (nextDepth a) _ (omega (arith, next-depth-length a)) next-depth-ordered
+      (followed _ (a .outputs + 3 * n + 1 + 3 * n * n) (rows (nextLevel a) n) _ (omega (arith, next-levels-length a))
       (rows-ordered (nextLevel a) (3 * n) (a .outputs + 3 * n + 1) (next-level-length a) n next-level-ordered) next-standing-ordered))
 
   pub circuit-ordered : ordered (a .inputs) (circuit a) ≡ true
   circuit-ordered =
-      followed (a .inputs) (a .picks) (judging a) (choosing a ++ (changing a ++ outputs a)) (omega (arith, judging-length a)) judging-ordered
-      (followed (a .picks) (a .levels) (choosing a) (changing a ++ outputs a) (omega (arith, choosing-length a)) choosing-ordered
-      (followed (a .levels) (a .outputs) (changing a) (outputs a) (omega (arith, changing-length a)) changing-ordered outputs-ordered))
+      followed _ (a .picks) (judging a) _ (omega (arith, judging-length a)) judging-ordered
+      (followed _ (a .levels) (choosing a) _ (omega (arith, choosing-length a)) choosing-ordered
+      (followed _ (a .outputs) (changing a) _ (omega (arith, changing-length a)) changing-ordered outputs-ordered))

@@ -45,6 +45,21 @@ module _ (a : Addresses) where
   pub assignments-length : (b s r q e p : ℕ) → length (assignments a b s r q e p) ≡ 5 * n
   assignments-length b s r q e p = cells-count allGates Templates.assignment _ _ _ _
 
+  pub levelsT-length : length (levelsT a) ≡ (1 + 4 * n) * n
+  levelsT-length = levels-length _ _ _ _
+
+  pub levelsF-length : length (levelsF a) ≡ (1 + 4 * n) * n
+  levelsF-length = levels-length _ _ _ _
+
+  pub levelsV-length : length (levelsV a) ≡ (1 + 4 * n) * n
+  levelsV-length = levels-length _ _ _ _
+
+  pub assignT-length : length (assignT a) ≡ 5 * n
+  assignT-length = assignments-length _ _ _ _ _ _
+
+  pub assignF-length : length (assignF a) ≡ 5 * n
+  assignF-length = assignments-length _ _ _ _ _ _
+
   pub next-assignment-length : length (nextAssignment a) ≡ 2 * n
   next-assignment-length = array-count allGates 0 Templates.sum _ _ _ _ 2 n ∙ omega arith
 

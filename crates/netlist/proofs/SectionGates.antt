@@ -11,7 +11,7 @@ use Rattle.netlist.specs.declared.Addresses.{Addresses}
 use Rattle.netlist.specs.Arrays.{rows}
 use Rattle.netlist.specs.Netlist.{addresses, zeroGate, variables, literals, scan, weights, picks, lowest, rule, selects, selectLine, selectEnd, levelsT, levelsF, levelsV, assignT, assignF, depths, nextAssignment, nextDepth, nextLevel, nextStanding, judging, choosing, changing, outputs, circuit}
 use Rattle.netlist.proofs.Values.{Holds, holds-left, holds-right, holds-rows}
-use Rattle.netlist.proofs.Counts.{variables-length, literals-length, scan-length, picks-length, lowest-length, select-line-length, levels-length, assignments-length, next-assignment-length, next-depth-length, next-level-length, next-levels-length, judging-length, choosing-length, changing-length}
+use Rattle.netlist.proofs.Counts.{variables-length, literals-length, scan-length, picks-length, lowest-length, select-line-length, levelsT-length, levelsF-length, levelsV-length, assignT-length, assignF-length, next-assignment-length, next-depth-length, next-level-length, next-levels-length, judging-length, choosing-length, changing-length}
 
 -- each section's gates hold of the wires
 pub record Sections (W : ℕ → Bool) (a : Addresses) : Type 0 where
@@ -41,52 +41,49 @@ module _ (W : ℕ → Bool) (n m : ℕ) where
   a = addresses n m
 
   -- what stands behind gates from wire b on begins at wire c
-  behind : (b c : ℕ) (xs ys : List Gate) → b + length xs ≡ c → Holds W b (xs ++ ys) → Holds W c ys
-  behind b c xs ys e h = subst (λ (k : ℕ). Holds W k ys) e (holds-right W b xs ys h)
+  behind : (b c : ℕ) (xs ys : List Gate) → Holds W b (xs ++ ys) → b + length xs ≡ c → Holds W c ys
+  behind b c xs ys h e = subst (λ (k : ℕ). Holds W k ys) e (holds-right W b xs ys h)
 
   pub sections : Holds W (a .inputs) (circuit a) → Sections W a
   sections h =
-      let h₁ = holds-left W (a .inputs) (judging a) (choosing a ++ (changing a ++ outputs a)) h in
-      let r₁ = behind (a .inputs) (a .picks) (judging a) (choosing a ++ (changing a ++ outputs a)) (omega (arith, judging-length a)) h in
-      let h₂ = holds-left W (a .picks) (choosing a) (changing a ++ outputs a) r₁ in
-      let r₂ = behind (a .picks) (a .levels) (choosing a) (changing a ++ outputs a) (omega (arith, choosing-length a)) r₁ in
-      let h₃ = holds-left W (a .levels) (changing a) (outputs a) r₂ in
-      let h₄ = behind (a .levels) (a .outputs) (changing a) (outputs a) (omega (arith, changing-length a)) r₂ in
-      let v₁ = behind (a .inputs) (a .inputs + 1) (zeroGate a) (variables a ++ (literals a ++ (scan a ++ weights a))) refl h₁ in
-      let v₂ = behind (a .inputs + 1) (a .literals) (variables a) (literals a ++ (scan a ++ weights a)) (omega (arith, variables-length a)) v₁ in
-      let v₃ = behind (a .literals) (a .scan) (literals a) (scan a ++ weights a) (omega (arith, literals-length a)) v₂ in
-      let v₄ = behind (a .scan) (a .weights) (scan a) (weights a) (omega (arith, scan-length a)) v₃ in
-      let c₁ = behind (a .picks) (a .lowest) (picks a) (lowest a ++ (rule a ++ selects a)) (omega (arith, picks-length a)) h₂ in
-      let c₂ = behind (a .lowest) (a .rule) (lowest a) (rule a ++ selects a) (omega (arith, lowest-length a)) c₁ in
-      let c₃ = behind (a .rule) (a .selects) (rule a) (selects a) refl c₂ in
-      let c₄ = behind (a .selects) (a .selects + 2 + 2 * n) (selectLine a) (selectEnd a) (omega (arith, select-line-length a)) c₃ in
-      let l₁ = behind (a .levels) (a .levels + a .block) (levelsT a) (levelsF a ++ (levelsV a ++ (assignT a ++ (assignF a ++ depths a)))) (omega (arith, levels-length a (a .levels) (a .state + 3 * n + 1) (a .state) 1)) h₃ in
-      let l₂ = behind (a .levels + a .block) (a .levels + 2 * a .block) (levelsF a) (levelsV a ++ (assignT a ++ (assignF a ++ depths a))) (omega (arith, levels-length a (a .levels + a .block) (a .state + 4 * n + 1) (a .state + n) 1)) l₁ in
-      let l₃ = behind (a .levels + 2 * a .block) (a .assignments) (levelsV a) (assignT a ++ (assignF a ++ depths a)) (omega (arith, levels-length a (a .levels + 2 * a .block) (a .state + 5 * n + 1) (a .lowest + 2) 3)) l₂ in
-      let l₄ = behind (a .assignments) (a .assignments + 5 * n) (assignT a) (assignF a ++ depths a) (omega (arith, assignments-length a (a .assignments) (a .state) (a .levels + 4 * n) (a .inputs) 0 (a .rule + 13))) l₃ in
-      let l₅ = behind (a .assignments + 5 * n) (a .depths) (assignF a) (depths a) (omega (arith, assignments-length a (a .assignments + 5 * n) (a .state + n) (a .levels + a .block + 4 * n) (a .levels + 2 * a .block + 4 * n) (1 + 4 * n) (a .rule + 12))) l₄ in
-      let o₁ = behind (a .outputs) (a .outputs + 2 * n) (nextAssignment a) (nextDepth a ++ (rows (nextLevel a) n ++ nextStanding a)) (omega (arith, next-assignment-length a)) h₄ in
-      let o₂ = behind (a .outputs + 2 * n) (a .outputs + 3 * n + 1) (nextDepth a) (rows (nextLevel a) n ++ nextStanding a) (omega (arith, next-depth-length a)) o₁ in
-      let o₃ = behind (a .outputs + 3 * n + 1) (a .outputs + 3 * n + 1 + 3 * n * n) (rows (nextLevel a) n) (nextStanding a) (omega (arith, next-levels-length a)) o₂ in
+      -- the groups, then the sections of each
+      let choose = behind _ (a .picks) (judging a) _ h (omega (arith, judging-length a)) in
+      let change = behind _ (a .levels) (choosing a) _ choose (omega (arith, choosing-length a)) in
+      let output = behind _ (a .outputs) (changing a) _ change (omega (arith, changing-length a)) in
+      let judged = holds-left W _ (judging a) _ h in
+      let judged₁ = behind (a .inputs) (a .inputs + 1) (zeroGate a) (variables a ++ (literals a ++ (scan a ++ weights a))) judged refl in
+      let judged₂ = behind _ (a .literals) (variables a) _ judged₁ (omega (arith, variables-length a)) in
+      let judged₃ = behind _ (a .scan) (literals a) _ judged₂ (omega (arith, literals-length a)) in
+      let chosen = holds-left W _ (choosing a) _ choose in
+      let chosen₁ = behind _ (a .lowest) (picks a) _ chosen (omega (arith, picks-length a)) in
+      let chosen₂ = behind _ (a .rule) (lowest a) _ chosen₁ (omega (arith, lowest-length a)) in
+      let chosen₃ = behind (a .rule) (a .selects) (rule a) (selects a) chosen₂ refl in
+      let changed = holds-left W _ (changing a) _ change in
+      let changed₁ = behind _ (a .levels + a .block) (levelsT a) _ changed (omega (arith, levelsT-length a)) in
+      let changed₂ = behind _ (a .levels + 2 * a .block) (levelsF a) _ changed₁ (omega (arith, levelsF-length a)) in
+      let changed₃ = behind _ (a .assignments) (levelsV a) _ changed₂ (omega (arith, levelsV-length a)) in
+      let changed₄ = behind _ (a .assignments + 5 * n) (assignT a) _ changed₃ (omega (arith, assignT-length a)) in
+      let output₁ = behind _ (a .outputs + 2 * n) (nextAssignment a) _ output (omega (arith, next-assignment-length a)) in
+      let output₂ = behind _ (a .outputs + 3 * n + 1) (nextDepth a) _ output₁ (omega (arith, next-depth-length a)) in
       record {
-        zeroGate-holds = holds-left W (a .inputs) (zeroGate a) (variables a ++ (literals a ++ (scan a ++ weights a))) h₁;
-        variables-hold = holds-left W (a .inputs + 1) (variables a) (literals a ++ (scan a ++ weights a)) v₁;
-        literals-hold = holds-left W (a .literals) (literals a) (scan a ++ weights a) v₂;
-        scan-holds = holds-left W (a .scan) (scan a) (weights a) v₃;
-        weights-hold = v₄;
-        picks-hold = holds-left W (a .picks) (picks a) (lowest a ++ (rule a ++ selects a)) h₂;
-        lowest-holds = holds-left W (a .lowest) (lowest a) (rule a ++ selects a) c₁;
-        rule-holds = holds-left W (a .rule) (rule a) (selects a) c₂;
-        select-line-holds = holds-left W (a .selects) (selectLine a) (selectEnd a) c₃;
-        select-end-holds = c₄;
-        levelsT-hold = holds-left W (a .levels) (levelsT a) (levelsF a ++ (levelsV a ++ (assignT a ++ (assignF a ++ depths a)))) h₃;
-        levelsF-hold = holds-left W (a .levels + a .block) (levelsF a) (levelsV a ++ (assignT a ++ (assignF a ++ depths a))) l₁;
-        levelsV-hold = holds-left W (a .levels + 2 * a .block) (levelsV a) (assignT a ++ (assignF a ++ depths a)) l₂;
-        assignT-holds = holds-left W (a .assignments) (assignT a) (assignF a ++ depths a) l₃;
-        assignF-holds = holds-left W (a .assignments + 5 * n) (assignF a) (depths a) l₄;
-        depths-hold = l₅;
-        next-assignment-holds = holds-left W (a .outputs) (nextAssignment a) (nextDepth a ++ (rows (nextLevel a) n ++ nextStanding a)) h₄;
-        next-depth-holds = holds-left W (a .outputs + 2 * n) (nextDepth a) (rows (nextLevel a) n ++ nextStanding a) o₁;
-        next-level-holds = holds-rows W (nextLevel a) (3 * n) (a .outputs + 3 * n + 1) (next-level-length a) n (holds-left W (a .outputs + 3 * n + 1) (rows (nextLevel a) n) (nextStanding a) o₂);
-        next-standing-holds = o₃;
+        zeroGate-holds = holds-left W (a .inputs) (zeroGate a) (variables a ++ (literals a ++ (scan a ++ weights a))) judged;
+        variables-hold = holds-left W _ (variables a) _ judged₁;
+        literals-hold = holds-left W _ (literals a) _ judged₂;
+        scan-holds = holds-left W _ (scan a) _ judged₃;
+        weights-hold = behind _ (a .weights) (scan a) _ judged₃ (omega (arith, scan-length a));
+        picks-hold = holds-left W _ (picks a) _ chosen;
+        lowest-holds = holds-left W _ (lowest a) _ chosen₁;
+        rule-holds = holds-left W (a .rule) (rule a) (selects a) chosen₂;
+        select-line-holds = holds-left W _ (selectLine a) _ chosen₃;
+        select-end-holds = behind _ (a .selects + 2 + 2 * n) (selectLine a) _ chosen₃ (omega (arith, select-line-length a));
+        levelsT-hold = holds-left W _ (levelsT a) _ changed;
+        levelsF-hold = holds-left W _ (levelsF a) _ changed₁;
+        levelsV-hold = holds-left W _ (levelsV a) _ changed₂;
+        assignT-holds = holds-left W _ (assignT a) _ changed₃;
+        assignF-holds = holds-left W _ (assignF a) _ changed₄;
+        depths-hold = behind _ (a .depths) (assignF a) _ changed₄ (omega (arith, assignF-length a));
+        next-assignment-holds = holds-left W _ (nextAssignment a) _ output;
+        next-depth-holds = holds-left W _ (nextDepth a) _ output₁;
+        next-level-holds = holds-rows W (nextLevel a) (3 * n) (a .outputs + 3 * n + 1) (next-level-length a) n (holds-left W _ (rows (nextLevel a) n) _ output₂);
+        next-standing-holds = behind _ (a .outputs + 3 * n + 1 + 3 * n * n) (rows (nextLevel a) n) _ output₂ (omega (arith, next-levels-length a));
       }
