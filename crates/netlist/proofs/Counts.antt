@@ -92,41 +92,41 @@ module _ (a : Addresses) where
         ≡ c .of Templates.sum + (c .of Templates.variable * n + (inLine 4 Templates.literal n * m + (inLine 4 Templates.row m + c .of Templates.weight * m)))
     judging-count =
         join (zeroGate a) (variables a ++ (literals a ++ (scan a ++ weights a))) _ _ (c .of-cell none (a .inputs) Templates.sum)
-        (join (variables a) (literals a ++ (scan a ++ weights a)) _ _ (cells-count c Templates.variable _ _ _ _)
-        (join (literals a) (scan a ++ weights a) _ _ (array-count c 4 Templates.literal _ _ _ _ _ _)
-        (join (scan a) (weights a) _ _ (line-count c 4 Templates.row _ _ _ _) (cells-count c Templates.weight _ _ _ _))))
+        (join (variables a) _ _ _ (cells-count c Templates.variable _ _ _ _)
+        (join (literals a) _ _ _ (array-count c 4 Templates.literal _ _ _ _ _ _)
+        (join (scan a) _ _ _ (line-count c 4 Templates.row _ _ _ _) (cells-count c Templates.weight _ _ _ _))))
 
     choosing-count : c .of (choosing a)
         ≡ inLine 1 Templates.pick m * n + (inLine 1 Templates.lowest n + (c .of Templates.rule + (inLine 2 Templates.select n + c .of Templates.sum * 2)))
     choosing-count =
-        join (picks a) (lowest a ++ (rule a ++ selects a)) _ _ (array-count c 1 Templates.pick _ _ _ _ _ _)
-        (join (lowest a) (rule a ++ selects a) _ _ (line-count c 1 Templates.lowest _ _ _ _)
+        join (picks a) _ _ _ (array-count c 1 Templates.pick _ _ _ _ _ _)
+        (join (lowest a) _ _ _ (line-count c 1 Templates.lowest _ _ _ _)
         (join (rule a) (selects a) _ _ (c .of-cell (ruleSlots a) (a .rule) Templates.rule)
-        (join (selectLine a) (selectEnd a) _ _ (line-count c 2 Templates.select _ _ _ _) (cells-count c Templates.sum _ _ _ 2))))
+        (join (selectLine a) _ _ _ (line-count c 2 Templates.select _ _ _ _) (cells-count c Templates.sum _ _ _ 2))))
 
     changing-count : c .of (changing a)
         ≡ inLine 1 Templates.level n * n + (inLine 1 Templates.level n * n + (inLine 1 Templates.level n * n
         + (c .of Templates.assignment * n + (c .of Templates.assignment * n + c .of Templates.depth * (n + 1)))))
     changing-count =
-        join (levelsT a) (levelsF a ++ (levelsV a ++ (assignT a ++ (assignF a ++ depths a)))) _ _ (levels-count _ _ _ _)
-        (join (levelsF a) (levelsV a ++ (assignT a ++ (assignF a ++ depths a))) _ _ (levels-count _ _ _ _)
-        (join (levelsV a) (assignT a ++ (assignF a ++ depths a)) _ _ (levels-count _ _ _ _)
-        (join (assignT a) (assignF a ++ depths a) _ _ (assignments-count _ _ _ _ _ _)
-        (join (assignF a) (depths a) _ _ (assignments-count _ _ _ _ _ _) (cells-count c Templates.depth _ _ _ _)))))
+        join (levelsT a) _ _ _ (levels-count _ _ _ _)
+        (join (levelsF a) _ _ _ (levels-count _ _ _ _)
+        (join (levelsV a) _ _ _ (levels-count _ _ _ _)
+        (join (assignT a) _ _ _ (assignments-count _ _ _ _ _ _)
+        (join (assignF a) _ _ _ (assignments-count _ _ _ _ _ _) (cells-count c Templates.depth _ _ _ _)))))
 
     outputs-count : c .of (outputs a)
         ≡ inLine 0 Templates.sum n * 2 + (c .of Templates.sum * (n + 1) + (inLine 0 Templates.sum n * 3 * n + c .of Templates.standing))
     outputs-count =
-        join (nextAssignment a) (nextDepth a ++ (rows (nextLevel a) n ++ nextStanding a)) _ _ (array-count c 0 Templates.sum _ _ _ _ 2 n)
-        (join (nextDepth a) (rows (nextLevel a) n ++ nextStanding a) _ _ (cells-count c Templates.sum _ _ _ (n + 1))
-        (join (rows (nextLevel a) n) (nextStanding a) _ _
+        join (nextAssignment a) _ _ _ (array-count c 0 Templates.sum _ _ _ _ 2 n)
+        (join (nextDepth a) _ _ _ (cells-count c Templates.sum _ _ _ (n + 1))
+        (join (rows (nextLevel a) n) _ _ _
         (rows-count c (nextLevel a) (inLine 0 Templates.sum n * 3) (λ l. array-count c 0 Templates.sum _ _ _ _ 3 n) n)
         (c .of-cell (standingSlots a) (a .outputs + 3 * n + 1 + 3 * n * n) Templates.standing)))
 
     circuit-count : c .of (circuit a) ≡ c .of (judging a) + (c .of (choosing a) + (c .of (changing a) + c .of (outputs a)))
     circuit-count =
-        join (judging a) (choosing a ++ (changing a ++ outputs a)) _ _ refl
-        (join (choosing a) (changing a ++ outputs a) _ _ refl (c .of-append (changing a) (outputs a)))
+        join (judging a) _ _ _ refl
+        (join (choosing a) _ _ _ refl (c .of-append (changing a) (outputs a)))
 
   -- ---- all gates, and AND gates
 
