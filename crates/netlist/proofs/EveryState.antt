@@ -30,7 +30,7 @@ use Rattle.netlist.specs.Outputs.{closed, outputBits, outputsIn, Carries
 use Rattle.netlist.specs.Netlist.{addresses, circuit, gatesFor, gatesOn}
 use Rattle.netlist.proofs.Counts.{circuit-length, gates-length}
 use Rattle.netlist.proofs.Accepted.{circuit-ordered}
-use Rattle.netlist.proofs.GeneratedCircuit.{circuit-carries}
+use Rattle.netlist.proofs.CircuitOutputs.{circuit-outputs}
 
 drop-map : {A B : Type 0} (f : A → B) (k : ℕ) (l : List A) → drop k (map f l) ≡ map f (drop k l)
 drop-map f zero l = refl
@@ -62,7 +62,7 @@ module _ (d : Dimensions) (left right : List ℕ) (s : State) where
       let e : inputWires d + length (circuit a) - suc (stateWires (d .n)) ≡ a .outputs = omega (arith, circuit-length a) in
       ap (λ (k : ℕ). drop k (wiresOf bits (circuit a))) e
       ∙ subst (λ (m : ℕ). length bits ≡ addresses (d .n) m .inputs → drop (addresses (d .n) m .outputs) (wiresOf bits (circuit (addresses (d .n) m))) ≡ outputBits (d .n) rows s)
-      (both-length d left right) (λ l. circuit-carries (d .n) rows s l formed) (input-length d left right s ∙ inputs-at d)
+      (both-length d left right) (λ l. circuit-outputs (d .n) rows s l formed) (input-length d left right s ∙ inputs-at d)
 
   outputs-length : length (bytesOf (outputBits (d .n) (rowsOf d left right) s)) ≡ stateWires (d .n) + 1
   unfolding outputBits

@@ -9,7 +9,6 @@ pub mod Moves
 pub mod NextState
 pub mod GiantStep
 pub mod LastWires
-pub mod Circuit
 pub mod Sizes
 pub mod Values
 pub mod Arrays
@@ -17,5 +16,5 @@ pub mod Counts
 pub mod SectionGates
 pub mod Wiring
 pub mod Accepted
-pub mod GeneratedCircuit
+pub mod CircuitOutputs
 pub mod EveryState

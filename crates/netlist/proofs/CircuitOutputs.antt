@@ -1,0 +1,81 @@
+-- The circuit carries out the giant step: fed with the bits of rows and of a well-formed state, its last wires are those of the next state, then whether it is closed.
+-- Its gates hold of its wires, so the wires meet the interface's equations; the inputs stand in front, the outputs at the end.
+-- Assumes nothing.
+use mathlib.Core.Path.{_≡_, ap, ap₂, sym, _∙_, subst, fun-ext}
+use mathlib.Core.Bool.{Bool, true}
+use mathlib.Core.List.{List, [], _∷_, _++_, append-assoc}
+use Prim.Native.Nat.{ℕ, suc, _+_, _*_}
+use native.Mathlib.Omega.{arith}
+use lib.ListN.{length, drop}
+use Rattle.tables.specs.declared.Row.{Row}
+use Rattle.dimensions.specs.Sizes.{stateWires}
+use Rattle.state.specs.State.{State}
+use Rattle.state.specs.WellFormed.{wellFormedState}
+use Rattle.gates.specs.Gates.{wire, wiresOf}
+use Rattle.gates.proofs.Circuits.{ordered, wires-length}
+use Rattle.wires.specs.Layout.{rowsBits, stateBits}
+use Rattle.wires.specs.Bits.{bitsIn, inOrder}
+use Rattle.wires.specs.Unpacking.{stateAt}
+use Rattle.wires.proofs.Series.{upto-more}
+use Rattle.wires.proofs.Addresses.{Same, positive-at, negative-at, rows-past, state-at, state-row}
+use Rattle.netlist.specs.declared.Addresses.{Addresses}
+use Rattle.netlist.specs.Outputs.{outputBits}
+use Rattle.netlist.specs.Netlist.{addresses, circuit}
+use Rattle.netlist.proofs.Interface.{Wires, Inputs, Cells}
+use Rattle.netlist.proofs.GiantStep.{circuit-steps}
+use Rattle.netlist.proofs.LastWires.{wires-behind, last-wires}
+use Rattle.netlist.proofs.Values.{Holds, holds}
+use Rattle.netlist.proofs.Counts.{circuit-length}
+use Rattle.netlist.proofs.SectionGates.{sections}
+use Rattle.netlist.proofs.Wiring.{wiresAt, cells-met}
+use Rattle.netlist.proofs.Accepted.{circuit-ordered}
+
+module _ (n : ℕ) (rows : List Row) (s : State) where
+  abbrev inputs : List Bool
+  inputs = rowsBits n rows ++ stateBits n s
+
+  abbrev a : Addresses
+  a = addresses n (length rows)
+
+  abbrev list : List Bool
+  list = wiresOf inputs (circuit a)
+
+  abbrev w : Wires
+  w = wiresAt (wire list) a
+
+  -- the gates' wires, behind rows and state
+  abbrev rest : List Bool
+  rest = wires-behind inputs (circuit a) .0
+
+  in-parts : list ≡ rowsBits n rows ++ (inOrder n (bitsIn s) ++ rest)
+  unfolding stateBits inOrder
+  in-parts = wires-behind inputs (circuit a) .1 ∙ append-assoc (rowsBits n rows) (stateBits n s) rest
+
+  -- the wire of a number, however the number is written
+  in-parts-at : (x y : ℕ) → x ≡ y → wire list x ≡ wire (rowsBits n rows ++ (inOrder n (bitsIn s) ++ rest)) y
+  in-parts-at x y e = ap₂ wire in-parts e
+
+  given : Inputs n rows s w
+  given = record {
+    p-is = λ j i h b. in-parts-at _ ((n + n) * j + i) (omega arith) ∙ positive-at n rows _ j i h b;
+    q-is = λ j i h b. in-parts-at _ ((n + n) * j + (n + i)) (omega arith) ∙ negative-at n rows _ j i h b;
+    now-is = subst (λ (f : ℕ → Bool). Same n (stateAt n f) (bitsIn s))
+        (sym (fun-ext (λ k. in-parts-at (a .state + k) ((n + n) * length rows + k) (omega arith) ∙ rows-past n rows _ k)))
+        (state-at n (bitsIn s) rest);
+  }
+
+  module _ (l : length inputs ≡ a .inputs) where
+    gates-hold : Holds (wire list) (a .inputs) (circuit a)
+    gates-hold =
+        subst (λ (k : ℕ). Holds (wire list) k (circuit a)) l
+        (holds inputs (circuit a) (ap (λ (k : ℕ). ordered k (circuit a)) l ∙ circuit-ordered n (length rows)))
+
+    cells : Cells n (length rows) w
+    cells = cells-met (wire list) a (sections (wire list) n (length rows) gates-hold) (omega arith)
+
+    pub circuit-outputs : wellFormedState n s ≡ true → drop (a .outputs) list ≡ outputBits n rows s
+    circuit-outputs formed =
+        last-wires list (a .outputs) (suc (stateWires n)) (wires-length inputs (circuit a) ∙ omega (arith, circuit-length a))
+        ∙ upto-more (λ k. wire list (a .outputs + k)) (stateWires n)
+        ∙ ap₂ (λ (bits : List Bool) (x : Bool). bits ++ (x ∷ [])) (sym (state-row n (λ k. wire list (a .outputs + k)))) (ap (wire list) (omega arith))
+        ∙ circuit-steps n rows s w formed given cells
