@@ -10,30 +10,45 @@ use native.Mathlib.Omega.{arith}
 use borrow.Author.Tests.{lt-ltb, le-ltb, ltb-true}
 use lib.Dec.{ltb}
 use lib.ListN.{length, getD}
-use Rattle.words.specs.Booleans.{_⊕_}
 use Rattle.words.proofs.Truth.{and-l, and-r, and-i}
 use Rattle.gates.specs.Gates.{Gate, wire, wiresOf}
 use Rattle.gates.specs.Gates.Gate.{XOR, AND, INV}
 use Rattle.gates.proofs.Circuits.{reads, ordered, ordered-append}
 use Rattle.netlist.specs.Templates.{sum}
 use Rattle.netlist.specs.Arrays.{operand, placed, cell, rows, along, none, cells, line, array, Below}
+use Rattle.netlist.proofs.Chains.{xor-self}
 use Rattle.netlist.proofs.Sizes.{rows-length, cell-length, cells-length, line-length}
 use Rattle.netlist.proofs.Values.{Holds, holds-left, holds-right, holds-rows, cell-wire}
 
--- the same numbers, one by one
+-- the same numbers, as equations that arithmetic can prove
 abbrev pub Agree : List ℕ → List ℕ → Type 0
 Agree [] [] = Unit {0}
 Agree [] (y ∷ ys) = ⊥
 Agree (x ∷ xs) [] = ⊥
 Agree (x ∷ xs) (y ∷ ys) = (x ≡ y) × Agree xs ys
 
-pub agree : (xs ys : List ℕ) → Agree xs ys → xs ≡ ys
+agree : (xs ys : List ℕ) → Agree xs ys → xs ≡ ys
 agree [] [] h = refl
 agree [] (y ∷ ys) h = absurd h
 agree (x ∷ xs) [] h = absurd h
 agree (x ∷ xs) (y ∷ ys) h = ap₂ (λ (p : ℕ) (l : List ℕ). p ∷ l) (h .0) (agree xs ys (h .1))
 
 -- ---- values
+
+module _ (W : ℕ → Bool) (z : ℕ) (t : List Gate) where
+  line-holds : (slots steps : List ℕ) (b n : ℕ) → Holds W b (line z t slots steps b n) → Holds W (b + z) (cells t slots steps (b + z) n)
+  unfolding line
+  line-holds slots steps b n h =
+      let e : b + length (cells sum none none b z) ≡ b + z = omega (arith, cells-length sum none none b z) in
+      subst (λ (k : ℕ). Holds W k (cells t slots steps (b + z) n)) e
+      (holds-right W b (cells sum none none b z) (cells t slots steps (b + z) n) h)
+
+  array-holds : (slots outer inner : List ℕ) (b m n : ℕ) → Holds W b (array z t slots outer inner b m n) → (j : ℕ) → j < m
+      → Holds W (b + (z + length t * n) * j) (line z t (along slots outer j) inner (b + (z + length t * n) * j) n)
+  unfolding array
+  array-holds slots outer inner b m n h j l =
+      holds-rows W (λ i. line z t (along slots outer i) inner (b + (z + length t * n) * i) n) (z + length t * n) b
+      (λ i. line-length z t (along slots outer i) inner (b + (z + length t * n) * i) n) m h j l
 
 module _ (W : ℕ → Bool) (t : List Gate) (o : ordered 8 t ≡ true) where
   -- gate k of a cell, at wire x, on the slots s
@@ -53,25 +68,11 @@ module _ (W : ℕ → Bool) (t : List Gate) (o : ordered 8 t ≡ true) where
       (holds-rows W (λ j. cell (along slots steps j) (b + length t * j) t) (length t) b (λ j. cell-length (along slots steps j) (b + length t * j) t) n h i l)
 
   module _ (z : ℕ) where
-    pub line-holds : (slots steps : List ℕ) (b n : ℕ) → Holds W b (line z t slots steps b n) → Holds W (b + z) (cells t slots steps (b + z) n)
-    unfolding line
-    line-holds slots steps b n h =
-        let e : b + length (cells sum none none b z) ≡ b + z = omega (arith, cells-length sum none none b z) in
-        subst (λ (k : ℕ). Holds W k (cells t slots steps (b + z) n)) e
-        (holds-right W b (cells sum none none b z) (cells t slots steps (b + z) n) h)
-
     -- of cell i of a line
     pub line-at : (slots steps : List ℕ) (b n : ℕ) → Holds W b (line z t slots steps b n) → (i : ℕ) → i < n
         → (s : List ℕ) → Agree (along slots steps i) s → length s ≡ 8 → (k x : ℕ) → k < length t → x ≡ b + z + length t * i + k
         → W x ≡ wire (wiresOf (map W s) t) (8 + k)
-    line-at slots steps b n h = cells-at slots steps (b + z) n (line-holds slots steps b n h)
-
-    pub array-holds : (slots outer inner : List ℕ) (b m n : ℕ) → Holds W b (array z t slots outer inner b m n) → (j : ℕ) → j < m
-        → Holds W (b + (z + length t * n) * j) (line z t (along slots outer j) inner (b + (z + length t * n) * j) n)
-    unfolding array
-    array-holds slots outer inner b m n h j l =
-        holds-rows W (λ i. line z t (along slots outer i) inner (b + (z + length t * n) * i) n) (z + length t * n) b
-        (λ i. line-length z t (along slots outer i) inner (b + (z + length t * n) * i) n) m h j l
+    line-at slots steps b n h = cells-at slots steps (b + z) n (line-holds W z t slots steps b n h)
 
     -- of cell i of line j of an array
     pub array-at : (slots outer inner : List ℕ) (b m n : ℕ) → Holds W b (array z t slots outer inner b m n) → (j i : ℕ) → j < m → i < n
@@ -79,11 +80,7 @@ module _ (W : ℕ → Bool) (t : List Gate) (o : ordered 8 t ≡ true) where
         → (k x : ℕ) → k < length t → x ≡ b + (z + length t * n) * j + z + length t * i + k
         → W x ≡ wire (wiresOf (map W s) t) (8 + k)
     array-at slots outer inner b m n h j i l =
-        line-at (along slots outer j) inner (b + (z + length t * n) * j) n (array-holds slots outer inner b m n h j l) i
-
-pub xor-self : (p : Bool) → p ⊕ p ≡ false
-xor-self true = refl
-xor-self false = refl
+        line-at (along slots outer j) inner (b + (z + length t * n) * j) n (array-holds W z t slots outer inner b m n h j l) i
 
 module _ (W : ℕ → Bool) where
   -- gates that are 0
@@ -92,17 +89,16 @@ module _ (W : ℕ → Bool) where
   zeros-at b z h i x l e = cells-at W sum refl none none b z h i l none (omega arith) refl 0 x (omega arith) (omega arith) ∙ xor-self (W 0)
 
   module _ (z : ℕ) (t : List Gate) where
+    -- those before the cells of a line
     pub line-zero : (slots steps : List ℕ) (b n : ℕ) → Holds W b (line z t slots steps b n) → (k x : ℕ) → k < z → x ≡ b + k → W x ≡ false
     unfolding line
     line-zero slots steps b n h = zeros-at b z (holds-left W b (cells sum none none b z) (cells t slots steps (b + z) n) h)
 
+    -- and of each line of an array
     pub array-zero : (slots outer inner : List ℕ) (b m n : ℕ) → Holds W b (array z t slots outer inner b m n) → (j : ℕ) → j < m
         → (k x : ℕ) → k < z → x ≡ b + (z + length t * n) * j + k → W x ≡ false
-    unfolding array
     array-zero slots outer inner b m n h j l =
-        line-zero (along slots outer j) inner (b + (z + length t * n) * j) n
-        (holds-rows W (λ i. line z t (along slots outer i) inner (b + (z + length t * n) * i) n) (z + length t * n) b
-        (λ i. line-length z t (along slots outer i) inner (b + (z + length t * n) * i) n) m h j l)
+        line-zero (along slots outer j) inner (b + (z + length t * n) * j) n (array-holds W z t slots outer inner b m n h j l)
 
 -- ---- acceptance
 

@@ -12,11 +12,11 @@ use Rattle.words.specs.Sets.{any, count, lowest}
 use Rattle.words.proofs.Truth.{on, taut1, taut2, taut3, same, same-eq}
 use Rattle.words.proofs.Upto.{count-none}
 use Rattle.words.proofs.Last.{any-last, count-last}
-use Rattle.netlist.proofs.Equations.{or}
+use Rattle.netlist.proofs.CellFunctions.{or}
 
 -- ---- OR
 
-pub or-is : (a b : Bool) → or a b ≡ a || b
+or-is : (a b : Bool) → or a b ≡ a || b
 or-is a b = same-eq (taut2 (λ a b. same (or a b) (a || b)) refl a b)
 
 module _ (s p : ℕ → Bool) (n : ℕ) (start : s 0 ≡ false) (next : (i : ℕ) → i < n → s (suc i) ≡ or (s i) (p i)) where
@@ -34,6 +34,9 @@ parity p (suc n) = p zero ⊕ parity (λ i. p (suc i)) n
 
 pub xor-false : (a : Bool) → a ⊕ false ≡ a
 xor-false a = same-eq (taut1 (λ a. same (a ⊕ false) a) refl a)
+
+pub xor-self : (a : Bool) → a ⊕ a ≡ false
+xor-self a = same-eq (taut1 (λ a. same (a ⊕ a) false) refl a)
 
 parity-last : (p : ℕ → Bool) (n : ℕ) → parity p (suc n) ≡ parity p n ⊕ p n
 unfolding parity
@@ -74,6 +77,7 @@ parity-single x p (suc n) e =
 
 -- ---- counting to two
 
+-- an odd number
 abbrev pub oddOf : ℕ → Bool
 oddOf zero = false
 oddOf (suc c) = not (oddOf c)

@@ -1,5 +1,5 @@
 -- The circuit carries out the giant step: fed with the bits of rows and of a well-formed state, its last wires are those of the next state, then whether it is closed.
--- Its gates hold of its wires, so the wires meet the interface's equations; the inputs stand in front, the outputs at the end.
+-- Its gates hold of its wires, so the wires meet the equations; the inputs stand in front, the outputs at the end.
 -- Assumes nothing.
 use mathlib.Core.Path.{_≡_, ap, ap₂, sym, _∙_, subst, fun-ext}
 use mathlib.Core.Bool.{Bool, true}
@@ -21,7 +21,7 @@ use Rattle.wires.proofs.Addresses.{Same, positive-at, negative-at, rows-past, s
 use Rattle.netlist.specs.declared.Addresses.{Addresses}
 use Rattle.netlist.specs.Outputs.{outputBits}
 use Rattle.netlist.specs.Netlist.{addresses, circuit}
-use Rattle.netlist.proofs.Interface.{Wires, Inputs, Cells}
+use Rattle.netlist.proofs.Equations.{Wires, Inputs, Cells}
 use Rattle.netlist.proofs.GiantStep.{circuit-steps}
 use Rattle.netlist.proofs.LastWires.{wires-behind, last-wires}
 use Rattle.netlist.proofs.Values.{Holds, holds}

@@ -9,7 +9,7 @@ use Rattle.gates.specs.Gates.{Gate}
 use Rattle.netlist.specs.declared.Addresses.{Addresses}
 use Rattle.netlist.specs.Templates as Templates
 use Rattle.netlist.specs.Arrays.{none, rows}
-use Rattle.netlist.specs.Netlist.{addresses, zeroGate, variables, literals, scan, weights, picks, lowest, ruleSlots, rule, selects, selectLine, selectEnd, levels, levelsT, levelsF, levelsV, assignments, assignT, assignF, depths, nextAssignment, nextDepth, nextLevel, standingSlots, nextStanding, judging, choosing, changing, outputs, circuit, gatesFor}
+use Rattle.netlist.specs.Netlist.{addresses, zeroGate, variables, literals, scan, weights, picks, lowest, ruleSlots, rule, selects, selectLine, levels, levelsT, levelsF, levelsV, assignments, assignT, assignF, nextAssignment, nextDepth, nextLevel, standingSlots, judging, choosing, changing, outputs, circuit, gatesFor}
 use Rattle.netlist.proofs.Sizes.{Count, allGates, ands, andGates, rows-count, cells-count, line-count, array-count}
 
 module _ (a : Addresses) where

@@ -1,4 +1,4 @@
--- Demand 3, every state: the evaluator takes the generated circuit, and on the packed bits of tables and of a well-formed state its last 3n² + 3n + 4 wires
+-- Demand 3, every state: the evaluator takes the circuit, and on the packed bits of tables and of a well-formed state its last 3n² + 3n + 4 wires
 -- are the bits of the state after one giant step, then whether it is closed. From the circuit's definition, with the lengths of what is packed.
 -- Assumes nothing.
 use mathlib.Core.Path.{_≡_, refl, ap, sym, _∙_, subst}
@@ -40,7 +40,7 @@ drop-map f (suc k) (x ∷ l) = drop-map f k l
 inputs-at : (d : Dimensions) → inputWires d ≡ addresses (d .n) (rowCount d) .inputs
 inputs-at d = omega arith
 
-pub gates-ordered : (d : Dimensions) → ordered (inputWires d) (gatesOn d) ≡ true
+gates-ordered : (d : Dimensions) → ordered (inputWires d) (gatesOn d) ≡ true
 unfolding gatesFor
 gates-ordered d = ap (λ (k : ℕ). ordered k (circuit (addresses (d .n) (rowCount d)))) (inputs-at d) ∙ circuit-ordered (d .n) (rowCount d)
 

@@ -30,7 +30,7 @@ use Rattle.wires.specs.Layout.{isRefuted, stateBits}
 use Rattle.wires.specs.Bits.{bitsIn, inOrder}
 use Rattle.wires.proofs.Addresses.{Same, order-cong}
 use Rattle.netlist.specs.Outputs.{outputBits}
-use Rattle.netlist.proofs.Interface.{Wires, Inputs, Cells, OnState}
+use Rattle.netlist.proofs.Equations.{Wires, Inputs, Cells, OnState}
 use Rattle.netlist.proofs.Scan.{Shows, shown}
 use Rattle.netlist.proofs.Moves.{moved-closing, moved-true, moved-false, moved-choice, moved-back}
 use Rattle.netlist.proofs.NextState.{signals, rule-wires, moved-by}
@@ -97,7 +97,7 @@ closed-bits Satisfied = refl
 closed-bits Refuted = refl
 
 module _ (n : ℕ) (rows : List Row) (s : State) (w : Wires) (formed : wellFormedState n s ≡ true) (inputs : Inputs n rows s w) (cells : Cells n (length rows) w) where
-  pub next-same : Same n (w .next) (bitsIn (step n rows s))
+  next-same : Same n (w .next) (bitsIn (step n rows s))
   next-same = stepped n rows w (s .standing) (s .t) (s .f) (s .levels) (record { inputs = inputs; cells = cells; formed = formed-e n s formed })
 
   pub circuit-steps : inOrder n (w .next) ++ (w .closing ∷ []) ≡ outputBits n rows s

@@ -9,13 +9,13 @@ use lib.Dec.{eqb}
 use lib.ListN.{length}
 use borrow.Author.Tests.{ne-eqb, eqb-true}
 use Rattle.words.specs.Booleans.{_⊕_}
-use Rattle.words.proofs.Truth.{on, taut1, same, same-eq}
+use Rattle.words.proofs.Truth.{on}
 use Rattle.state.specs.declared.Level.{Level}
 use Rattle.wires.specs.Layout.{onLevel}
-use Rattle.netlist.proofs.Chains.{xor-false}
+use Rattle.netlist.proofs.Chains.{xor-false, xor-self}
 
 module _ (g : Level → Bool) where
-  pub level-unused : (ls : List Level) (k : ℕ) → length ls ≤ k → onLevel g ls k ≡ false
+  level-unused : (ls : List Level) (k : ℕ) → length ls ≤ k → onLevel g ls k ≡ false
   unfolding onLevel
   level-unused [] k h = refl
   level-unused (l ∷ ls) k h = rw (ne-eqb k (length ls) (λ e. omega arith)) (level-unused ls k (omega arith))
@@ -31,5 +31,5 @@ module _ (g : Level → Bool) where
   unfolding onLevel
   level-removed l ls k =
       on (eqb k (length ls))
-      (λ e. let z : k ≡ length ls = eqb-true k (length ls) e in rw (e, level-unused ls k (omega arith)) (same-eq (taut1 (λ a. same (a ⊕ a) false) refl (g l))))
+      (λ e. let z : k ≡ length ls = eqb-true k (length ls) e in rw (e, level-unused ls k (omega arith)) (xor-self (g l)))
       (λ e. rw e (xor-false (onLevel g ls k)))

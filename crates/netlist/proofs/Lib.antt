@@ -1,5 +1,5 @@
+pub mod CellFunctions
 pub mod Equations
-pub mod Interface
 pub mod Chains
 pub mod Literals
 pub mod RowNumbers

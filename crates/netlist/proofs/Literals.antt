@@ -19,13 +19,14 @@ use Rattle.state.specs.State.{State}
 use Rattle.scan.specs.Rules.{unsatisfiedWith}
 use Rattle.solver.proofs.RuleLaws.{with-unsatisfied, with-count}
 use Rattle.wires.proofs.Addresses.{rowOf}
-use Rattle.netlist.proofs.Equations.{or, freeOf, freeHere, satisfiedHere, unitOf, conflictOf}
-use Rattle.netlist.proofs.Interface.{Wires, OnState}
+use Rattle.netlist.proofs.CellFunctions.{or, freeOf, freeHere, satisfiedHere, unitOf, conflictOf}
+use Rattle.netlist.proofs.Equations.{Wires, OnState}
 use Rattle.netlist.proofs.Chains.{or-chain, xor-chain, parity-single, oddOf, manyOf, count-chain, count-one, count-zero}
 
 -- ---- a cell, where T and F are disjoint
 
-abbrev pub freeBit : Row → ℕ → ℕ → ℕ → Bool
+-- the cell's free literal, on the bits of a row and of T and F
+abbrev freeBit : Row → ℕ → ℕ → ℕ → Bool
 freeBit r t f i = freeHere (bit (r .positive) i) (bit (r .negative) i) (freeOf (bit t i) (bit f i))
 
 module _ (r : Row) (t f i : ℕ) (apart : not (bit t i && bit f i) ≡ true) where
@@ -59,7 +60,7 @@ module _ (n : ℕ) (rows : List Row) (s : State) (w : Wires) (on-state : OnState
     here-wire : (i : ℕ) → i < n → freeHere (w .p j i) (w .q j i) (w .free i) ≡ freeBit r t f i
     here-wire i b = λ k. freeHere (on-state .inputs .p-is j i h b k) (on-state .inputs .q-is j i h b k) (free-wire i b k)
 
-    pub literal-row : (i : ℕ) → i < n → w .literal j i ≡ freeBit r t f i
+    literal-row : (i : ℕ) → i < n → w .literal j i ≡ freeBit r t f i
     literal-row i b = on-state .cells .literal-is j i h b ∙ here-wire i b
 
     -- in an unsatisfied row it is a free literal

@@ -20,7 +20,7 @@ use Rattle.wires.specs.Layout.{onLevel, isRefuted}
 use Rattle.wires.specs.Bits.{Bits, bitsIn}
 use Rattle.wires.proofs.Addresses.{Same}
 use Rattle.wires.proofs.StateBack.{level-last}
-use Rattle.netlist.proofs.Interface.{Signals}
+use Rattle.netlist.proofs.Equations.{Signals}
 use Rattle.netlist.proofs.Chains.{xor-false, parity, parity-none, parity-at}
 use Rattle.netlist.proofs.Levels.{level-added, level-removed}
 

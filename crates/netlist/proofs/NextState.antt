@@ -16,8 +16,8 @@ use Rattle.state.specs.State.{State, isSatisfied}
 use Rattle.wires.specs.Layout.{isRefuted}
 use Rattle.wires.specs.Bits.{Bits, bitsIn}
 use Rattle.wires.proofs.Addresses.{Same, same-trans}
-use Rattle.netlist.proofs.Equations.{openOf, doneOf, refuteOf, popOf, pushOf, setFOf, setTOf}
-use Rattle.netlist.proofs.Interface.{Signals, Wires, OnState}
+use Rattle.netlist.proofs.CellFunctions.{openOf, doneOf, refuteOf, popOf, pushOf, setFOf, setTOf}
+use Rattle.netlist.proofs.Equations.{Signals, Wires, OnState}
 use Rattle.netlist.proofs.Chains.{parity, xor-chain}
 use Rattle.netlist.proofs.Moves.{popAt, pushAt, moved}
 

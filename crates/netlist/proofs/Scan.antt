@@ -22,8 +22,8 @@ use Rattle.state.specs.State.{State}
 use Rattle.scan.specs.Rules.{allRows, anyRow, unsatisfiedWith, choice, rule}
 use Rattle.solver.proofs.RuleLaws.{with-unsatisfied}
 use Rattle.wires.proofs.Addresses.{rowOf}
-use Rattle.netlist.proofs.Equations.{or, unitOf, firstOf, countsOf}
-use Rattle.netlist.proofs.Interface.{Wires, OnState}
+use Rattle.netlist.proofs.CellFunctions.{or, unitOf, firstOf, countsOf}
+use Rattle.netlist.proofs.Equations.{Wires, OnState}
 use Rattle.netlist.proofs.Chains.{or-chain, xor-chain, parity-at}
 use Rattle.netlist.proofs.Literals.{literal-unsatisfied, satisfied-row, unit-row, conflict-row, sign-row}
 use Rattle.netlist.proofs.RowNumbers.{any-numbered, all-numbered, no-unit, first-unit}

@@ -77,59 +77,55 @@ module _ (W : ℕ → Bool) where
           (subst (λ (k : ℕ). Holds W (b + k) (f n)) (rows-length f size e n) (holds-right b (rows f n) (f n) h))
       go ih (no p) = ih (lt-of-not-le p)
 
-  -- the slots' values
-  abbrev pub seen : List ℕ → List Bool
-  seen slots = map W slots
-
   module _ (slots : List ℕ) (e8 : length slots ≡ 8) (b : ℕ) where
-    seen-length : length (seen slots) ≡ 8
-    seen-length = length-map slots W ∙ e8
+    values-length : length (map W slots) ≡ 8
+    values-length = length-map slots W ∙ e8
 
     -- r: the values of the cell's gates so far
     module _ (r : List Bool) (inv : (k : ℕ) → k < length r → wire r k ≡ W (b + k)) where
-      look : (x : ℕ) → x < 8 + length r → W (operand slots b x) ≡ wire (seen slots ++ r) x
-      look x h = go (decLe 8 x)
+      operand-value : (x : ℕ) → x < 8 + length r → W (operand slots b x) ≡ wire (map W slots ++ r) x
+      operand-value x h = go (decLe 8 x)
         where
-          go : Dec (8 ≤ x) → W (operand slots b x) ≡ wire (seen slots ++ r) x
+          go : Dec (8 ≤ x) → W (operand slots b x) ≡ wire (map W slots ++ r) x
           go (yes p) =
-              let q : x ≡ length (seen slots) + (x - 8) = omega (arith, seen-length) in
+              let q : x ≡ length (map W slots) + (x - 8) = omega (arith, values-length) in
               rw (le-ltb x 8 p)
               (sym (inv (x - 8) (omega arith))
-              ∙ sym (ap (λ (k : ℕ). wire (seen slots ++ r) k) q ∙ getD-append-add (seen slots) r (x - 8) false))
+              ∙ sym (ap (λ (k : ℕ). wire (map W slots ++ r) k) q ∙ getD-append-add (map W slots) r (x - 8) false))
           go (no n) =
               let l : x < 8 = lt-of-not-le n in
               let k : x < length slots = omega arith in
               rw (lt-ltb x 8 l)
-              (sym (List·getD-append (seen slots) r false x (omega (arith, seen-length)) ∙ map-at W slots x k))
+              (sym (List·getD-append (map W slots) r false x (omega (arith, values-length)) ∙ map-at W slots x k))
 
-      look-gate : (g : Gate) → reads (8 + length r) g ≡ true → gives W (placed slots b g) ≡ value (seen slots ++ r) g
-      look-gate (XOR x y) o =
-          ap₂ (λ (p q : Bool). p ⊕ q) (look x (ltb-true x _ (and-l _ _ o))) (look y (ltb-true y _ (and-r (ltb x (8 + length r)) _ o)))
-      look-gate (AND x y) o =
-          ap₂ (λ (p q : Bool). p && q) (look x (ltb-true x _ (and-l _ _ o))) (look y (ltb-true y _ (and-r (ltb x (8 + length r)) _ o)))
-      look-gate (INV x) o = ap not (look x (ltb-true x _ o))
+      gate-value : (g : Gate) → reads (8 + length r) g ≡ true → gives W (placed slots b g) ≡ value (map W slots ++ r) g
+      gate-value (XOR x y) o =
+          ap₂ (λ (p q : Bool). p ⊕ q) (operand-value x (ltb-true x _ (and-l _ _ o))) (operand-value y (ltb-true y _ (and-r (ltb x (8 + length r)) _ o)))
+      gate-value (AND x y) o =
+          ap₂ (λ (p q : Bool). p && q) (operand-value x (ltb-true x _ (and-l _ _ o))) (operand-value y (ltb-true y _ (and-r (ltb x (8 + length r)) _ o)))
+      gate-value (INV x) o = ap not (operand-value x (ltb-true x _ o))
 
-    go-cell : (t : List Gate) (r : List Bool) → ((k : ℕ) → k < length r → wire r k ≡ W (b + k)) → ordered (8 + length r) t ≡ true
-        → Holds W (b + length r) (cell slots b t) → (k : ℕ) → k < length r + length t → W (b + k) ≡ wire (wiresOf (seen slots ++ r) t) (8 + k)
+    cell-wire-from : (t : List Gate) (r : List Bool) → ((k : ℕ) → k < length r → wire r k ≡ W (b + k)) → ordered (8 + length r) t ≡ true
+        → Holds W (b + length r) (cell slots b t) → (k : ℕ) → k < length r + length t → W (b + k) ≡ wire (wiresOf (map W slots ++ r) t) (8 + k)
     unfolding wiresOf ordered
-    go-cell [] r inv o h k l =
-        let q : 8 + k ≡ length (seen slots) + k = omega (arith, seen-length) in
-        sym (ap (λ (j : ℕ). wire (seen slots ++ r) j) q ∙ getD-append-add (seen slots) r k false ∙ inv k (omega arith))
-    go-cell (g ∷ t) r inv o h k l =
-        let v : Bool = value (seen slots ++ r) g in
+    cell-wire-from [] r inv o h k l =
+        let q : 8 + k ≡ length (map W slots) + k = omega (arith, values-length) in
+        sym (ap (λ (j : ℕ). wire (map W slots ++ r) j) q ∙ getD-append-add (map W slots) r k false ∙ inv k (omega arith))
+    cell-wire-from (g ∷ t) r inv o h k l =
+        let v : Bool = value (map W slots ++ r) g in
         let r′ : List Bool = r ++ (v ∷ []) in
         let e : length r′ ≡ suc (length r) = length-append r (v ∷ []) ∙ omega arith in
-        let e₁ : W (b + length r) ≡ v = h .0 ∙ look-gate r inv g (and-l _ _ o) in
+        let e₁ : W (b + length r) ≡ v = h .0 ∙ gate-value r inv g (and-l _ _ o) in
         let e₂ : suc (8 + length r) ≡ 8 + length r′ = omega arith in
         let e₃ : suc (b + length r) ≡ b + length r′ = omega arith in
-        let inv′ : (k : ℕ) → k < length r′ → wire r′ k ≡ W (b + k) = λ j lj. keep r v e₁ inv j (omega arith) in
-        go-cell t r′ inv′ (ap (λ (j : ℕ). ordered j t) (sym e₂) ∙ and-r (reads (8 + length r) g) _ o)
+        let inv′ : (k : ℕ) → k < length r′ → wire r′ k ≡ W (b + k) = λ j lj. kept r v e₁ inv j (omega arith) in
+        cell-wire-from t r′ inv′ (ap (λ (j : ℕ). ordered j t) (sym e₂) ∙ and-r (reads (8 + length r) g) _ o)
         (subst (λ (j : ℕ). Holds W j (cell slots b t)) e₃ (h .1)) k (omega arith)
-        ∙ ap (λ (u : List Bool). wire (wiresOf u t) (8 + k)) (sym (append-assoc (seen slots) r (v ∷ [])))
+        ∙ ap (λ (u : List Bool). wire (wiresOf u t) (8 + k)) (sym (append-assoc (map W slots) r (v ∷ [])))
       where
-        keep : (r : List Bool) (v : Bool) → W (b + length r) ≡ v → ((k : ℕ) → k < length r → wire r k ≡ W (b + k))
+        kept : (r : List Bool) (v : Bool) → W (b + length r) ≡ v → ((k : ℕ) → k < length r → wire r k ≡ W (b + k))
             → (j : ℕ) → j < suc (length r) → wire (r ++ (v ∷ [])) j ≡ W (b + j)
-        keep r v e inv j l = go (decLe (length r) j)
+        kept r v e inv j l = go (decLe (length r) j)
           where
             go : Dec (length r ≤ j) → wire (r ++ (v ∷ [])) j ≡ W (b + j)
             go (yes p) =
@@ -139,7 +135,7 @@ module _ (W : ℕ → Bool) where
 
     -- the wire of a placed cell's gate k
     pub cell-wire : (t : List Gate) → ordered 8 t ≡ true → Holds W b (cell slots b t) → (k : ℕ) → k < length t
-        → W (b + k) ≡ wire (wiresOf (seen slots) t) (8 + k)
+        → W (b + k) ≡ wire (wiresOf (map W slots) t) (8 + k)
     cell-wire t o h k l =
-        go-cell t [] (λ j lj. absurd (not-suc-le-zero lj)) o (subst (λ (j : ℕ). Holds W j (cell slots b t)) (sym (add-zero b)) h) k (omega arith)
-        ∙ ap (λ (u : List Bool). wire (wiresOf u t) (8 + k)) (append-nil (seen slots))
+        cell-wire-from t [] (λ j lj. absurd (not-suc-le-zero lj)) o (subst (λ (j : ℕ). Holds W j (cell slots b t)) (sym (add-zero b)) h) k (omega arith)
+        ∙ ap (λ (u : List Bool). wire (wiresOf u t) (8 + k)) (append-nil (map W slots))

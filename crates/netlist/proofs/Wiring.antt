@@ -1,10 +1,10 @@
--- The circuit's wires meet the equations of the interface: for each section one law says what a gate of its cells gives on the wires that the cell takes,
+-- The circuit's wires meet its equations: for each section one law says what a gate of its cells gives on the wires that the cell takes,
 -- and each equation is that law at one gate, the template computed.
 -- Assumes nothing.
 use mathlib.Core.Path.{_≡_, refl, ap, ap₂, sym, _∙_}
 use mathlib.Core.Bool.{Bool, false, _&&_}
 use mathlib.Core.List.{List, [], _∷_, map}
-use Prim.Native.Nat.{ℕ, suc, _+_, _*_, _≤_, _<_}
+use Prim.Native.Nat.{ℕ, suc, _+_, _*_, _<_}
 use native.Mathlib.Omega.{arith}
 use Rattle.words.specs.Booleans.{_⊕_}
 use Rattle.words.proofs.Truth.{taut4, same, same-eq}
@@ -15,9 +15,9 @@ use Rattle.netlist.specs.declared.Addresses.{Addresses}
 use Rattle.netlist.specs.Templates as Templates
 use Rattle.netlist.specs.Arrays.{none}
 use Rattle.netlist.specs.Netlist.{two, ruleSlots, standingSlots}
-use Rattle.netlist.proofs.Interface.{Wires, Cells}
-use Rattle.netlist.proofs.Chains.{xor-false}
-use Rattle.netlist.proofs.Arrays.{xor-self, cell-at, cells-at, line-at, array-at, zeros-at, line-zero, array-zero}
+use Rattle.netlist.proofs.Equations.{Wires, Cells}
+use Rattle.netlist.proofs.Chains.{xor-false, xor-self}
+use Rattle.netlist.proofs.Arrays.{cell-at, cells-at, line-at, array-at, zeros-at, line-zero, array-zero}
 use Rattle.netlist.proofs.SectionGates.{Sections}
 
 module _ (W : ℕ → Bool) (a : Addresses) where
