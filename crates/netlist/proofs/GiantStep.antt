@@ -32,7 +32,7 @@ use Rattle.wires.proofs.Addresses.{Same, order-cong}
 use Rattle.netlist.specs.Outputs.{outputBits}
 use Rattle.netlist.proofs.Equations.{Wires, Inputs, Cells, OnState}
 use Rattle.netlist.proofs.Scan.{Shows, shown}
-use Rattle.netlist.proofs.Moves.{moved-closing, moved-true, moved-false, moved-choice, moved-back}
+use Rattle.netlist.proofs.Moves.{state, moved-closing, moved-true, moved-false, moved-choice, moved-back}
 use Rattle.netlist.proofs.NextState.{signals, rule-wires, moved-by}
 
 free-t : (t f v : ℕ) → free t f v ≡ true → bit t v ≡ false
@@ -44,9 +44,6 @@ free-f t f v h = not-true (bit f v) (and-r (not (bit t v)) _ h)
 module _ (n : ℕ) (rows : List Row) (w : Wires) where
   abbrev m : ℕ
   m = length rows
-
-  abbrev state : Standing → ℕ → ℕ → List Level → State
-  state st t f ls = record { standing = st; t = t; f = f; levels = ls }
 
   -- ---- an open state
 

@@ -24,6 +24,10 @@ use Rattle.netlist.proofs.Equations.{Signals}
 use Rattle.netlist.proofs.Chains.{xor-false, parity, parity-none, parity-at}
 use Rattle.netlist.proofs.Levels.{level-added, level-removed}
 
+-- a state by its parts
+abbrev pub state : Standing → ℕ → ℕ → List Level → State
+state standing t f ls = record { standing = standing; t = t; f = f; levels = ls }
+
 module _ (n : ℕ) (g : Signals) (variable : ℕ → Bool) (s : State) where
   abbrev now : Bits
   now = bitsIn s
@@ -51,9 +55,6 @@ module _ (n : ℕ) (g : Signals) (variable : ℕ → Bool) (s : State) where
 kept : (a c : Bool) (n : ℕ) → a ⊕ (parity (λ l. false) n ⊕ c) ≡ a ⊕ c
 kept a c n = ap (λ (x : Bool). a ⊕ (x ⊕ c)) (parity-none (λ l. false) n (λ l b. refl))
 
-kept-all : (a : Bool) (n : ℕ) → a ⊕ (parity (λ l. false) n ⊕ false) ≡ a
-kept-all a n = kept a false n ∙ xor-false a
-
 -- a variable that a word has not is put in by XOR
 put-xor : (w v i : ℕ) → bit w v ≡ false → bit w i ⊕ eqb i v ≡ bit (put w v) i
 put-xor w v i h =
@@ -64,13 +65,14 @@ put-xor w v i h =
 -- ---- no level added or removed
 
 module _ (n t f : ℕ) (ls : List Level) (variable : ℕ → Bool) where
-  -- nothing changes but the closing bits
-  pub moved-closing : (from to : Standing) (d r : Bool) → isSatisfied from ⊕ d ≡ isSatisfied to → isRefuted from ⊕ r ≡ isRefuted to
-      → Same n (moved n (record { done = d; refute = r; pop = false; push = false; setF = false; setT = false }) variable (record { standing = from; t = t; f = f; levels = ls }))
-      (bitsIn (record { standing = to; t = t; f = f; levels = ls }))
-  moved-closing from to d r hs hr = record {
-    same-T = λ i b. kept-all (bit t i) n;
-    same-F = λ i b. kept-all (bit f i) n;
+  -- T and F become t′ and f′, and the standing `to`
+  level-kept : (from to : Standing) (d r sf st : Bool) (t′ f′ : ℕ)
+      → ((i : ℕ) → i < n → bit t i ⊕ (st && variable i) ≡ bit t′ i) → ((i : ℕ) → i < n → bit f i ⊕ (sf && variable i) ≡ bit f′ i)
+      → isSatisfied from ⊕ d ≡ isSatisfied to → isRefuted from ⊕ r ≡ isRefuted to
+      → Same n (moved n (record { done = d; refute = r; pop = false; push = false; setF = sf; setT = st }) variable (state from t f ls)) (bitsIn (state to t′ f′ ls))
+  level-kept from to d r sf st t′ f′ ht hf hs hr = record {
+    same-T = λ i b. kept (bit t i) (st && variable i) n ∙ ht i b;
+    same-F = λ i b. kept (bit f i) (sf && variable i) n ∙ hf i b;
     same-depth = λ k b. xor-false _;
     same-levelT = λ l i b c. xor-false _;
     same-levelF = λ l i b c. xor-false _;
@@ -79,51 +81,41 @@ module _ (n t f : ℕ) (ls : List Level) (variable : ℕ → Bool) where
     same-refuted = hr;
   }
 
+  -- nothing changes but the closing bits
+  pub moved-closing : (from to : Standing) (d r : Bool) → isSatisfied from ⊕ d ≡ isSatisfied to → isRefuted from ⊕ r ≡ isRefuted to
+      → Same n (moved n (record { done = d; refute = r; pop = false; push = false; setF = false; setT = false }) variable (state from t f ls)) (bitsIn (state to t f ls))
+  moved-closing from to d r = level-kept from to d r false false t f (λ i b. xor-false (bit t i)) (λ i b. xor-false (bit f i))
+
   module _ (v : ℕ) (picks : (i : ℕ) → i < n → variable i ≡ eqb i v) where
-    put-in : (x i : ℕ) → i < n → bit x v ≡ false → bit x i ⊕ (parity (λ l. false) n ⊕ variable i) ≡ bit (put x v) i
-    put-in x i b h = kept (bit x i) (variable i) n ∙ ap (λ (y : Bool). bit x i ⊕ y) (picks i b) ∙ put-xor x v i h
+    put-in : (x i : ℕ) → i < n → bit x v ≡ false → bit x i ⊕ variable i ≡ bit (put x v) i
+    put-in x i b h = ap (λ (y : Bool). bit x i ⊕ y) (picks i b) ∙ put-xor x v i h
 
     pub moved-true : bit t v ≡ false
-        → Same n (moved n (record { done = false; refute = false; pop = false; push = false; setF = false; setT = true }) variable (record { standing = Open; t = t; f = f; levels = ls }))
-        (bitsIn (record { standing = Open; t = put t v; f = f; levels = ls }))
-    moved-true h = record {
-      same-T = λ i b. put-in t i b h;
-      same-F = λ i b. kept-all (bit f i) n;
-      same-depth = λ k b. xor-false _;
-      same-levelT = λ l i b c. xor-false _;
-      same-levelF = λ l i b c. xor-false _;
-      same-chosen = λ l i b c. xor-false _;
-      same-satisfied = refl;
-      same-refuted = refl;
-    }
+        → Same n (moved n (record { done = false; refute = false; pop = false; push = false; setF = false; setT = true }) variable (state Open t f ls))
+        (bitsIn (state Open (put t v) f ls))
+    moved-true h = level-kept Open Open false false false true (put t v) f (λ i b. put-in t i b h) (λ i b. xor-false (bit f i)) refl refl
 
     pub moved-false : bit f v ≡ false
-        → Same n (moved n (record { done = false; refute = false; pop = false; push = false; setF = true; setT = false }) variable (record { standing = Open; t = t; f = f; levels = ls }))
-        (bitsIn (record { standing = Open; t = t; f = put f v; levels = ls }))
-    moved-false h = record {
-      same-T = λ i b. kept-all (bit t i) n;
-      same-F = λ i b. put-in f i b h;
-      same-depth = λ k b. xor-false _;
-      same-levelT = λ l i b c. xor-false _;
-      same-levelF = λ l i b c. xor-false _;
-      same-chosen = λ l i b c. xor-false _;
-      same-satisfied = refl;
-      same-refuted = refl;
-    }
+        → Same n (moved n (record { done = false; refute = false; pop = false; push = false; setF = true; setT = false }) variable (state Open t f ls))
+        (bitsIn (state Open t (put f v) ls))
+    moved-false h = level-kept Open Open false false true false t (put f v) (λ i b. xor-false (bit t i)) (λ i b. put-in f i b h) refl refl
 
     -- ---- a level added
 
+    abbrev added : Level
+    added = record { t = t; f = f; chosen = v }
+
     pub moved-choice : bit t v ≡ false
-        → Same n (moved n (record { done = false; refute = false; pop = false; push = true; setF = false; setT = true }) variable (record { standing = Open; t = t; f = f; levels = ls }))
-        (bitsIn (record { standing = Open; t = put t v; f = f; levels = record { t = t; f = f; chosen = v } ∷ ls }))
+        → Same n (moved n (record { done = false; refute = false; pop = false; push = true; setF = false; setT = true }) variable (state Open t f ls))
+        (bitsIn (state Open (put t v) f (added ∷ ls)))
     moved-choice h = record {
-      same-T = λ i b. put-in t i b h;
-      same-F = λ i b. kept-all (bit f i) n;
+      same-T = λ i b. kept (bit t i) (variable i) n ∙ put-in t i b h;
+      same-F = λ i b. kept (bit f i) false n ∙ xor-false (bit f i);
       same-depth = λ k b. simp eqb·suc-suc (same-eq (taut2 (λ a b. same (a ⊕ ((b ⊕ false) ⊕ a)) b) refl (eqb k (length ls)) (eqb k (suc (length ls)))));
-      same-levelT = λ l i b c. simp eqb·suc-suc (level-added (λ x. bit (x .t) i) (record { t = t; f = f; chosen = v }) ls l);
-      same-levelF = λ l i b c. simp eqb·suc-suc (level-added (λ x. bit (x .f) i) (record { t = t; f = f; chosen = v }) ls l);
+      same-levelT = λ l i b c. simp eqb·suc-suc (level-added (λ x. bit (x .t) i) added ls l);
+      same-levelF = λ l i b c. simp eqb·suc-suc (level-added (λ x. bit (x .f) i) added ls l);
       same-chosen = λ l i b c. simp eqb·suc-suc (ap (λ (y : Bool). onLevel (λ x. eqb i (x .chosen)) ls l ⊕ (eqb l (length ls) && y)) (picks i c)
-          ∙ level-added (λ x. eqb i (x .chosen)) (record { t = t; f = f; chosen = v }) ls l);
+          ∙ level-added (λ x. eqb i (x .chosen)) added ls l);
       same-satisfied = refl;
       same-refuted = refl;
     }
@@ -148,8 +140,8 @@ module _ (n t f : ℕ) (l : Level) (ls : List Level) (variable : ℕ → Bool) (
   removed g k = ap (λ (x : Bool). onLevel g (l ∷ ls) k ⊕ x) (xor-false (eqb k d && onLevel g (l ∷ ls) k)) ∙ level-removed g l ls k
 
   pub moved-back : bit (l .f) (l .chosen) ≡ false
-      → Same n (moved n (record { done = false; refute = false; pop = true; push = false; setF = false; setT = false }) variable (record { standing = Open; t = t; f = f; levels = l ∷ ls }))
-      (bitsIn (record { standing = Open; t = l .t; f = put (l .f) (l .chosen); levels = ls }))
+      → Same n (moved n (record { done = false; refute = false; pop = true; push = false; setF = false; setT = false }) variable (state Open t f (l ∷ ls)))
+      (bitsIn (state Open (l .t) (put (l .f) (l .chosen)) ls))
   moved-back h = record {
     same-T = λ i b. simp eqb·suc-suc (ap (λ (x : Bool). bit t i ⊕ ((bit t i ⊕ x) ⊕ false)) (restored (λ x. bit (x .t) i)) ∙ taken (bit t i) (bit (l .t) i));
     same-F = λ i b. simp eqb·suc-suc (ap (λ (x : Bool). bit f i ⊕ ((bit f i ⊕ x) ⊕ false)) (restored-two (λ x. bit (x .f) i) (λ x. eqb i (x .chosen)))
