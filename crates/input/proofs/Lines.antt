@@ -3,7 +3,7 @@
 use Prim.Native.Nat.{ℕ, _+_, _<_}
 use mathlib.Core.Path.{_≡_, refl, sym, _∙_, ap}
 use mathlib.Core.Bool.{Bool, true, false, cond}
-use mathlib.Core.List.{List, [], _∷_, _++_, append-assoc}
+use mathlib.Core.List.{List, [], _∷_, _++_, append-assoc, append-nil}
 use lib.Dec.{eqb}
 use lib.ListN.{length, take, drop, set}
 use lib.Seq.{take-suc-set, drop-set-lt, drop-drop}
@@ -15,17 +15,13 @@ use Rattle.input.specs.Line.{lineOf}
 abbrev pub Unended : List ℕ → Type 0
 Unended xs = (ys : List ℕ) → lineOf (xs ++ ys) ≡ xs ++ lineOf ys
 
-nothing-after : (xs : List ℕ) → xs ++ [] ≡ xs
-nothing-after [] = refl
-nothing-after (x ∷ xs) = ap (λ (l : List ℕ). x ∷ l) (nothing-after xs)
-
 pub unended-none : Unended []
 unfolding lineOf
 unended-none ys = refl
 
 pub line-so-far : (xs : List ℕ) → Unended xs → lineOf xs ≡ xs
 unfolding lineOf
-line-so-far xs u = ap lineOf (sym (nothing-after xs)) ∙ u [] ∙ nothing-after xs
+line-so-far xs u = ap lineOf (sym (append-nil xs)) ∙ u [] ∙ append-nil xs
 
 one-more : (xs : List ℕ) (b : ℕ) → eqb b 10 ≡ false → Unended xs → Unended (xs ++ b ∷ [])
 unfolding lineOf

@@ -24,13 +24,10 @@ use Rattle.solver.specs.declared.Solved.the-variants as solved′
 use Rattle.solver.specs.Entries.{answerOf, solved}
 use Rattle.solver.specs.Demand2.{Demand2}
 use Rattle.solver.proofs.Demand2.{demand2}
-use Rattle.text.specs.declared.Text.{Text}
-use Rattle.text.specs.Texts.{textOf}
-use Rattle.text.proofs.Appending.{text-within}
 use Rattle.lines.specs.Numbers.{budgetOf}
 use Rattle.answers.specs.Printed.{solvedText}
 use Rattle.lines.specs.declared.Budget.the-variants as budget
-use Rattle.reply.specs.Reply.{dimensionsOf, answered, replied, replyText}
+use Rattle.reply.specs.Reply.{dimensionsOf, answered, replied}
 
 -- two texts as they are read
 abbrev pub readOf : List ℕ → List ℕ → Pair
@@ -53,11 +50,11 @@ n-high left right = go (pairOutcome a b) refl
 
 -- ---- refusals 1 to 4
 
-below : (n k : ℕ) (words : List ℕ) → ((i : ℕ) → getD words i 0 < 2 ^ n) → allBelow n (take k words) ≡ true
+all-below : (n k : ℕ) (words : List ℕ) → ((i : ℕ) → getD words i 0 < 2 ^ n) → allBelow n (take k words) ≡ true
 unfolding allBelow
-below n zero words h = refl
-below n (suc k) [] h = refl
-below n (suc k) (w ∷ ws) h = and-i (lt-ltb w (2 ^ n) (h zero)) (below n k ws (λ i. h (suc i)))
+all-below n zero words h = refl
+all-below n (suc k) [] h = refl
+all-below n (suc k) (w ∷ ws) h = and-i (lt-ltb w (2 ^ n) (h zero)) (all-below n k ws (λ i. h (suc i)))
 
 pub tables-taken : (p : Pair) → Within (p .n) (p .«left_rows») (p .left) × Within (p .n) (p .«right_rows») (p .right)
     → outcome (tableChecks (dimensionsOf p) (p .left) (p .right)) ≡ Taken
@@ -73,8 +70,8 @@ tables-taken p w =
       le-ltb 128 (p .«right_rows») (r .rows-high),
       le-ltb (length (p .left)) (2 * p .«left_rows») (omega (arith, l .sized, l .rows-high)),
       le-ltb (length (p .right)) (2 * p .«right_rows») (omega (arith, r .sized, r .rows-high)),
-      below (p .n) (2 * p .«left_rows») (p .left) (l .no-high-bit),
-      below (p .n) (2 * p .«right_rows») (p .right) (r .no-high-bit),
+      all-below (p .n) (2 * p .«left_rows») (p .left) (l .no-high-bit),
+      all-below (p .n) (2 * p .«right_rows») (p .right) (r .no-high-bit),
     )
 
 -- where both texts and the line are taken, the reply is the answer of the budgeted run over their rows
@@ -103,7 +100,3 @@ printed left right p s e =
     let low : p .n ≤ 32 = subst (λ (x : Pair). x .n ≤ 32) (sym e) (n-high left right) in
     let same : min (p .n) 32 ≡ p .n = omega arith in
     ap (λ (k : ℕ). solvedText k s) same
-
--- what is to be written is within the bytes
-pub reply-room : (left right line : List ℕ) (t : Text) → t ≡ textOf (replyText left right line) → t .length ≤ length (t .bytes)
-reply-room left right line t e = text-within t (replyText left right line) e

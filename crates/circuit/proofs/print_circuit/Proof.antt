@@ -1,10 +1,9 @@
 -- `print_circuit` is safe and ends: the generated gates are within the words.
 -- Assumes nothing.
 use mathlib.Core.Path.{sym, _∙_}
-use Prim.Native.Nat.{ℕ}
 use native.Mathlib.Omega.{arith}
-use lib.ListN.{replicate, length-replicate, length-take}
-use Rattle.circuit.proofs.Room.{generated-within, generated-words}
+use lib.ListN.{replicate, length-take}
+use Rattle.circuit.proofs.Room.{generated-within}
 use borrow.Author.Needs.{needs}
 use Rattle.circuit.proofs.print_circuit.Statement.{statement}
 use Rattle.circuit.proofs.print_circuit.Tie as tie
@@ -20,17 +19,18 @@ enum-known-count c = search needs
 
 mul-words : tie.Need-mul-words
 mul-words c =
-    omega (arith, length-replicate {A = ℕ} 16383 0, generated-within (c .before .before .before .before .before .before .args .d) (replicate 16383 0) _ (sym (c .before .before .before .before .generate .ensures .0) ∙ c .before .count .given .1))
+    let generate = c .before .before .before .before .generate in
+    omega (arith, generated-within (c .before .before .before .before .before .before .args .d) (replicate 16383 0) _ _ (sym (generate .ensures .0) ∙ c .before .count .given .1) (generate .ensures .1 .0))
 
 array-share-prefix-words : tie.Need-array-share-prefix-words
 array-share-prefix-words c =
     let generate = c .before .before .before .before .generate in
-    generated-words (c .before .before .before .before .before .before .args .d) (replicate 16383 0) _ _ (sym (generate .ensures .0) ∙ c .before .count .given .1) (generate .ensures .1 .0)
+    generated-within (c .before .before .before .before .before .before .args .d) (replicate 16383 0) _ _ (sym (generate .ensures .0) ∙ c .before .count .given .1) (generate .ensures .1 .0)
 
 slice-aggregate-print-text : tie.Need-slice-aggregate-print-text
 slice-aggregate-print-text c =
     let generate = c .before .before .before .before .before .generate in
-    simp length-take (omega (arith, generated-words (c .before .before .before .before .before .before .before .args .d) (replicate 16383 0) _ _ (sym (generate .ensures .0) ∙ c .before .before .count .given .1) (generate .ensures .1 .0)))
+    simp length-take (omega (arith, generated-within (c .before .before .before .before .before .before .before .args .d) (replicate 16383 0) _ _ (sym (generate .ensures .0) ∙ c .before .before .count .given .1) (generate .ensures .1 .0)))
 
 print-text-requires : tie.Need-print-text-requires
 print-text-requires c κs = search needs

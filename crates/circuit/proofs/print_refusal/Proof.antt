@@ -2,7 +2,8 @@
 -- Assumes nothing.
 use native.Mathlib.Omega.{arith}
 use lib.ListN.{length-take}
-use Rattle.circuit.proofs.Room.{refused-within}
+use Rattle.text.proofs.Appending.{text-within}
+use Rattle.answers.specs.Answers.{refusedLine}
 use borrow.Author.Needs.{needs}
 use Rattle.circuit.proofs.print_refusal.Statement.{statement}
 use Rattle.circuit.proofs.print_refusal.Tie as tie
@@ -11,10 +12,10 @@ refused-line-requires : tie.Need-refused-line-requires
 refused-line-requires c κs = search needs
 
 array-share-prefix-bytes : tie.Need-array-share-prefix-bytes
-array-share-prefix-bytes c = refused-within (c .before .before .args .refusal) _ (c .before .refused-line .ensures)
+array-share-prefix-bytes c = text-within _ (refusedLine (c .before .before .args .refusal)) (c .before .refused-line .ensures)
 
 slice-aggregate-write-all : tie.Need-slice-aggregate-write-all
-slice-aggregate-write-all c = simp length-take (omega (arith, refused-within (c .before .before .before .args .refusal) _ (c .before .before .refused-line .ensures)))
+slice-aggregate-write-all c = simp length-take (omega (arith, text-within _ (refusedLine (c .before .before .before .args .refusal)) (c .before .before .refused-line .ensures)))
 
 write-all-requires : tie.Need-write-all-requires
 write-all-requires c κs = search needs
