@@ -19,6 +19,7 @@ extern "C" {
     ) -> u8;
 }
 
+/// The library's evaluator.
 fn proved(gates: &[u32], inputs: &[u8], wires: &mut [u8]) -> u8 {
     // Each slice passes as its pointer and its length; the function reads and writes nothing else.
     unsafe {
@@ -101,6 +102,7 @@ fn gates_alone(gates: &[u32], inputs: &[u8], wires: &mut [u8]) {
 struct Numbers(u64);
 
 impl Numbers {
+    /// A random number below a limit (SplitMix64).
     fn below(&mut self, limit: u64) -> u64 {
         self.0 = self.0.wrapping_add(0x9e37_79b9_7f4a_7c15);
         let mut z = self.0;
@@ -123,12 +125,14 @@ fn circuit(kinds: &[u32], at_random: bool, near: u64, numbers: &mut Numbers) -> 
     words
 }
 
+/// How long a run takes.
 fn timed(mut run: impl FnMut()) -> Duration {
     let start = Instant::now();
     run();
     start.elapsed()
 }
 
+/// The median, in microseconds.
 fn median(mut times: Vec<Duration>) -> f64 {
     times.sort();
     times[times.len() / 2].as_secs_f64() * 1e6

@@ -33,6 +33,7 @@ fn hard(n: usize, m: usize, seed: u64) -> [Vec<u32>; 2] {
     [&rows[..m / 2], &rows[m / 2..]].map(memory::row_words)
 }
 
+/// The library's budgeted run, its budget the greatest.
 fn solve(n: usize, [left, right]: &[Vec<u32>; 2]) -> [u64; 3] {
     let mut answer = [0; 3];
     let (rows, other) = (left.len() as u64 / 2, right.len() as u64 / 2);
@@ -84,6 +85,7 @@ fn repeated(random: &mut Random) -> Vec<u8> {
     layout::plain(32, &rows)
 }
 
+/// A random literal.
 fn literal(random: &mut Random) -> i64 {
     random.between(1, 32) as i64 * if random.once_in(2) { -1 } else { 1 }
 }
@@ -106,6 +108,7 @@ fn remarked(random: &mut Random) -> Vec<u8> {
     [b"c ".to_vec(), vec![b'x'; 63_000], b"\n".to_vec(), layout::plain(32, &rows)].concat()
 }
 
+/// The library's reader of two texts.
 fn read_pair(left: &[u8], right: &[u8], words: &mut [Vec<u32>; 2], sizes: &mut [u64; 3]) -> u8 {
     let [l, r] = words;
     // The texts, words and sizes are lent for the call.
@@ -125,6 +128,7 @@ fn read_pair(left: &[u8], right: &[u8], words: &mut [Vec<u32>; 2], sizes: &mut [
     }
 }
 
+/// Times both readers on random texts of a kind.
 fn reader(what: &str, make: fn(&mut Random) -> Vec<u8>) {
     let random = &mut Random::new(SEED);
     let texts: Vec<[Vec<u8>; 2]> = (0..20).map(|_| [make(random), make(random)]).collect();
@@ -152,6 +156,7 @@ fn reader(what: &str, make: fn(&mut Random) -> Vec<u8>) {
 
 // ---- Circuits
 
+/// Times the generator for a size and counts its gates.
 fn circuit(n: usize, m: usize) {
     let mut gates = vec![0u32; 3 * model::ceiling(n, m)];
     let mut count = [0];

@@ -33,6 +33,7 @@ fn timed(contenders: &[Contender]) -> std::io::Result<Vec<[Vec<f64>; 2]>> {
     Ok(times)
 }
 
+/// The median.
 fn median(mut values: Vec<f64>) -> f64 {
     values.sort_by(f64::total_cmp);
     (values[(RUNS - 1) / 2] + values[RUNS / 2]) / 2.0
@@ -50,6 +51,7 @@ fn line(name: &str, contenders: &[Contender]) -> std::io::Result<[f64; 2]> {
     Ok(ratios)
 }
 
+/// The heading of a table.
 fn heading(first: &str, contenders: &[Contender]) {
     let labels: String = contenders.iter().map(|contender| format!("{:>10}", contender.label)).collect();
     println!("{first:<28}{labels}   ratio  processor  to the fastest other (median of {RUNS} runs, microseconds)");

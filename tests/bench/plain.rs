@@ -1,12 +1,37 @@
 //! What the library is timed beside: the same work in plain Rust, written for speed and not proved.
 
+/// T, F and the chosen variable, as they stood before a choice.
+type Level = (u32, u32, u32);
+
+/// T and F after a level is taken back: its variable becomes false.
+#[inline(always)]
+fn restored(level: Level) -> (u32, u32) {
+    (level.0, level.1 | 1 << level.2)
+}
+
+/// T and F after a unit row's literal is made true.
+#[inline(always)]
+fn forced(t: u32, f: u32, unit: u32, positive: u32) -> (u32, u32) {
+    if positive & unit != 0 {
+        (t | unit, f)
+    } else {
+        (t, f | unit)
+    }
+}
+
+/// The level of a choice, and T after it: the lowest free variable becomes true.
+#[inline(always)]
+fn chosen(t: u32, f: u32, free: u32) -> (Level, u32) {
+    let variable = free.trailing_zeros();
+    ((t, f, variable), t | 1 << variable)
+}
+
 /// The budgeted run over row words, two a row: count, verdict and model as the library numbers them. It scans the rows of
-/// both tables in order and ends at the first conflict; a level is what stood before its choice.
+/// both tables in order and ends at the first conflict.
 pub fn solve(rows: &[u32], budget: u64) -> [u64; 3] {
     let (mut t, mut f) = (0u32, 0u32);
     let mut levels = [(0u32, 0u32, 0u32); 32];
-    let mut depth = 0;
-    let mut count = 0;
+    let (mut depth, mut count) = (0, 0);
     while count < budget {
         count += 1;
         let unset = !(t | f);
@@ -31,29 +56,22 @@ pub fn solve(rows: &[u32], budget: u64) -> [u64; 3] {
                 return [count, 2, 0];
             }
             depth -= 1;
-            let level = levels[depth];
-            t = level.0;
-            f = level.1 | 1 << level.2;
+            (t, f) = restored(levels[depth]);
         } else if free == 0 {
             return [count, 1, u64::from(t)];
         } else if unit != 0 {
-            if positive & unit != 0 {
-                t |= unit;
-            } else {
-                f |= unit;
-            }
+            (t, f) = forced(t, f, unit, positive);
         } else {
-            let chosen = free.trailing_zeros();
-            levels[depth] = (t, f, chosen);
+            (levels[depth], t) = chosen(t, f, free);
             depth += 1;
-            t |= 1 << chosen;
         }
     }
     [count, 0, 0]
 }
 
-/// One station's text: n and the row words, or the refusal's number. One pass with a cursor, nothing allocated but the words.
-pub fn read(text: &[u8], words: &mut Vec<u32>) -> Result<u8, u8> {
+/// What stands before the clauses: n, the number of rows, and where the header's line ends; or the refusal's number.
+#[inline(always)]
+fn sizes(text: &[u8]) -> Result<(i64, i64, usize), u8> {
     if text.len() > 65_536 {
         return Err(5);
     }
@@ -72,7 +90,12 @@ pub fn read(text: &[u8], words: &mut Vec<u32>) -> Result<u8, u8> {
     if !(1..=128).contains(&m) {
         return Err(2);
     }
-    at = end;
+    Ok((n, m, end))
+}
+
+/// One station's text: n and the row words, or the refusal's number. One pass with a cursor, nothing allocated but the words.
+pub fn read(text: &[u8], words: &mut Vec<u32>) -> Result<u8, u8> {
+    let (n, m, mut at) = sizes(text)?;
     words.clear();
     let (mut positive, mut negative, mut open) = (0u32, 0u32, false);
     loop {
@@ -121,6 +144,7 @@ fn number(text: &[u8], mut at: usize) -> Option<(i64, usize)> {
     Some((if minus { -value } else { value }, at))
 }
 
+/// The header line's two numbers.
 fn header(line: &[u8]) -> Option<(i64, i64)> {
     let mut end = line.len();
     while end > 0 && matches!(line[end - 1], b' ' | b'\t' | b'\r') {

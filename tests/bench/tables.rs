@@ -59,6 +59,7 @@ fn table(all: &[Contender], room: &Path, n: usize, m: usize, seed: u64) -> std::
     Ok(least)
 }
 
+/// Times every contender on random tables of three sizes.
 fn run(all: &[Contender], room: &Path) -> std::io::Result<()> {
     println!("whole processes on {TABLES} random tables each, microseconds: the median of the tables, each the least of {RUNS} runs");
     for (n, m) in [(20, 86), (26, 112), (32, 138)] {

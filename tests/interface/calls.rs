@@ -96,6 +96,7 @@ impl fmt::Debug for Lent {
 }
 
 impl Lent {
+    /// The buffer's bytes.
     pub fn bytes(&self) -> &[u8] {
         match self {
             Lent::Bytes(bytes) => bytes,
@@ -103,6 +104,7 @@ impl Lent {
         }
     }
 
+    /// The buffer's words.
     pub fn words(&self) -> &[u32] {
         match self {
             Lent::Words(words) => words,
@@ -134,15 +136,18 @@ struct Held<T> {
 }
 
 impl<T: Copy + PartialEq> Held<T> {
+    /// The data, with guards before and behind it.
     fn new(data: &[T], guard: usize, sign: T) -> Held<T> {
         let guards = vec![sign; guard];
         Held { memory: [&guards, data, &guards].concat().into_boxed_slice(), guard }
     }
 
+    /// Where the buffer begins.
     fn pointer(&mut self) -> *mut T {
         self.memory[self.guard..].as_mut_ptr()
     }
 
+    /// The data, if the guards are whole.
     fn back(self, sign: T) -> Result<Vec<T>, String> {
         let end = self.memory.len() - self.guard;
         let guards = self.memory[..self.guard].iter().chain(&self.memory[end..]);
@@ -162,6 +167,7 @@ enum Room {
 }
 
 impl Room {
+    /// Memory that holds the buffer's data.
     fn new(lent: &Lent, guard: usize) -> Room {
         match lent {
             Lent::Bytes(bytes) => Room::Bytes(Held::new(bytes, guard, SIGN)),
@@ -170,6 +176,7 @@ impl Room {
         }
     }
 
+    /// The data afterwards, if the guards are whole.
     fn back(self) -> Result<Lent, String> {
         Ok(match self {
             Room::Bytes(held) => Lent::Bytes(held.back(SIGN)?),
@@ -187,6 +194,7 @@ impl Call {
         Ok(Given { number, lent: rooms.into_iter().map(Room::back).collect::<Result<_, _>>()? })
     }
 
+    /// Hands numbers, pointers and lengths to the function.
     #[rustfmt::skip]
     fn pass(&self, rooms: &mut [Room]) -> u8 {
         use library::*;

@@ -24,6 +24,7 @@ pub struct Circuits {
 }
 
 impl Circuits {
+    /// No circuit yet, and the sections of the documents.
     pub fn new() -> Circuits {
         let list = concat!(env!("CARGO_MANIFEST_DIR"), "/../docs/pictures/circuit.txt");
         let list = std::fs::read_to_string(list).expect("the documents list the circuit's sections");

@@ -36,10 +36,12 @@ fn one<T: Copy>(list: &[T], random: &mut Random) -> T {
 
 // ---- Buffers
 
+/// So many random bytes.
 fn some_bytes(count: usize, random: &mut Random) -> Vec<u8> {
     (0..count).map(|_| random.number() as u8).collect()
 }
 
+/// So many random words.
 fn some_words(count: usize, random: &mut Random) -> Vec<u32> {
     (0..count).map(|_| random.number() as u32).collect()
 }
@@ -49,11 +51,13 @@ fn slack(count: usize, random: &mut Random) -> usize {
     count + one(&[0, 0, 0, 1, 2, 7], random)
 }
 
+/// A buffer of random bytes, long enough.
 fn bytes_for(count: usize, random: &mut Random) -> Lent {
     let count = slack(count, random);
     Lent::Bytes(some_bytes(count, random))
 }
 
+/// A buffer of random words, long enough.
 fn words_for(count: usize, random: &mut Random) -> Lent {
     let count = slack(count, random);
     Lent::Words(some_words(count, random))
@@ -95,6 +99,7 @@ fn large_size(random: &mut Random) -> Size {
     (random.between(20, 32), random.between(60, 128), random.between(60, 128))
 }
 
+/// A size as a call takes it.
 fn numbers((n, left, right): Size) -> Vec<u64> {
     vec![n as u64, left as u64, right as u64]
 }
@@ -118,6 +123,7 @@ fn tables_and_run(size: Size, random: &mut Random) -> (Vec<Lent>, Vec<u32>) {
 
 // ---- Right calls
 
+/// Two texts, room for their rows, and room for their sizes.
 fn texts(random: &mut Random) -> Vec<Lent> {
     let most = one(&[3, 6, 32], random);
     let mut n = random.between(1, most);
@@ -203,6 +209,7 @@ fn gates_of(size: Size, circuits: &Circuits, random: &mut Random) -> Result<Vec<
     })
 }
 
+/// Gates, inputs, and room for the wires.
 fn evaluation(circuits: &Circuits, random: &mut Random) -> Result<Vec<Lent>, String> {
     let (gates, inputs) = if random.once_in(4) {
         let size = some_size(random, true);
@@ -230,6 +237,7 @@ fn state_bytes(n: usize, random: &mut Random) -> Lent {
     Lent::Bytes(bytes)
 }
 
+/// Tables, gates, run, and room for inputs, wires and mark.
 fn application(size: Size, circuits: &Circuits, random: &mut Random) -> Result<Vec<Lent>, String> {
     let (mut lent, run) = tables_and_run(size, random);
     let gates = gates_of(size, circuits, random)?;
@@ -268,6 +276,7 @@ fn line(random: &mut Random) -> Vec<u8> {
     line
 }
 
+/// A call of the answer writer, each number now right, now odd.
 fn answer(random: &mut Random) -> Call {
     let n = one(&[random.between(1, 32) as u64, random.between(1, 32) as u64, one(&ODD, random)], random);
     let count = one(&[random.below(100) as u64, random.number(), one(&ODD, random), random.number() >> 40], random);
@@ -337,6 +346,7 @@ fn right(function: Function, circuits: &Circuits, random: &mut Random) -> Result
 
 // ---- Damage
 
+/// A buffer a little shorter or longer, half as long, or empty.
 fn resize<T: Copy>(buffer: &mut Vec<T>, with: T, random: &mut Random) {
     let length = buffer.len();
     let length = one(&[length.saturating_sub(1), length.saturating_sub(1), length + 1, length / 2, 0], random);

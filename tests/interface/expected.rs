@@ -17,6 +17,7 @@ impl From<u8> for Refused {
     }
 }
 
+/// Writes over the front of a buffer.
 fn over<T: Copy>(front: &[T], buffer: &mut [T]) {
     buffer[..front.len()].copy_from_slice(front);
 }
@@ -45,18 +46,22 @@ pub fn expected(call: &Call, circuits: &Circuits) -> Result<Given, String> {
 }
 
 impl Call {
+    /// The bytes of buffer k.
     fn bytes(&self, k: usize) -> &[u8] {
         self.lent[k].bytes()
     }
 
+    /// The words of buffer k.
     fn words(&self, k: usize) -> &[u32] {
         self.lent[k].words()
     }
 
+    /// The first three numbers as a size, or 1 or 2.
     fn size(&self) -> Result<Size, u8> {
         memory::size(self.numbers[0], self.numbers[1], self.numbers[2])
     }
 
+    /// The first two buffers as tables.
     fn tables(&self) -> [&[u32]; 2] {
         [self.words(0), self.words(1)]
     }
@@ -98,6 +103,7 @@ impl Call {
         })
     }
 
+    /// The ceiling, the words for so many gates, the input wires and the state's wires.
     fn sizes(&self) -> Result<Writes, u8> {
         let size = self.size()?;
         let ceiling = model::ceiling(size.0, size.1 + size.2);
@@ -105,6 +111,7 @@ impl Call {
         Ok(vec![(0, Lent::Numbers(numbers.map(|number| number as u64).to_vec()))])
     }
 
+    /// The rows of two texts, n and both row counts; after the texts' refusals 6, then 4.
     fn read_pair(&self) -> Result<Writes, u8> {
         let (left, right) = (model::read(self.bytes(0))?, model::read(self.bytes(1))?);
         if left.n != right.n {
@@ -119,6 +126,7 @@ impl Call {
         Ok(vec![(2, left), (3, right), (4, Lent::Numbers(sizes.to_vec()))])
     }
 
+    /// The fresh run; 1, then 12 for too few words.
     fn fresh(&self) -> Result<Writes, u8> {
         let n = memory::size(self.numbers[0], 1, 1)?.0;
         if self.words(0).len() < memory::RUN_WORDS {
@@ -127,6 +135,7 @@ impl Call {
         Ok(vec![(0, Lent::Words(memory::run_words(&model::Run::fresh(n))))])
     }
 
+    /// The run after one giant step.
     fn step(&self) -> Result<Writes, u8> {
         let size = self.size()?;
         let rows = memory::accepted(size, self.tables())?;
@@ -135,6 +144,7 @@ impl Call {
         Ok(vec![(2, Lent::Words(memory::run_words(&run)))])
     }
 
+    /// Count, verdict and model of the budgeted run.
     fn solve(&self) -> Result<Writes, u8> {
         let size = self.size()?;
         let rows = memory::accepted(size, self.tables())?;
@@ -148,6 +158,7 @@ impl Call {
         Ok(vec![(2, Lent::Numbers(vec![answer.steps, verdict, model]))])
     }
 
+    /// The model as a word; 12, 14.
     fn model(&self) -> Result<Writes, u8> {
         let run = memory::run_of(self.words(0))?;
         if run.standing != model::Standing::Satisfied {
@@ -166,11 +177,13 @@ impl Call {
         Ok(size)
     }
 
+    /// Rows and run, a byte a wire.
     fn pack(&self) -> Result<Writes, u8> {
         let packed = memory::packed(self.size()?, self.tables(), self.words(2), self.bytes(3).len())?;
         Ok(vec![(3, Lent::Bytes(packed))])
     }
 
+    /// The run in the bytes; after 1, 10 and 12 also 12 for too few words.
     fn read_back(&self) -> Result<Writes, u8> {
         let n = memory::size(self.numbers[0], 1, 1)?.0;
         let run = memory::read_back(n, self.bytes(0))?;
@@ -180,6 +193,7 @@ impl Call {
         Ok(vec![(1, Lent::Words(memory::run_words(&run)))])
     }
 
+    /// The run after one application and its mark; inputs and wires are written also where the outputs hold no run.
     fn apply(&self) -> Result<Writes, Refused> {
         let size = self.size()?;
         let packed = memory::packed(size, self.tables(), self.words(3), self.bytes(4).len())?;
@@ -205,6 +219,7 @@ impl Call {
         Ok(memory::lines(size, &gates).into_iter().skip(from).collect())
     }
 
+    /// A line, or nothing past the last, and its length; 11.
     fn write_line(&self) -> Result<Writes, u8> {
         let line = self.lines()?.into_iter().next().unwrap_or_default().into_bytes();
         if self.bytes(1).len() < line.len() {
@@ -214,6 +229,7 @@ impl Call {
         Ok(vec![(1, Lent::Bytes(line)), (2, Lent::Numbers(vec![length]))])
     }
 
+    /// As many lines as fit, how many and how long; 11 where none fits.
     fn write_lines(&self) -> Result<Writes, u8> {
         let (lines, room) = (self.lines()?, self.bytes(1).len());
         let (mut text, mut count) = (vec![], 0);
@@ -231,6 +247,7 @@ impl Call {
         Ok(vec![(1, Lent::Bytes(text)), (2, Lent::Numbers(numbers))])
     }
 
+    /// The composed answer and its length; 11.
     fn answer(&self) -> Result<Writes, u8> {
         let text = memory::answer(self.numbers[0], self.numbers[1], self.numbers[2], self.numbers[3]);
         if self.bytes(0).len() < text.len() {

@@ -35,6 +35,7 @@ fn judge(call: &Call, circuits: &Circuits, guard: usize) -> Result<Given, String
     }
 }
 
+/// A text's first characters.
 fn cut(text: String) -> String {
     text.chars().take(SHOWN).collect()
 }
@@ -66,6 +67,7 @@ fn refused(circuits: &Circuits, guard: usize) -> Tally {
     ledger.close("every refusal of the library, written by hand")
 }
 
+/// A call as a failed test shows it.
 fn shown(call: &Call) -> String {
     cut(format!("{:?} {:?} {:?}", call.function, call.numbers, call.lent))
 }

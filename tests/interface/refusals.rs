@@ -73,6 +73,7 @@ fn base(function: Function, circuits: &Circuits) -> Result<Call, String> {
 
 // ---- Changes
 
+/// Another number at k.
 fn number(k: usize, to: u64) -> Change {
     Box::new(move |call| call.numbers[k] = to)
 }
@@ -86,6 +87,7 @@ fn cut(k: usize, length: usize) -> Change {
     })
 }
 
+/// Another word in buffer k.
 fn word(k: usize, at: usize, to: u32) -> Change {
     Box::new(move |call| match &mut call.lent[k] {
         Lent::Words(words) => words[at] = to,
@@ -93,6 +95,7 @@ fn word(k: usize, at: usize, to: u32) -> Change {
     })
 }
 
+/// Another byte in buffer k.
 fn byte(k: usize, at: usize, to: u8) -> Change {
     Box::new(move |call| match &mut call.lent[k] {
         Lent::Bytes(bytes) => bytes[at] = to,
@@ -100,10 +103,12 @@ fn byte(k: usize, at: usize, to: u8) -> Change {
     })
 }
 
+/// Another text as buffer k.
 fn text(k: usize, text: Vec<u8>) -> Change {
     Box::new(move |call| call.lent[k] = Lent::Bytes(text.clone()))
 }
 
+/// Two changes, one after the other.
 fn both(first: Change, second: Change) -> Change {
     Box::new(move |call| {
         first(call);

@@ -85,6 +85,7 @@ pub fn read(text: &[u8]) -> Result<Circuit, String> {
 }
 
 impl Circuit {
+    /// How many of the gates are AND.
     pub fn ands(&self) -> usize {
         self.gates.iter().filter(|gate| matches!(gate, Gate::And(..))).count()
     }

@@ -23,6 +23,7 @@ const SMALLEST: [(usize, usize, usize); 8] =
 /// n and the two row counts.
 type Size = (usize, usize, usize);
 
+/// The dimension line of a size.
 fn line((n, left, right): Size) -> Vec<u8> {
     format!("{n} {left} {right}\n").into_bytes()
 }
@@ -232,6 +233,7 @@ struct Written {
     expected: String,
 }
 
+/// A written case whose circuit the program serves.
 fn written(case: &Path) -> Option<Written> {
     let text = |name: &str| fs::read(case.join(name)).ok();
     let (left, right) = (text("left.cnf")?, text("right.cnf")?);

@@ -22,6 +22,7 @@ pub fn of_process(child: &Child) -> std::io::Result<f64> {
     Ok((seconds + system_seconds) as f64 * 1e6 + (micros + system_micros) as f64)
 }
 
+/// The processor time of this thread so far, in microseconds.
 fn thread_now() -> f64 {
     let mut time = [0; 2];
     // SAFETY: the C library's struct timespec is two longs on 64-bit Linux

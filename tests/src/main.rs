@@ -13,6 +13,7 @@ use std::process::{Command, ExitCode, Stdio};
 /// Solvers of Debian's packages whose verdicts are asked for: the first that is there.
 const SOLVERS: [&str; 2] = ["cadical", "picosat"];
 
+/// Whether a solver is installed.
 fn present(solver: &str) -> bool {
     Command::new(solver).arg("--version").stdout(Stdio::null()).stderr(Stdio::null()).status().is_ok()
 }
@@ -24,7 +25,7 @@ fn pair_tests(program: &Path, own: &Path) -> std::io::Result<Tally> {
     println!("verdicts are compared with {solver}");
     let files = public::files(&own.join("dimacs"))?;
     let [listed, damaged] = damage::groups();
-    let groups = if program.parent().is_some_and(|folder| folder.ends_with("static")) {
+    let groups = if program.parent().map_or(false, |folder| folder.ends_with("static")) {
         vec![cases::group(own, Source::is_whole)?, public::group(&files)]
     } else {
         vec![cases::group(own, |_| true)?, public::group(&files), tables::group(), listed, damaged]
@@ -36,6 +37,7 @@ fn pair_tests(program: &Path, own: &Path) -> std::io::Result<Tally> {
     Ok(total)
 }
 
+/// The tests of a program, which its file's name tells.
 fn program_tests(program: &Path, pair: Option<&Path>) -> std::io::Result<Tally> {
     let fault = |kind, fault: &str| std::io::Error::new(kind, format!("{}: {fault}", program.display()));
     let whole = program.canonicalize().map_err(|error| fault(error.kind(), &error.to_string()))?;
@@ -51,6 +53,7 @@ fn program_tests(program: &Path, pair: Option<&Path>) -> std::io::Result<Tally> 
     }
 }
 
+/// The contracts and the pictures, then each program that is named.
 fn all(arguments: &[String]) -> std::io::Result<Tally> {
     let usage = || std::io::Error::new(std::io::ErrorKind::InvalidInput, "use: check CRATES [PROGRAM..]");
     let (crates, programs) = arguments.split_first().ok_or_else(usage)?;

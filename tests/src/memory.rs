@@ -30,6 +30,7 @@ pub fn input_wires((n, left, right): Size) -> usize {
 
 // ---- Tables
 
+/// Whether a variable is in a word.
 fn holds(word: u32, variable: usize) -> bool {
     word >> variable & 1 == 1
 }
@@ -58,6 +59,7 @@ pub fn accepted((n, left, right): Size, tables: [&[u32]; 2]) -> Result<Vec<Row>,
 
 // ---- Runs
 
+/// The variables that have a value, as a word.
 fn word(values: &[Value], to: bool) -> u32 {
     values.iter().enumerate().filter(|(_, &value)| value == Some(to)).fold(0, |word, (v, _)| word | 1 << v)
 }
@@ -157,6 +159,7 @@ pub fn evaluated(words: &[u32], inputs: &[u8], room: usize) -> Result<Vec<u8>, u
     Ok(wires)
 }
 
+/// A byte a wire.
 fn bytes(wires: Vec<bool>) -> Vec<u8> {
     wires.into_iter().map(u8::from).collect()
 }

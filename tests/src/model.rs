@@ -33,10 +33,12 @@ pub struct Answer {
 
 // ---- Texts
 
+/// A space or a tab.
 fn blank(byte: u8) -> bool {
     byte == b' ' || byte == b'\t'
 }
 
+/// A byte that stands between tokens.
 fn separator(byte: u8) -> bool {
     blank(byte) || byte == b'\r' || byte == b'\n'
 }
@@ -161,19 +163,23 @@ pub struct Run {
     pub levels: Vec<(Vec<Value>, usize)>,
 }
 
+/// The number of a literal's variable, from 0 on.
 fn variable(literal: i64) -> usize {
     literal.unsigned_abs() as usize - 1
 }
 
 impl Run {
+    /// The run before its first step.
     pub fn fresh(n: usize) -> Run {
         Run { standing: Standing::Open, values: vec![None; n], levels: vec![] }
     }
 
+    /// Whether the literal's variable has no value.
     fn free(&self, literal: i64) -> bool {
         self.values[variable(literal)].is_none()
     }
 
+    /// Whether the row is satisfied; padding always is.
     fn satisfied(&self, row: &[i64]) -> bool {
         row.iter().any(|&l| row.contains(&-l) || self.values[variable(l)] == Some(l > 0))
     }

@@ -90,11 +90,13 @@ struct Plan {
     paths: Vec<Vec<usize>>,
 }
 
+/// A box's width, from its longest text.
 fn width(node: &Node) -> f64 {
     let below = node.lines.iter().map(|line| 6.0 * line.chars().count() as f64);
     below.fold(8.4 * node.name.chars().count() as f64, f64::max) + 22.0
 }
 
+/// The boxes in layers, and a bend wherever an edge passes through a layer.
 fn plan(nodes: &[Node], way: Way) -> Plan {
     let edges = edges(nodes, way);
     let layer = layers(nodes.len(), &edges);
@@ -167,6 +169,7 @@ impl Plan {
         self.rows = best.1;
     }
 
+    /// The distance of two neighbours' middles.
     fn gap(&self, left: usize, right: usize) -> f64 {
         let boxes = self.spots[left].node.is_some() && self.spots[right].node.is_some();
         (self.spots[left].width + self.spots[right].width) / 2.0 + if boxes { BOX_GAP } else { BEND_GAP }

@@ -61,6 +61,7 @@ pub struct Room {
 }
 
 impl Room {
+    /// A folder of its own with a copy of the program.
     pub fn new(program: &Path, id: usize) -> std::io::Result<Room> {
         let folder = std::env::temp_dir().join(format!("forkhemit-{}-{id}", std::process::id()));
         fs::create_dir_all(folder.join("data"))?;
@@ -139,6 +140,7 @@ impl Drop for Room {
     }
 }
 
+/// Whether this process may change to another user.
 fn is_root() -> std::io::Result<bool> {
     Ok(fs::metadata("/proc/self")?.uid() == 0)
 }
@@ -170,6 +172,7 @@ fn place(path: &Path, source: &Source) -> std::io::Result<()> {
     }
 }
 
+/// Runs a command to its end and gathers what it writes.
 fn finish(mut command: Command) -> std::io::Result<Ran> {
     gather(command.stdout(Stdio::piped()).stderr(Stdio::piped()).spawn()?)
 }

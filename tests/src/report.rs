@@ -28,6 +28,7 @@ pub struct Test {
 }
 
 impl Test {
+    /// A test of two texts and a line, with nothing said of what is expected.
     pub fn new(name: String, left: Vec<u8>, right: Vec<u8>, input: Vec<u8>) -> Test {
         Test {
             name,
@@ -55,11 +56,13 @@ pub struct Tally {
 }
 
 impl Tally {
+    /// Adds another tally.
     pub fn add(&mut self, other: Tally) {
         self.passed += other.passed;
         self.failed += other.failed;
     }
 
+    /// Counts one more test.
     pub fn count(&mut self, passed: bool) {
         if passed {
             self.passed += 1;

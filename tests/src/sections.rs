@@ -12,6 +12,7 @@ pub struct Count {
 }
 
 impl Count {
+    /// A sum of terms such as 15nm.
     fn read(text: &str) -> Result<Count, String> {
         let term = |term: &str| {
             let digits: String = term.chars().take_while(char::is_ascii_digit).collect();
@@ -33,6 +34,7 @@ impl Count {
         Ok(Count { text: text.into(), terms })
     }
 
+    /// The count for n variables and m rows.
     pub fn of(&self, n: usize, m: usize) -> usize {
         self.terms.iter().map(|&(factor, of_n, of_m)| factor * n.pow(of_n as u32) * m.pow(of_m as u32)).sum()
     }

@@ -90,6 +90,7 @@ const MIXES: &[&[Kind]] = &[
     &[Kind::Any, Kind::Satisfied, Kind::Padding, Kind::Conflict, Kind::Unit, Kind::Wide],
 ];
 
+/// The row as padding, by both literals of a variable.
 fn padding(row: Row, variable: i64) -> Row {
     row.into_iter().filter(|literal| literal.abs() != variable).chain([variable, -variable]).collect()
 }

@@ -25,6 +25,7 @@ pub fn strict(n: usize, width: usize, random: &mut Random) -> Row {
     (0..width.min(n)).map(|_| draw()).collect()
 }
 
+/// A literal of the variable.
 fn literal(variable: usize, random: &mut Random) -> i64 {
     let sign = if random.once_in(2) { -1 } else { 1 };
     sign * variable as i64

@@ -17,6 +17,7 @@ pub fn rows(n: usize, rows: &[Row]) -> Vec<bool> {
     rows.iter().flat_map(row).collect()
 }
 
+/// T, then F.
 fn assignment(values: &[Option<bool>]) -> Vec<bool> {
     let set = |to: bool| values.iter().map(move |&value| value == Some(to));
     set(true).chain(set(false)).collect()
