@@ -1,6 +1,8 @@
 /*
  * Forkhemit for hosts in C and C++: two stations' clause tables, the giant step, its circuit and the texts.
- * Every function is proved to meet its contract, which stands in crates/interface/src.
+ * Every function is proved to meet its contract, which stands in crates/interface/src. `make lib` writes the archive to link,
+ * target/lib/libforkhemit.a, for x86-64 Linux; it needs C's memcpy and memset and nothing else. docs/GUIDE.md has the calls in the order
+ * in which a host makes them, examples/host a host in C and one in Rust.
  *
  * Rules for every call
  * - A buffer is lent as a pointer and then its length, counted in elements. Give a pointer that is not null and is aligned for its
@@ -10,6 +12,10 @@
  * - Each call fills the front of a buffer and leaves the rest as it was. Numbers (sizes, answer, count, ..) are written as far as the
  *   buffer has room for them, from the front: a shorter buffer is no refusal.
  * - No function keeps a pointer, allocates memory or has a state of its own: calls in several threads over different buffers are safe.
+ *   forkhemit_evaluate and forkhemit_apply want about 210 KiB of the caller's stack.
+ *
+ * How to read the comments: `sizes: ..` says what the buffer of that name holds after the call. The numbers at the end are the refusals
+ * that the function may return, in the order in which they are judged.
  *
  * Tables: n variables, 1 to 32; each station has 1 to 128 rows. A row is two words, the variables that it holds positive and those that
  * it holds negative; bit i - 1 stands for variable i. A table of r rows is 2 * r words; words past them are not looked at.
@@ -69,7 +75,8 @@ enum forkhemit_verdict {
 
 /* ---- tables */
 
-/* sizes: the gate ceiling, the words that forkhemit_generate wants (three a gate of the ceiling), input wires, state wires. 1, 2. */
+/* sizes: the gate ceiling, which no circuit of this size exceeds; the words that forkhemit_generate wants, three a gate of the ceiling;
+ * input wires; state wires. 1, 2. */
 uint8_t forkhemit_sizes(uint64_t n, uint64_t left_rows, uint64_t right_rows, uint64_t *sizes, size_t sizes_length);
 
 /* Reads two DIMACS texts into tables. sizes: n, left rows, right rows. 512 words, 256 for each table, are enough for any texts.
@@ -92,8 +99,8 @@ uint8_t forkhemit_step(uint64_t n, uint64_t left_rows, uint64_t right_rows,
                        const uint32_t *left, size_t left_length, const uint32_t *right, size_t right_length,
                        uint32_t *run, size_t run_length);
 
-/* A fresh run until it closes or the budget is spent. answer: steps taken, verdict (forkhemit_verdict), model as a word, 0 without one.
- * 1, 2, 4, 3. */
+/* A fresh run until it closes or the budget of steps is spent; 2^(n+1) - 1 steps are always enough.
+ * answer: steps taken, verdict (forkhemit_verdict), model as a word, 0 without one. 1, 2, 4, 3. */
 uint8_t forkhemit_solve(uint64_t n, uint64_t left_rows, uint64_t right_rows,
                         const uint32_t *left, size_t left_length, const uint32_t *right, size_t right_length,
                         uint64_t budget, uint64_t *answer, size_t answer_length);
@@ -104,16 +111,16 @@ uint8_t forkhemit_model(const uint32_t *run, size_t run_length, uint64_t *model,
 /* ---- the circuit */
 
 /* gates: the giant step's circuit, three words a gate: kind (0 XOR, 1 AND, 2 INV), first wire, second wire (0 for INV).
- * count: how many gates. 1, 2, 7. */
+ * count: how many gates. The calls below take 3 * count as gates_length, not the whole buffer's. 1, 2, 7. */
 uint8_t forkhemit_generate(uint64_t n, uint64_t left_rows, uint64_t right_rows,
                            uint32_t *gates, size_t gates_length, uint64_t *count, size_t count_length);
 
-/* bytes: left rows, right rows and run, a byte a wire: the circuit's inputs. 1, 2, 4, 3, 10, 12, 13. */
+/* bytes: left rows, right rows and run, a byte a wire: the circuit's inputs, as many as forkhemit_sizes says. 1, 2, 4, 3, 10, 12, 13. */
 uint8_t forkhemit_pack(uint64_t n, uint64_t left_rows, uint64_t right_rows,
                        const uint32_t *left, size_t left_length, const uint32_t *right, size_t right_length,
                        const uint32_t *run, size_t run_length, uint8_t *bytes, size_t bytes_length);
 
-/* wires: the inputs, then each gate's value. gates_length is three times the number of gates, inputs_length the number of inputs. 9, 10. */
+/* wires: the inputs, then each gate's value, a byte each. All of inputs are inputs, and wires has room for inputs and gates. 9, 10. */
 uint8_t forkhemit_evaluate(const uint32_t *gates, size_t gates_length, const uint8_t *inputs, size_t inputs_length,
                            uint8_t *wires, size_t wires_length);
 
@@ -121,6 +128,7 @@ uint8_t forkhemit_evaluate(const uint32_t *gates, size_t gates_length, const uin
 uint8_t forkhemit_read_back(uint64_t n, const uint8_t *bytes, size_t bytes_length, uint32_t *run, size_t run_length);
 
 /* One repeat: rows and run are packed into bytes, the gates evaluated into wires, the next run read back from the last wires, in place.
+ * bytes is scratch for the inputs, wires for inputs and gates.
  * mark: 1 if that run is closed, else 0. 1, 2, 4, 3, 10, 12, 13 in packing, 9, 10 in evaluation, 12 in reading back.
  * Only where the read-back refuses, which the generated circuit never brings about, are bytes and wires filled all the same;
  * run and mark stay as they were on every refusal. */
@@ -132,7 +140,8 @@ uint8_t forkhemit_apply(uint64_t n, uint64_t left_rows, uint64_t right_rows,
 
 /* ---- texts */
 
-/* bytes: the circuit text's line of a number, from 0, with its LF. length: its bytes; 0 past the last line. 1, 2, 9, 11. */
+/* bytes: the circuit text's line of a number, from 0, with its LF: four lines, then one a gate. length: its bytes; 0 past the last line.
+ * 1, 2, 9, 11. */
 uint8_t forkhemit_write_line(uint64_t n, uint64_t left_rows, uint64_t right_rows,
                              const uint32_t *gates, size_t gates_length, uint64_t line,
                              uint8_t *bytes, size_t bytes_length, uint64_t *length, size_t length_length);

@@ -1,7 +1,7 @@
 /*
  * A host in C. It reads two stations' texts, generates the giant step's circuit once, repeats it from the fresh state
  * until the closing mark or the budget, and prints the answer as the pair program does. Beside each repeat it steps a
- * plain run and compares. Use: host-c LEFT RIGHT BUDGET
+ * plain run and compares. Use: host-c LEFT RIGHT BUDGET. `make examples` builds it.
  */
 #include "forkhemit.h"
 #include <stdio.h>
@@ -11,7 +11,7 @@
 #define TEXT_LIMIT 65536
 #define ROW_WORDS 256
 
-/* A refusal as the pair program prints it. */
+/* A refusal as the pair program prints it, which is an answer too: the status is 0. What was lent is freed as the process ends. */
 static int refused(uint8_t number)
 {
     printf("c refused %u\ns UNKNOWN\n", number);
@@ -55,20 +55,22 @@ int main(int count, char **arguments)
         fputs("use: host-c LEFT RIGHT BUDGET\n", stderr);
         return 1;
     }
+    /* A host that is given the budget as a line would have forkhemit_read_budget judge it. */
     uint64_t budget = strtoull(arguments[3], NULL, 10);
 
     /* The texts become tables: two words a row, positive then negative. */
     uint8_t *left_text = room(TEXT_LIMIT + 1, 1), *right_text = room(TEXT_LIMIT + 1, 1);
     size_t left_length = read_text(arguments[1], left_text), right_length = read_text(arguments[2], right_text);
     uint32_t left[ROW_WORDS] = {0}, right[ROW_WORDS] = {0};
-    uint64_t d[3] = {0};
+    uint64_t d[3] = {0}; /* n, left rows, right rows */
     uint8_t refusal = forkhemit_read_pair(left_text, left_length, right_text, right_length,
                                           left, ROW_WORDS, right, ROW_WORDS, d, 3);
     if (refusal != 0)
         return refused(refusal);
 
     /* The circuit, made from n and the row counts alone. */
-    uint64_t sizes[4] = {0}, gate_count = 0;
+    uint64_t sizes[4] = {0}; /* gate ceiling, words for its gates, input wires, state wires */
+    uint64_t gate_count = 0;
     refusal = forkhemit_sizes(d[0], d[1], d[2], sizes, 4);
     if (refusal != 0)
         return refused(refusal);
@@ -101,7 +103,7 @@ int main(int count, char **arguments)
             return wrong("the circuit's state is not the plain run's", repeats);
     }
 
-    /* The answer: the number of repeats, the standing as verdict, and the model of a satisfied run. */
+    /* The answer: the number of repeats, the standing (word 1) as verdict, and the model of a satisfied run. */
     uint64_t verdict = run[1], model = 0;
     if (verdict == FORKHEMIT_SATISFIABLE) {
         refusal = forkhemit_model(run, FORKHEMIT_RUN_WORDS, &model, 1);

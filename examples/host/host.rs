@@ -1,6 +1,6 @@
 //! A host in Rust. It reads two stations' texts, generates the giant step's circuit once, repeats it from the fresh state
 //! until the closing mark or the budget, and prints the answer as the pair program does. Beside each repeat it steps a
-//! plain run and compares. Use: host-rust LEFT RIGHT BUDGET
+//! plain run and compares. Use: host-rust LEFT RIGHT BUDGET. `make examples` builds it.
 
 use std::io::Write;
 
@@ -31,7 +31,7 @@ use library::*;
 
 const TEXT_LIMIT: usize = 65_536;
 const SATISFIABLE: u64 = 1;
-type Run = [u32; 101];
+type Run = [u32; 101]; // word 1 is the standing
 
 /// Why there is no answer: a refusal's number, or what a proved library never brings about.
 enum Fault {
@@ -47,13 +47,14 @@ fn taken(number: u8) -> Result<(), Fault> {
 /// Both stations' tables, two words a row, with n and the row counts. In each method the library reads and writes what
 /// it is lent here and nothing else, so the calls are safe.
 struct Tables {
-    d: [u64; 3],
+    d: [u64; 3], // n, left rows, right rows
     left: [u32; 256],
     right: [u32; 256],
 }
 
 #[rustfmt::skip]
 impl Tables {
+    /// The tables of two texts.
     fn read(left: &[u8], right: &[u8]) -> Result<Tables, Fault> {
         let mut read = Tables { d: [0; 3], left: [0; 256], right: [0; 256] };
         let (l, r, d) = (&mut read.left, &mut read.right, &mut read.d);
@@ -66,7 +67,7 @@ impl Tables {
 
     /// The circuit's gates, and how many input wires they have.
     fn circuit(&self) -> Result<(Vec<u32>, usize), Fault> {
-        let ([n, l, r], mut sizes, mut count) = (self.d, [0; 4], 0);
+        let ([n, l, r], mut sizes, mut count) = (self.d, [0; 4], 0); // gate ceiling, words for its gates, input wires, state wires
         taken(unsafe { forkhemit_sizes(n, l, r, sizes.as_mut_ptr(), 4) })?;
         let mut gates = vec![0; sizes[1] as usize];
         taken(unsafe { forkhemit_generate(n, l, r, gates.as_mut_ptr(), gates.len(), &mut count, 1) })?;
@@ -74,11 +75,13 @@ impl Tables {
         Ok((gates, sizes[2] as usize))
     }
 
+    /// The run to start from.
     fn fresh(&self) -> Result<Run, Fault> {
         let mut run = [0; 101];
         taken(unsafe { forkhemit_fresh(self.d[0], run.as_mut_ptr(), 101) }).map(|()| run)
     }
 
+    /// One giant step of the plain run.
     fn step(&self, run: &mut Run) -> Result<(), Fault> {
         let ([n, l, r], left, right) = (self.d, &self.left, &self.right);
         taken(unsafe { forkhemit_step(n, l, r, left.as_ptr(), 256, right.as_ptr(), 256, run.as_mut_ptr(), 101) })
@@ -97,9 +100,7 @@ impl Tables {
     /// The budgeted run's count, verdict and model.
     fn solve(&self, budget: u64) -> Result<[u64; 3], Fault> {
         let ([n, l, r], left, right, mut answer) = (self.d, &self.left, &self.right, [0; 3]);
-        taken(unsafe {
-            forkhemit_solve(n, l, r, left.as_ptr(), 256, right.as_ptr(), 256, budget, answer.as_mut_ptr(), 3)
-        })?;
+        taken(unsafe { forkhemit_solve(n, l, r, left.as_ptr(), 256, right.as_ptr(), 256, budget, answer.as_mut_ptr(), 3) })?;
         Ok(answer)
     }
 }
