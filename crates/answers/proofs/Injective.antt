@@ -1,7 +1,7 @@
 -- Nothing is lost in print: two printed texts of the same n are equal only if count, verdict and model are, or the refusals are.
--- Digits end at the first byte that is none, so the texts part into the same pieces; literals go one by one.
+-- A number ends at its LF, so the texts part into the same pieces; literals go one by one.
 -- Assumes nothing.
-use mathlib.Core.Path.{_≡_, refl, sym, ap, ap₂, _∙_, subst}
+use mathlib.Core.Path.{_≡_, refl, sym, ap, _∙_, subst}
 use mathlib.Core.Bool.{Bool, true, false, false≢true}
 use mathlib.Core.List.{List, [], _∷_, _++_, append-assoc, append-cancel-left}
 use Prim.Native.Nat.{ℕ, zero, suc, _+_, _^_, _≤_, _<_}
@@ -10,13 +10,14 @@ use native.Mathlib.Omega.{arith}
 use lib.ListN.{length, getD}
 use Rattle.words.specs.Sets.{bit}
 use Rattle.words.proofs.Operations.{bit-ext}
-use Rattle.words.proofs.Truth.{and-l, and-r}
+use Rattle.words.proofs.Truth.{and-l}
 use Rattle.refusals.specs.declared.Refusal.{Refusal}
 use Rattle.refusals.specs.Numbers.{numberOf}
 use Rattle.refusals.proofs.Numbers.{number-injective, number-lt}
 use Rattle.lexer.specs.Spelling.{bytes}
 use Rattle.text.specs.Decimal.{decimal}
 use Rattle.text.proofs.Decimals.{isDigit, allDigits, decimal-digits, decimal-injective, decimal-some}
+use Rattle.text.proofs.Fields.{decimal-plain, field-split}
 use Rattle.tables.specs.declared.Row.{Row}
 use Rattle.state.specs.State.{State, fresh}
 use Rattle.verdicts.specs.Verdicts.{verdictOf}
@@ -31,23 +32,6 @@ use Rattle.state.specs.declared.Standing.the-variants.{Open, Satisfied, Refuted
 use Rattle.verdicts.specs.declared.Verdict.{Verdict}
 use Rattle.verdicts.specs.declared.Verdict.the-variants.{Satisfiable, Unsatisfiable, Unknown}
 use Rattle.answers.specs.Printed.{literal, literals, verdictText, answerText, refusalText, solvedText}
-
--- ---- pieces
-
--- digits up to the LF, and what follows it
-split : (xs ys s t : List ℕ) → allDigits xs ≡ true → allDigits ys ≡ true → xs ++ (10 ∷ s) ≡ ys ++ (10 ∷ t) → (xs ≡ ys) × (s ≡ t)
-split [] [] s t h k e = (refl, cc)
-split [] (y ∷ ys) s t h k e =
-    let lf : y ≡ 10 = cc in
-    absurd (false≢true (sym (ap isDigit lf) ∙ and-l (isDigit y) (allDigits ys) k))
-split (x ∷ xs) [] s t h k e =
-    let lf : x ≡ 10 = cc in
-    absurd (false≢true (sym (ap isDigit lf) ∙ and-l (isDigit x) (allDigits xs) h))
-split (x ∷ xs) (y ∷ ys) s t h k e =
-    let head : x ≡ y = cc in
-    let tail : xs ++ (10 ∷ s) ≡ ys ++ (10 ∷ t) = cc in
-    let parts = split xs ys s t (and-r (isDigit x) (allDigits xs) h) (and-r (isDigit y) (allDigits ys) k) tail in
-    (ap₂ (λ (a : ℕ) (l : List ℕ). a ∷ l) head (parts .0), parts .1)
 
 -- no number starts with a minus
 no-minus : (ds s t : List ℕ) → allDigits ds ≡ true → 1 ≤ length ds → ds ++ s ≡ 45 ∷ t → ⊥
@@ -119,12 +103,12 @@ pub answer-injective : (n : ℕ) (a b : Answer) → Within n a → Within n b �
 answer-injective n a b wa wb e =
     λ i. record {
       count = decimal-injective (a .count) (b .count) (wa .count) (wb .count) (parts .0) i;
-      verdict = verdict-injective n (a .verdict) (b .verdict) (wa .model) (wb .model) (parts .1) i;
+      verdict = verdict-injective n (a .verdict) (b .verdict) (wa .model) (wb .model) (parts .2) i;
     }
   where
-    parts : (decimal (a .count) ≡ decimal (b .count)) × (verdictText n (a .verdict) ≡ verdictText n (b .verdict))
+    parts : (decimal (a .count) ≡ decimal (b .count)) × (_≡_ {A = ℕ} 10 10) × (verdictText n (a .verdict) ≡ verdictText n (b .verdict))
     parts =
-        split (decimal (a .count)) (decimal (b .count)) (verdictText n (a .verdict)) (verdictText n (b .verdict)) (decimal-digits (a .count)) (decimal-digits (b .count))
+        field-split (decimal (a .count)) (decimal (b .count)) 10 10 (verdictText n (a .verdict)) (verdictText n (b .verdict)) (decimal-plain (a .count)) (decimal-plain (b .count)) refl refl
         (append-cancel-left (bytes "c steps ") (decimal (a .count) ++ (10 ∷ verdictText n (a .verdict))) (decimal (b .count) ++ (10 ∷ verdictText n (b .verdict)))
         (sym (answer-spread n a) ∙ e ∙ answer-spread n b))
 
@@ -156,9 +140,9 @@ refusal-spread r = simp append-assoc
 pub refusal-injective : (q r : Refusal) → refusalText q ≡ refusalText r → q ≡ r
 refusal-injective q r e = number-injective q r (decimal-injective (numberOf q) (numberOf r) (omega (arith, number-lt q)) (omega (arith, number-lt r)) (parts .0))
   where
-    parts : (decimal (numberOf q) ≡ decimal (numberOf r)) × (bytes "s UNKNOWN\n" ≡ bytes "s UNKNOWN\n")
+    parts : (decimal (numberOf q) ≡ decimal (numberOf r)) × (_≡_ {A = ℕ} 10 10) × (bytes "s UNKNOWN\n" ≡ bytes "s UNKNOWN\n")
     parts =
-        split (decimal (numberOf q)) (decimal (numberOf r)) (bytes "s UNKNOWN\n") (bytes "s UNKNOWN\n") (decimal-digits (numberOf q)) (decimal-digits (numberOf r))
+        field-split (decimal (numberOf q)) (decimal (numberOf r)) 10 10 (bytes "s UNKNOWN\n") (bytes "s UNKNOWN\n") (decimal-plain (numberOf q)) (decimal-plain (numberOf r)) refl refl
         (append-cancel-left (bytes "c refused ") (decimal (numberOf q) ++ (10 ∷ bytes "s UNKNOWN\n")) (decimal (numberOf r) ++ (10 ∷ bytes "s UNKNOWN\n"))
         (sym (refusal-spread q) ∙ e ∙ refusal-spread r))
 
@@ -170,11 +154,12 @@ answer-no-refusal n a r e =
 
 -- ---- whatever is printed
 
-abbrev pub within : ℕ → Solved → Type 0
-within n (solved.Of a) = Within n a
-within n (solved.Refused r) = Unit
+-- an answer's bounds; a refusal has none
+abbrev pub solvedWithin : ℕ → Solved → Type 0
+solvedWithin n (solved.Of a) = Within n a
+solvedWithin n (solved.Refused r) = Unit
 
-pub printed-injective : (n : ℕ) (x y : Solved) → within n x → within n y → solvedText n x ≡ solvedText n y → x ≡ y
+pub printed-injective : (n : ℕ) (x y : Solved) → solvedWithin n x → solvedWithin n y → solvedText n x ≡ solvedText n y → x ≡ y
 printed-injective n (solved.Of a) (solved.Of b) wa wb e = ap solved.Of (answer-injective n a b wa wb e)
 printed-injective n (solved.Refused q) (solved.Refused r) wa wb e = ap solved.Refused (refusal-injective q r e)
 printed-injective n (solved.Of a) (solved.Refused r) wa wb e = absurd (answer-no-refusal n a r e)

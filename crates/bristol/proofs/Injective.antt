@@ -1,18 +1,19 @@
 -- The text determines gates and dimensions: nothing is lost on the way to the back end. No field holds a space or an LF, so a line parts into its fields, and the text into its lines.
 -- Assumes nothing.
 use mathlib.Core.Path.{_≡_, refl, sym, ap, ap₂, subst, _∙_}
-use mathlib.Core.Bool.{Bool, true, false, not, _&&_, _||_, false≢true}
+use mathlib.Core.Bool.{Bool, true, false, _&&_, false≢true}
 use mathlib.Core.List.{List, [], _∷_, _++_, append-assoc, tail-eq-of-cons-eq, flatten}
 use Prim.Native.Nat.{ℕ, suc, _+_, _*_, _/_, _^_, _≤_, _<_}
 use native.Mathlib.Nat.{mul-le-mul, mul-le-mul-left, eq-of-mul-eq-mul-left}
 use native.Mathlib.Omega.{arith}
-use borrow.Author.Tests.{ltb-true, ltb-false, leb-true, ne-eqb, not-true}
-use lib.Dec.{eqb, leb, ltb}
+use borrow.Author.Tests.{ltb-true, ltb-false, not-true}
+use lib.Dec.{ltb}
 use lib.ListN.{length, getD}
 use Rattle.words.proofs.Truth.{and-l, and-r, and-i, on}
 use Rattle.lexer.specs.Spelling.{bytes}
 use Rattle.text.specs.Decimal.{decimal}
-use Rattle.text.proofs.Decimals.{isDigit, allDigits, decimal-digits, decimal-injective}
+use Rattle.text.proofs.Decimals.{decimal-injective}
+use Rattle.text.proofs.Fields.{plain, decimal-plain, field-split}
 use Rattle.dimensions.specs.declared.Dimensions.{Dimensions}
 use Rattle.dimensions.specs.Sizes.{stateWires, inputWires}
 use Rattle.dimensions.proofs.Products.{product}
@@ -25,48 +26,11 @@ use Rattle.bristol.specs.Lines.{line, inputLine, outputLine, gateFields,
 
 -- ---- a line's fields
 
--- a space or an LF, which ends a field
-abbrev ends : ℕ → Bool
-ends b = eqb b 32 || eqb b 10
-
--- no byte ends the field
-abbrev plain : List ℕ → Bool
-plain [] = true
-plain (b ∷ bs) = not (ends b) && plain bs
-
 -- one or more such fields
 abbrev plains : List (List ℕ) → Bool
 plains [] = false
 plains (f ∷ []) = plain f
 plains (f ∷ g ∷ fs) = plain f && plains (g ∷ fs)
-
-digit-plain : (b : ℕ) → isDigit b ≡ true → not (ends b) ≡ true
-digit-plain b h =
-    let l = leb-true 48 b (and-l (leb 48 b) (ltb b 58) h) in
-    rw (ne-eqb b 32 (λ e. omega arith), ne-eqb b 10 (λ e. omega arith))
-
-digits-plain : (bs : List ℕ) → allDigits bs ≡ true → plain bs ≡ true
-digits-plain [] h = refl
-digits-plain (b ∷ bs) h = and-i (digit-plain b (and-l (isDigit b) _ h)) (digits-plain bs (and-r (isDigit b) _ h))
-
-decimal-plain : (x : ℕ) → plain (decimal x) ≡ true
-decimal-plain x = digits-plain (decimal x) (decimal-digits x)
-
--- fields up to the byte that ends them, and what follows
-field-split : (xs ys : List ℕ) (x y : ℕ) (s t : List ℕ) → plain xs ≡ true → plain ys ≡ true → ends x ≡ true → ends y ≡ true
-    → xs ++ (x ∷ s) ≡ ys ++ (y ∷ t) → (xs ≡ ys) × (x ≡ y) × (s ≡ t)
-field-split [] [] x y s t h k p q e = (refl, cc, cc)
-field-split [] (b ∷ ys) x y s t h k p q e =
-    let same : b ≡ x = cc in
-    absurd (false≢true (sym (not-true (ends b) (and-l (not (ends b)) _ k)) ∙ ap ends same ∙ p))
-field-split (a ∷ xs) [] x y s t h k p q e =
-    let same : a ≡ y = cc in
-    absurd (false≢true (sym (not-true (ends a) (and-l (not (ends a)) _ h)) ∙ ap ends same ∙ q))
-field-split (a ∷ xs) (b ∷ ys) x y s t h k p q e =
-    let head : a ≡ b = cc in
-    let tail : xs ++ (x ∷ s) ≡ ys ++ (y ∷ t) = cc in
-    let parts = field-split xs ys x y s t (and-r (not (ends a)) _ h) (and-r (not (ends b)) _ k) p q tail in
-    (ap₂ (λ (c : ℕ) (l : List ℕ). c ∷ l) head (parts .0), parts .1, parts .2)
 
 -- lines of plain fields that start the same bytes have the same fields
 line-split : (fs gs : List (List ℕ)) (s t : List ℕ) → plains fs ≡ true → plains gs ≡ true → line fs ++ s ≡ line gs ++ t → (fs ≡ gs) × (s ≡ t)

@@ -15,31 +15,31 @@ use Rattle.answers.specs.Printed.{solvedText}
 use Rattle.lines.specs.declared.Budget.{Budget}
 use Rattle.lines.specs.declared.Budget.the-variants as budget
 use Rattle.lines.proofs.Readings.{budget-below}
-use Rattle.answers.proofs.Injective.{within, run-within, printed-injective}
+use Rattle.answers.proofs.Injective.{solvedWithin, run-within, printed-injective}
 use Rattle.reply.specs.Reply.{dimensionsOf, answered, replied, replyText}
 use Rattle.reply.proofs.Accepted.{readOf, reply-answers}
 
-reply-within : (left right line : List ℕ) → within (readOf left right .n) (replied (readOf left right) line)
+reply-within : (left right line : List ℕ) → solvedWithin (readOf left right .n) (replied (readOf left right) line)
 reply-within left right line = texts (p .outcome) refl
   where
     p : Pair
     p = readOf left right
 
-    number : (b : Budget) → p .outcome ≡ Taken → budgetOf line ≡ b → within (p .n) (replied p line)
+    number : (b : Budget) → p .outcome ≡ Taken → budgetOf line ≡ b → solvedWithin (p .n) (replied p line)
     number (budget.Of steps) taken e =
-        subst (within (p .n)) (sym (reply-answers left right line steps taken e))
+        subst (solvedWithin (p .n)) (sym (reply-answers left right line steps taken e))
         (run-within (p .n) (rowsOf (dimensionsOf p) (p .left) (p .right)) steps (budget-below line steps e))
     number (budget.Refused r) taken e =
-        subst (within (p .n)) (sym (ap (λ (o : Outcome). given o (answered p (budgetOf line)) solved.Refused) taken ∙ ap (answered p) e)) tt
+        subst (solvedWithin (p .n)) (sym (ap (λ (o : Outcome). given o (answered p (budgetOf line)) solved.Refused) taken ∙ ap (answered p) e)) tt
 
-    texts : (o : Outcome) → p .outcome ≡ o → within (p .n) (replied p line)
+    texts : (o : Outcome) → p .outcome ≡ o → solvedWithin (p .n) (replied p line)
     texts Taken e = number (budgetOf line) e refl
-    texts (Refused r) e = subst (within (p .n)) (sym (ap (λ (o : Outcome). given o (answered p (budgetOf line)) solved.Refused) e)) tt
+    texts (Refused r) e = subst (solvedWithin (p .n)) (sym (ap (λ (o : Outcome). given o (answered p (budgetOf line)) solved.Refused) e)) tt
 
 pub reply-injective : (left right line left′ right′ line′ : List ℕ) → readOf left right .n ≡ readOf left′ right′ .n
     → replyText left right line ≡ replyText left′ right′ line′ → replied (readOf left right) line ≡ replied (readOf left′ right′) line′
 unfolding replyText
 reply-injective left right line left′ right′ line′ same e =
     printed-injective (readOf left right .n) (replied (readOf left right) line) (replied (readOf left′ right′) line′) (reply-within left right line)
-    (subst (λ (n : ℕ). within n (replied (readOf left′ right′) line′)) (sym same) (reply-within left′ right′ line′))
+    (subst (λ (n : ℕ). solvedWithin n (replied (readOf left′ right′) line′)) (sym same) (reply-within left′ right′ line′))
     (e ∙ ap (λ (n : ℕ). solvedText n (replied (readOf left′ right′) line′)) (sym same))

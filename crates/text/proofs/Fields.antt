@@ -1,0 +1,49 @@
+-- Fields of a text: bytes up to a space or an LF. A number's digits are such bytes, and equal texts part into equal fields, by induction on the first field.
+-- Assumes nothing.
+use mathlib.Core.Path.{_≡_, refl, sym, ap, ap₂, _∙_}
+use mathlib.Core.Bool.{Bool, true, not, _&&_, _||_, false≢true}
+use mathlib.Core.List.{List, [], _∷_, _++_}
+use Prim.Native.Nat.{ℕ}
+use native.Mathlib.Omega.{arith}
+use borrow.Author.Tests.{leb-true, ne-eqb}
+use lib.Dec.{eqb, leb, ltb}
+use Rattle.words.proofs.Truth.{and-l, and-r, and-i, not-f}
+use Rattle.text.specs.Decimal.{decimal}
+use Rattle.text.proofs.Decimals.{isDigit, allDigits, decimal-digits}
+
+-- a space or an LF, which ends a field
+abbrev pub ends : ℕ → Bool
+ends b = eqb b 32 || eqb b 10
+
+-- no byte ends the field
+abbrev pub plain : List ℕ → Bool
+plain [] = true
+plain (b ∷ bs) = not (ends b) && plain bs
+
+digit-plain : (b : ℕ) → isDigit b ≡ true → not (ends b) ≡ true
+digit-plain b h =
+    let l = leb-true 48 b (and-l (leb 48 b) (ltb b 58) h) in
+    rw (ne-eqb b 32 (λ e. omega arith), ne-eqb b 10 (λ e. omega arith))
+
+digits-plain : (bs : List ℕ) → allDigits bs ≡ true → plain bs ≡ true
+digits-plain [] h = refl
+digits-plain (b ∷ bs) h = and-i (digit-plain b (and-l (isDigit b) _ h)) (digits-plain bs (and-r (isDigit b) _ h))
+
+pub decimal-plain : (x : ℕ) → plain (decimal x) ≡ true
+decimal-plain x = digits-plain (decimal x) (decimal-digits x)
+
+-- fields up to the byte that ends them, and what follows
+pub field-split : (xs ys : List ℕ) (x y : ℕ) (s t : List ℕ) → plain xs ≡ true → plain ys ≡ true → ends x ≡ true → ends y ≡ true
+    → xs ++ (x ∷ s) ≡ ys ++ (y ∷ t) → (xs ≡ ys) × (x ≡ y) × (s ≡ t)
+field-split [] [] x y s t h k p q e = (refl, cc, cc)
+field-split [] (b ∷ ys) x y s t h k p q e =
+    let same : b ≡ x = cc in
+    absurd (false≢true (sym (not-f (ends b) (and-l (not (ends b)) _ k)) ∙ ap ends same ∙ p))
+field-split (a ∷ xs) [] x y s t h k p q e =
+    let same : a ≡ y = cc in
+    absurd (false≢true (sym (not-f (ends a) (and-l (not (ends a)) _ h)) ∙ ap ends same ∙ q))
+field-split (a ∷ xs) (b ∷ ys) x y s t h k p q e =
+    let head : a ≡ b = cc in
+    let tail : xs ++ (x ∷ s) ≡ ys ++ (y ∷ t) = cc in
+    let parts = field-split xs ys x y s t (and-r (not (ends a)) _ h) (and-r (not (ends b)) _ k) p q tail in
+    (ap₂ (λ (c : ℕ) (l : List ℕ). c ∷ l) head (parts .0), parts .1, parts .2)
