@@ -57,6 +57,7 @@ two x y = x ∷ y ∷ 0 ∷ 0 ∷ 0 ∷ 0 ∷ 0 ∷ 0 ∷ []
 module _ (a : Addresses) where
   -- ---- what the rows say
 
+  -- a gate that is 0, for a slot that is to take nothing
   abbrev pub zeroGate : List Gate
   zeroGate = cell none (a .inputs) Templates.sum
 
@@ -107,6 +108,7 @@ module _ (a : Addresses) where
       let s = a .scan + 16 * a .m in
       e ∷ (e + 1) ∷ s ∷ (s + 1) ∷ (s + 2) ∷ (s + 3) ∷ (a .state + 2 * a .n) ∷ 0 ∷ []
 
+  -- one cell with these slots
   abbrev pub rule : List Gate
   rule = cell ruleSlots (a .rule) Templates.rule
 
@@ -116,9 +118,11 @@ module _ (a : Addresses) where
       let d = a .state + 2 * a .n in
       line 2 Templates.select ((a .rule + 6) ∷ (d + 1) ∷ (a .rule + 10) ∷ d ∷ 0 ∷ 0 ∷ 0 ∷ 0 ∷ []) (0 ∷ 1 ∷ 0 ∷ 1 ∷ 0 ∷ 0 ∷ 0 ∷ 0 ∷ []) (a .selects) (a .n)
 
+  -- the zeros behind the last level
   abbrev pub selectEnd : List Gate
   selectEnd = cells Templates.sum none none (a .selects + 2 + 2 * a .n) 2
 
+  -- the select cells with their zeros
   abbrev pub selects : List Gate
   selects = selectLine ++ selectEnd
 
@@ -131,13 +135,15 @@ module _ (a : Addresses) where
       array 1 Templates.level (p ∷ x ∷ (p + 1) ∷ s ∷ b ∷ 0 ∷ 0 ∷ 0 ∷ []) (0 ∷ 1 ∷ 0 ∷ k ∷ (1 + 4 * a .n) ∷ 0 ∷ 0 ∷ 0 ∷ [])
       (2 ∷ 3 * a .n ∷ 2 ∷ 0 ∷ 4 ∷ 0 ∷ 0 ∷ 0 ∷ []) b (a .n) (a .n)
 
-  -- a level's T, F and chosen variable
+  -- a level's T
   abbrev pub levelsT : List Gate
   levelsT = levels (a .levels) (a .state + 3 * a .n + 1) (a .state) 1
 
+  -- a level's F
   abbrev pub levelsF : List Gate
   levelsF = levels (a .levels + a .block) (a .state + 4 * a .n + 1) (a .state + a .n) 1
 
+  -- a level's chosen variable
   abbrev pub levelsV : List Gate
   levelsV = levels (a .levels + 2 * a .block) (a .state + 5 * a .n + 1) (a .lowest + 2) 3
 
@@ -146,15 +152,17 @@ module _ (a : Addresses) where
   assignments b t r q k s =
       cells Templates.assignment ((a .rule + 6) ∷ t ∷ r ∷ q ∷ s ∷ (a .lowest + 2) ∷ 0 ∷ 0 ∷ []) (0 ∷ 1 ∷ (1 + 4 * a .n) ∷ k ∷ 0 ∷ 3 ∷ 0 ∷ 0 ∷ []) b (a .n)
 
-  -- T gets back a level's T, F its F with the chosen variable
+  -- T gets back a level's T
   abbrev pub assignT : List Gate
   assignT = assignments (a .assignments) (a .state) (a .levels + 4 * a .n) (a .inputs) 0 (a .rule + 13)
 
+  -- F gets back a level's F with the chosen variable
   abbrev pub assignF : List Gate
   assignF =
       assignments (a .assignments + 5 * a .n) (a .state + a .n) (a .levels + a .block + 4 * a .n)
       (a .levels + 2 * a .block + 4 * a .n) (1 + 4 * a .n) (a .rule + 12)
 
+  -- the change of each depth wire
   abbrev pub depths : List Gate
   depths =
       let p = a .selects in
@@ -162,9 +170,11 @@ module _ (a : Addresses) where
 
   -- ---- the next state and the closing wire, the last wires of the circuit
 
+  -- T and F: each wire and its change
   abbrev pub nextAssignment : List Gate
   nextAssignment = array 0 Templates.sum (two (a .state) (a .assignments + 4)) (two (a .n) (5 * a .n)) (two 1 5) (a .outputs) 2 (a .n)
 
+  -- the depth
   abbrev pub nextDepth : List Gate
   nextDepth = cells Templates.sum (two (a .state + 2 * a .n) (a .depths + 2)) (two 1 3) (a .outputs + 2 * a .n) (a .n + 1)
 
@@ -174,26 +184,33 @@ module _ (a : Addresses) where
       array 0 Templates.sum (along (two (a .state + 3 * a .n + 1) (a .levels + 3)) (two (3 * a .n) 4) l) (two (a .n) (a .block)) (two 1 (1 + 4 * a .n))
       (a .outputs + 3 * a .n + 1 + 3 * a .n * l) 3 (a .n)
 
+  -- satisfied and refuted, and what the rule says of them
   abbrev pub standingSlots : List ℕ
   standingSlots = a .standing ∷ (a .rule + 3) ∷ (a .standing + 1) ∷ (a .rule + 5) ∷ 0 ∷ 0 ∷ 0 ∷ 0 ∷ []
 
+  -- the standing, and the closing wire
   abbrev pub nextStanding : List Gate
   nextStanding = cell standingSlots (a .outputs + 3 * a .n + 1 + 3 * a .n * a .n) Templates.standing
 
   -- ---- the whole
 
+  -- what the rows say, in order
   abbrev pub judging : List Gate
   judging = zeroGate ++ (variables ++ (literals ++ (scan ++ weights)))
 
+  -- the rule and its variable
   abbrev pub choosing : List Gate
   choosing = picks ++ (lowest ++ (rule ++ selects))
 
+  -- all changes
   abbrev pub changing : List Gate
   changing = levelsT ++ (levelsF ++ (levelsV ++ (assignT ++ (assignF ++ depths))))
 
+  -- all outputs
   abbrev pub outputs : List Gate
   outputs = nextAssignment ++ (nextDepth ++ (rows nextLevel (a .n) ++ nextStanding))
 
+  -- the circuit of the giant step
   abbrev pub circuit : List Gate
   circuit = judging ++ (choosing ++ (changing ++ outputs))
 
