@@ -33,16 +33,10 @@ fn timed(contenders: &[Contender]) -> std::io::Result<Vec<[Vec<f64>; 2]>> {
     Ok(times)
 }
 
-/// The median.
-fn median(mut values: Vec<f64>) -> f64 {
-    values.sort_by(f64::total_cmp);
-    (values[(RUNS - 1) / 2] + values[RUNS / 2]) / 2.0
-}
-
 /// One line of a table: the contenders' medians, the first one's ratio to the fastest of the others, and the same ratio of processor
 /// times, which tells more where other work goes on beside: a process that waits for its turn is not charged.
 fn line(name: &str, contenders: &[Contender]) -> std::io::Result<[f64; 2]> {
-    let medians: Vec<[f64; 2]> = timed(contenders)?.into_iter().map(|times| times.map(median)).collect();
+    let medians: Vec<[f64; 2]> = timed(contenders)?.into_iter().map(|times| times.map(clock::median)).collect();
     let least = |kind: usize| (1..medians.len()).min_by(|&a, &b| medians[a][kind].total_cmp(&medians[b][kind]));
     let fastest = [0, 1].map(|kind| least(kind).expect("two are compared"));
     let ratios = [0, 1].map(|kind| medians[0][kind] / medians[fastest[kind]][kind]);
