@@ -59,7 +59,7 @@ pub fn accepted((n, left, right): Size, tables: [&[u32]; 2]) -> Result<Vec<Row>,
 
 // ---- Runs
 
-/// The variables that have a value, as a word.
+/// The variables that have this value, as a word.
 fn word(values: &[Value], to: bool) -> u32 {
     values.iter().enumerate().filter(|(_, &value)| value == Some(to)).fold(0, |word, (v, _)| word | 1 << v)
 }
