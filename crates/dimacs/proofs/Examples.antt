@@ -6,8 +6,9 @@ use Prim.Native.Nat.{ℕ}
 use Prim.Native.String.{String}
 use lib.ListN.{take}
 use Rattle.words.specs.Sets.{put}
+use Rattle.words.specs.Sameness.{same}
 use Rattle.lexer.specs.Spelling.{bytes}
-use Rattle.lexer.specs.Bytes.{run, trimmed, same}
+use Rattle.lexer.specs.Bytes.{run, trimmed}
 use Rattle.lexer.specs.Pieces.{cut, filled, partsFrom}
 use Rattle.numbers.specs.Numbers.{digitsAfter, decimalOf, numberOf}
 use Rattle.dimacs.specs.Clauses.{clauses}

@@ -7,8 +7,9 @@ use Prim.Native.Nat.{ℕ}
 use native.Mathlib.Omega.{arith}
 use lib.Dec.{eqb}
 use borrow.Author.Tests.{eq-eqb, ne-eqb}
+use Rattle.words.specs.Sameness.{same}
 use Rattle.lexer.specs.Spelling.{bytes}
-use Rattle.lexer.specs.Bytes.{isBlank, same}
+use Rattle.lexer.specs.Bytes.{isBlank}
 use Rattle.lexer.specs.Pieces.{Piece, partsFrom}
 use Rattle.lexer.specs.Places.{part}
 use Rattle.lexer.proofs.Cuts.{Found}

@@ -4,8 +4,9 @@ use mathlib.Core.Bool.{Bool, _&&_, cond}
 use mathlib.Core.List.{List, [], _∷_}
 use lib.Dec.{eqb}
 use lib.ListN.{getD}
+use Rattle.words.specs.Sameness.{same}
 use Rattle.lexer.specs.Spelling.{bytes}
-use Rattle.lexer.specs.Bytes.{isBlank, isTail, trimmed, same}
+use Rattle.lexer.specs.Bytes.{isBlank, isTail, trimmed}
 use Rattle.lexer.specs.Pieces.{Piece, partsFrom}
 use Rattle.numbers.specs.Numbers.{Number, numberOf}
 

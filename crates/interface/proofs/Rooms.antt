@@ -18,9 +18,9 @@ use Rattle.dimensions.specs.Sizes.{outside}
 use Rattle.state.specs.declared.Run.{Run}
 use Rattle.state.specs.State.{fresh, runOf}
 use Rattle.stored.specs.Words.{wordsOf, stored}
-use Rattle.wires.specs.declared.Read.{Read}
-use Rattle.wires.specs.Unpacking.{runIn}
-use Rattle.wires.specs.Reading.{readChecks, readBack}
+use Rattle.readback.specs.declared.Read.{Read}
+use Rattle.readback.specs.Unpacking.{runIn}
+use Rattle.readback.specs.Reading.{readChecks, readBack}
 use Rattle.lent.specs.Lent.{storedIf}
 use Rattle.interface.specs.Lent.{roomCheck, freshChecks, backChecks}
 use Rattle.interface.proofs.Capped.{outside-held, inside-held}

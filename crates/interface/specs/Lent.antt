@@ -15,7 +15,7 @@ use Rattle.dimensions.specs.declared.Dimensions.{Dimensions}
 use Rattle.solver.specs.declared.Stepped.{Stepped}
 use Rattle.solver.specs.Entries.{stepped}
 use Rattle.stored.specs.Words.{runIn}
-use Rattle.wires.specs.Reading.{readChecks}
+use Rattle.readback.specs.Reading.{readChecks}
 use Rattle.repeats.specs.declared.Applied.{Applied}
 use Rattle.repeats.specs.Application.{applied}
 use Rattle.lent.specs.Lent.{frontIf, storedIf, textOutcome, pairRoom}

@@ -7,7 +7,7 @@ ghost use Rattle.refusals.specs.Checks.{outcome};
 ghost use Rattle.evaluator.specs.Evaluation.{checks, filled};
 ghost use Rattle.generator.specs.Generation as Generation;
 ghost use Rattle.wires.specs.Packing.{packChecks, packed};
-ghost use Rattle.wires.specs.Reading.{readBack};
+ghost use Rattle.readback.specs.Reading.{readBack};
 ghost use Rattle.repeats.specs.Application.{bytesAfter, wiresAfter};
 ghost use Rattle.stored.specs.Words.{runIn};
 ghost use Rattle.lent.specs.Codes.{codeOf};
@@ -73,7 +73,7 @@ pub extern "C" fn forkhemit_read_back(n: u64, bytes: &[u8], run: &mut [u32]) -> 
     ensures { λ r. ⌜ r ≡ codeOf (outcome (backChecks n (now (bytes .entry)) (now (run .entry)))) ⌝ }
     ensures { λ _. ⌜ now (run .exit) ≡ storedIf (outcome (backChecks n (now (bytes .entry)) (now (run .entry)))) (readBack n (now (bytes .entry)) .run) (now (run .entry)) ⌝ }
 {
-    let read = wires::read_back(lent::byte(n), bytes);
+    let read = readback::read_back(lent::byte(n), bytes);
     let outcome = read.outcome;
     let next = read.run;
     match outcome {

@@ -1,18 +1,15 @@
--- Runs of bytes, a byte at a time from the front, and equal texts.
+-- Where a run of bytes ends. From whether the first of the bytes that are left passes.
 -- Assumes nothing.
-use mathlib.Core.Path.{_≡_, refl, sym, ap, ap₂, _∙_}
-use mathlib.Core.Bool.{Bool, true, false, cond, true≢false, false≢true}
+use mathlib.Core.Path.{_≡_}
+use mathlib.Core.Bool.{Bool, true, false, cond}
 use mathlib.Core.List.{List, [], _∷_}
 use Prim.Native.Nat.{ℕ, suc, _+_, _≤_, _<_}
 use native.Mathlib.Nat.{add-zero}
 use native.Mathlib.Numerals.{add-one}
 use native.Mathlib.Omega.{arith}
-use lib.Dec.{eqb}
 use lib.ListN.{length, drop, getD, drop-of-length-le, length-drop}
 use lib.Seq.{drop-cons}
-use borrow.Author.Tests.{eq-eqb, eqb-true}
-use Rattle.words.proofs.Truth.{on, and-l, and-r}
-use Rattle.lexer.specs.Bytes.{run, same}
+use Rattle.lexer.specs.Bytes.{run}
 use Rattle.lexer.specs.Places.{runEnd}
 
 -- past the end there is no run
@@ -46,25 +43,3 @@ end-ge p text at = omega arith
 pub end-le : (p : ℕ → Bool) (text : List ℕ) (at : ℕ) → at ≤ length text → runEnd p text at ≤ length text
 unfolding runEnd
 end-le p text at h = omega (arith, run-le p (drop at text), length-drop at text)
-
--- ---- equal texts
-
-same-self : (a : List ℕ) → same a a ≡ true
-unfolding same
-same-self [] = refl
-same-self (x ∷ xs) = rw (eq-eqb x x refl) (same-self xs)
-
-same-true : (a b : List ℕ) → same a b ≡ true → a ≡ b
-unfolding same
-same-true [] [] e = refl
-same-true [] (y ∷ ys) e = absurd (false≢true e)
-same-true (x ∷ xs) [] e = absurd (false≢true e)
-same-true (x ∷ xs) (y ∷ ys) e =
-    ap₂ (λ (b : ℕ) (l : List ℕ). b ∷ l) (eqb-true x y (and-l (eqb x y) (same xs ys) e)) (same-true xs ys (and-r (eqb x y) (same xs ys) e))
-
--- a test that holds exactly if the texts are equal
-pub same-is : (r : Bool) (a b : List ℕ) → (r ≡ true → a ≡ b) × (a ≡ b → r ≡ true) → r ≡ same a b
-same-is r a b h =
-    on (same a b)
-    (λ e. h .1 (same-true a b e) ∙ sym e)
-    (λ e. on r (λ t. absurd (true≢false (sym (same-self a) ∙ ap (same a) (h .0 t) ∙ e))) (λ f. f ∙ sym e))

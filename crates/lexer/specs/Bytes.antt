@@ -1,6 +1,6 @@
 -- Kinds of bytes, and runs of them in a text (document 01, "DIMACS").
 use Prim.Native.Nat.{ℕ, suc}
-use mathlib.Core.Bool.{Bool, true, false, _&&_, _||_, cond}
+use mathlib.Core.Bool.{Bool, _||_, cond}
 use mathlib.Core.List.{List, [], _∷_, reverse}
 use lib.Dec.{eqb}
 use lib.ListN.{drop}
@@ -29,10 +29,3 @@ run p (b ∷ bs) = cond (p b) (suc (run p bs)) 0
 -- a text without the bytes that pass at its end
 unfoldable pub trimmed : (ℕ → Bool) → List ℕ → List ℕ
 trimmed p text = reverse (drop (run p (reverse text)) (reverse text))
-
--- whether two texts are the same bytes
-unfoldable pub same : List ℕ → List ℕ → Bool
-same [] [] = true
-same [] (b ∷ bs) = false
-same (a ∷ xs) [] = false
-same (a ∷ xs) (b ∷ bs) = eqb a b && same xs bs

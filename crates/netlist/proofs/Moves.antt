@@ -18,8 +18,8 @@ use Rattle.state.specs.declared.Standing.the-variants.{Open}
 use Rattle.state.specs.State.{State, isSatisfied}
 use Rattle.wires.specs.Layout.{onLevel, isRefuted}
 use Rattle.wires.specs.Bits.{Bits, bitsIn}
+use Rattle.wires.proofs.Levels.{level-last}
 use Rattle.wires.proofs.Addresses.{Same}
-use Rattle.wires.proofs.StateBack.{level-last}
 use Rattle.netlist.proofs.Equations.{Signals}
 use Rattle.netlist.proofs.Chains.{xor-false, parity, parity-none, parity-at}
 use Rattle.netlist.proofs.Levels.{level-added, level-removed}

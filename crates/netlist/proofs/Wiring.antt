@@ -10,7 +10,7 @@ use Rattle.words.specs.Booleans.{_⊕_}
 use Rattle.words.proofs.Truth.{taut4, same, same-eq}
 use Rattle.gates.specs.Gates.{Gate, wire, wiresOf}
 use Rattle.gates.proofs.Circuits.{ordered}
-use Rattle.wires.specs.Unpacking.{stateAt}
+use Rattle.wires.specs.Bits.{stateAt}
 use Rattle.netlist.specs.declared.Addresses.{Addresses}
 use Rattle.netlist.specs.Templates as Templates
 use Rattle.netlist.specs.Arrays.{none}

@@ -31,12 +31,12 @@ use Rattle.gates.specs.Gates.{Gate, wiresOf}
 use Rattle.gates.specs.Memory as Memory
 use Rattle.gates.specs.Memory.{bytesOf, over}
 use Rattle.gates.proofs.InMemory.{words-length, gates-words}
-use Rattle.wires.specs.declared.Read.{Read}
 use Rattle.wires.specs.Layout.{stateBits}
 use Rattle.wires.specs.Packing.{inputBits, packChecks}
 use Rattle.wires.proofs.Lengths.{state-length}
 use Rattle.wires.proofs.Checks.{Passed, passed, state-decides, refuse-room}
-use Rattle.wires.proofs.RoundTrip.{read-packed}
+use Rattle.readback.specs.declared.Read.{Read}
+use Rattle.readback.proofs.RoundTrip.{read-packed}
 use Rattle.netlist.specs.Netlist.{gatesOn}
 use Rattle.netlist.specs.Outputs.{closed, outputBits, outputsIn}
 use Rattle.netlist.proofs.EveryState.{gates-accepted, outputs-filled}

@@ -26,11 +26,11 @@ use Rattle.gates.specs.Memory.{accepted, gatesOf, bitsOf, bytesOf, over}
 use Rattle.evaluator.specs.Evaluation.{checks, filled}
 use Rattle.gates.proofs.InMemory.{bits-bytes, bitsOf-bytesOf}
 use Rattle.evaluator.proofs.Evaluation as Evaluation
-use Rattle.wires.specs.declared.Read.{Read}
 use Rattle.wires.specs.Packing.{inputBits, packChecks, packed}
-use Rattle.wires.specs.Reading.{readBack}
 use Rattle.wires.proofs.Lengths.{input-length}
-use Rattle.wires.proofs.RoundTrip.{packed-front}
+use Rattle.wires.proofs.Checks.{packed-front}
+use Rattle.readback.specs.declared.Read.{Read}
+use Rattle.readback.specs.Reading.{readBack}
 use Rattle.netlist.specs.Outputs.{outputsIn}
 use Rattle.repeats.specs.declared.Applied.{Applied}
 use Rattle.repeats.specs.Application.{turnedBack, nextRun, inputs, judged, bytesAfter, wiresAfter, applied}

@@ -13,7 +13,7 @@ use Rattle.dimensions.specs.Sizes.{stateWires, inputWires}
 use Rattle.state.specs.declared.Run.{Run}
 use Rattle.evaluator.specs.Evaluation.{checks, filled}
 use Rattle.wires.specs.Packing.{packChecks, packed}
-use Rattle.wires.specs.Reading.{readBack}
+use Rattle.readback.specs.Reading.{readBack}
 use Rattle.netlist.specs.Outputs.{outputsIn}
 use Rattle.repeats.specs.declared.Applied.{Applied}
 

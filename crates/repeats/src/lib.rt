@@ -33,7 +33,7 @@ fn next_run(n: u8, run: Run, outputs: &[u8]) -> Applied
     requires { ⌜ length (now outputs) ≡ stateWires n + 1 ⌝ }
     ensures { λ r. ⌜ r ≡ nextRun n run (now (outputs .entry)) ⌝ }
 {
-    let read = wires::read_back(n, outputs);
+    let read = readback::read_back(n, outputs);
     let outcome = read.outcome;
     let next = read.run;
     match outcome {

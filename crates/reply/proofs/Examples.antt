@@ -5,8 +5,9 @@ use mathlib.Core.List.{List}
 use Prim.Native.Nat.{ℕ}
 use Prim.Native.String.{String}
 use Rattle.words.specs.Sets.{bit, put, any, count, lowest}
+use Rattle.words.specs.Sameness.{same}
 use Rattle.lexer.specs.Spelling.{bytes}
-use Rattle.lexer.specs.Bytes.{run, trimmed, same}
+use Rattle.lexer.specs.Bytes.{run, trimmed}
 use Rattle.lexer.specs.Pieces.{cut, filled, partsFrom}
 use Rattle.numbers.specs.Numbers.{digitsAfter, decimalOf, numberOf}
 use Rattle.text.specs.Decimal.{decimal}

@@ -4,15 +4,12 @@ use mathlib.Core.Path.{_≡_, refl, sym, ap, ap₂, _∙_}
 use mathlib.Core.Bool.{true, not}
 use mathlib.Core.List.{List, _++_}
 use Prim.Native.Nat.{ℕ}
-use lib.Dec.{eqb}
-use borrow.Author.Tests.{eqb-true, not-false}
 use Rattle.refusals.specs.Checks.{outcome, given}
 use Rattle.refusals.specs.declared.Outcome.{Outcome}
 use Rattle.refusals.specs.declared.Outcome.the-variants.{Taken, Refused}
 use Rattle.refusals.specs.declared.Refusal.{Refusal}
-use Rattle.refusals.specs.declared.Refusal.the-variants.{OtherVariables}
 use Rattle.refusals.specs.declared.Refusal.the-variants as refusal
-use Rattle.refusals.proofs.Outcomes.{outcome-taken, outcome-refused, check-passed, checks-taken, refused-taken}
+use Rattle.refusals.proofs.Outcomes.{outcome-taken, outcome-refused, refused-taken}
 use Rattle.tables.specs.Acceptance.{tableChecks}
 use Rattle.tables.specs.Rows.{rowsOf}
 use Rattle.dimensions.specs.declared.Dimensions.{Dimensions}
@@ -24,6 +21,7 @@ use Rattle.state.specs.State.{stateOf, runOf}
 use Rattle.solver.specs.Step.{step}
 use Rattle.solver.specs.Entries.{answerOf, stepped, solved}
 use Rattle.state.specs.WellFormed.{wellFormed, stateChecks}
+use Rattle.state.proofs.Checks.{state-formed, state-same}
 
 -- ---- the checks of tables and run
 
@@ -49,10 +47,10 @@ module _ (d : Dimensions) (left right : List ℕ) (run : Run) where
       go : (o : Outcome) → outcome (tableChecks d left right) ≡ o → Passed
       go Taken q =
           let s : outcome (stateChecks d run) ≡ Taken = state-decides (sym q) ∙ sym e in
-          let s₁ = checks-taken (not (wellFormed run)) refusal.State _ s in record {
+          record {
             tables = q;
-            formed = not-false (wellFormed run) (check-passed (not (wellFormed run)) refusal.State _ s);
-            same = eqb-true (run .n) (d .n) (not-false (eqb (run .n) (d .n)) (check-passed (not (eqb (run .n) (d .n))) OtherVariables _ s₁));
+            formed = state-formed d run s;
+            same = state-same d run s;
           }
       go (Refused r) q = absurd (refused-taken (refuse-tables r (sym q) ∙ sym e))
 

@@ -12,10 +12,9 @@ use Rattle.tables.specs.declared.Row.{Row}
 use Rattle.dimensions.specs.Sizes.{stateWires}
 use Rattle.gates.specs.Gates.{wire}
 use Rattle.wires.specs.Layout.{upto, joined, rowBits, rowsBits}
-use Rattle.wires.specs.Bits.{Bits, inOrder}
-use Rattle.wires.specs.Unpacking.{levelAt, stateAt}
+use Rattle.wires.specs.Bits.{Bits, inOrder, levelAt, stateAt}
 use Rattle.wires.proofs.Series.{upto-at, upto-here, upto-past, upto-cong, upto-add, joined-cong, joined-at, joined-past, upto-mul}
-use Rattle.wires.proofs.Lengths.{row-length, group-length, width-is}
+use Rattle.wires.proofs.Lengths.{row-length, level-length, width-is}
 
 -- ---- bits that are the same on every wire
 
@@ -99,7 +98,7 @@ module _ (n : ℕ) (b : Bits) where
     levels-at k = upto-past (b .T) n _ (n + (suc n + k)) ∙ upto-past (b .F) n _ (suc n + k) ∙ upto-past (b .depth) (suc n) _ k
 
     level-at : (l i : ℕ) → l < n → i < n + (n + n) → wire W (n + (n + (suc n + (levelAt n l + i)))) ≡ wire (level l) i
-    level-at l i h k = levels-at (levelAt n l + i) ∙ joined-at (n + (n + n)) level n _ l i (group-length n b) h k
+    level-at l i h k = levels-at (levelAt n l + i) ∙ joined-at (n + (n + n)) level n _ l i (λ l. level-length n _ _ _) h k
 
     parts-at : Same n (stateAt n (λ k. wire W k)) b
     parts-at = record {
@@ -109,8 +108,8 @@ module _ (n : ℕ) (b : Bits) where
       same-levelT = λ l i h k. level-at l i h (omega arith) ∙ upto-here _ n _ i k;
       same-levelF = λ l i h k. level-at l (n + i) h (omega arith) ∙ upto-past _ n _ i ∙ upto-here _ n _ i k;
       same-chosen = λ l i h k. level-at l (n + (n + i)) h (omega arith) ∙ upto-past _ n _ (n + i) ∙ upto-past _ n _ i ∙ upto-at _ n i k;
-      same-satisfied = levels-at _ ∙ joined-past (n + (n + n)) level n _ 0 (group-length n b);
-      same-refuted = levels-at _ ∙ joined-past (n + (n + n)) level n _ 1 (group-length n b);
+      same-satisfied = levels-at _ ∙ joined-past (n + (n + n)) level n _ 0 (λ l. level-length n _ _ _);
+      same-refuted = levels-at _ ∙ joined-past (n + (n + n)) level n _ 1 (λ l. level-length n _ _ _);
     }
 
     pub state-at : Same n (stateAt n (λ k. wire (inOrder n b ++ rest) k)) b

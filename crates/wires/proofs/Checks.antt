@@ -1,33 +1,34 @@
--- What the checks of packing and of reading back lead to, each by its condition. From the order of the checks.
+-- What the checks of packing lead to, each by its condition. From the order of the checks.
 -- Assumes nothing.
 use mathlib.Core.Path.{_≡_, refl, sym, ap, _∙_}
-use mathlib.Core.Bool.{Bool, true, false, not, _&&_}
+use mathlib.Core.Bool.{true, false}
 use mathlib.Core.List.{List, _∷_}
 use Prim.Native.Nat.{ℕ, _≤_, _<_}
-use lib.Dec.{eqb, ltb}
-use lib.ListN.{length, take}
-use borrow.Author.Tests.{lt-ltb, le-ltb, ltb-false, eq-eqb, eqb-true, not-false}
+use lib.Dec.{ltb}
+use lib.ListN.{length, take, length-map}
+use lib.Seq.{take-at}
+use borrow.Author.Tests.{lt-ltb, le-ltb, ltb-false}
 use Rattle.refusals.specs.Checks.{Check, check, outcome}
 use Rattle.refusals.specs.declared.Outcome.{Outcome}
 use Rattle.refusals.specs.declared.Outcome.the-variants.{Taken, Refused}
 use Rattle.refusals.specs.declared.Refusal.{Refusal}
-use Rattle.refusals.specs.declared.Refusal.the-variants.{Variables, Wires, OtherVariables}
+use Rattle.refusals.specs.declared.Refusal.the-variants.{Wires}
 use Rattle.refusals.specs.declared.Refusal.the-variants as refusal
 use Rattle.refusals.proofs.Outcomes.{outcome-taken, outcome-refused, check-passed, checks-taken, refused-taken}
-use Rattle.words.proofs.Truth.{on}
+use Rattle.words.specs.Booleans.{digit}
 use Rattle.dimensions.specs.declared.Dimensions.{Dimensions}
-use Rattle.dimensions.specs.Sizes.{outside, stateWires, inputWires}
+use Rattle.dimensions.specs.Sizes.{stateWires, inputWires}
 use Rattle.tables.specs.Acceptance.{tableChecks}
 use Rattle.tables.proofs.Accepted.{Accepted, accepted}
 use Rattle.state.specs.declared.Run.{Run}
-use Rattle.state.specs.State.{fresh, stateOf, runOf}
+use Rattle.state.specs.State.{stateOf}
 use Rattle.state.specs.WellFormed.{wellFormed, stateChecks}
+use Rattle.state.proofs.Checks.{state-formed, state-same}
 use Rattle.gates.specs.Memory.{bytesOf, over}
-use Rattle.wires.specs.declared.Read.{Read}
-use Rattle.wires.specs.Packing.{inputBits, packChecks, packed}
 use Rattle.wires.specs.Layout.{stateBits}
-use Rattle.wires.specs.Unpacking.{same, runIn, holdsState}
-use Rattle.wires.specs.Reading.{readBack}
+use Rattle.wires.specs.Packing.{inputBits, packChecks, packed}
+use Rattle.wires.specs.StatePacking.{statePackChecks, packedState}
+use Rattle.wires.proofs.Lengths.{input-length}
 
 module _ (d : Dimensions) (left right : List ℕ) (run : Run) (room : ℕ) where
   abbrev later : List Check
@@ -55,19 +56,6 @@ pub record Passed (d : Dimensions) (left right : List ℕ) (run : Run) (room : �
   pub formed : wellFormed run ≡ true
   pub same : run .n ≡ d .n
 
--- the run passed its checks
-module _ (d : Dimensions) (run : Run) where
-  pub state-formed : outcome (stateChecks d run) ≡ Taken → wellFormed run ≡ true
-  state-formed e = not-false (wellFormed run) (check-passed (not (wellFormed run)) refusal.State _ e)
-
-  state-same : outcome (stateChecks d run) ≡ Taken → run .n ≡ d .n
-  state-same e =
-      eqb-true (run .n) (d .n) (not-false (eqb (run .n) (d .n)) (check-passed (not (eqb (run .n) (d .n))) OtherVariables _ (checks-taken (not (wellFormed run)) refusal.State _ e)))
-
-  -- a run of n that is refused is not well-formed
-  pub state-malformed : run .n ≡ d .n → (r : Refusal) → outcome (stateChecks d run) ≡ Refused r → wellFormed run ≡ false
-  state-malformed h r e = on (wellFormed run) (λ q. absurd (refused-taken (sym e ∙ rw (q, eq-eqb (run .n) (d .n) h)))) (λ q. q)
-
 pub passed : (d : Dimensions) (left right : List ℕ) (run : Run) (room : ℕ) → outcome (packChecks d left right run room) ≡ Taken → Passed d left right run room
 passed d left right run room e = go (outcome (tableChecks d left right)) refl
   where
@@ -93,31 +81,23 @@ module _ (d : Dimensions) (left right : List ℕ) (run : Run) (bytes : List ℕ)
   unfolding packed
   pack-taken e = rw e
 
-module _ (n : ℕ) (bytes : List ℕ) where
-  pub no-variables : outside 32 n ≡ true → _≡_ {A = Read} (record { outcome = Refused Variables; run = runOf n fresh }) (readBack n bytes)
-  unfolding readBack
-  no-variables e = rw e
+  -- the front then holds the input values, as many bytes as there are input wires
+  pub packed-front : outcome (packChecks d left right run (length bytes)) ≡ Taken → take (inputWires d) (packed d left right run bytes) ≡ bytesOf (inputBits d left right (stateOf run))
+  packed-front e =
+      ap (take (inputWires d)) (sym (pack-taken e))
+      ∙ take-at (bytesOf (inputBits d left right (stateOf run))) _ (inputWires d)
+      (length-map (inputBits d left right (stateOf run)) digit ∙ input-length d left right (stateOf run))
 
-  module _ (e : outside 32 n ≡ false) where
-    pub no-room : length bytes < stateWires n → _≡_ {A = Read} (record { outcome = Refused Wires; run = runOf n fresh }) (readBack n bytes)
-    unfolding readBack
-    no-room h = rw (e, lt-ltb (length bytes) (stateWires n) h)
+module _ (run : Run) (bytes : List ℕ) where
+  pub state-no-room : length bytes < stateWires (run .n) → (Refused Wires ≡ outcome (statePackChecks run (length bytes))) × (bytes ≡ packedState run bytes)
+  unfolding packedState
+  state-no-room h = let e = lt-ltb (length bytes) (stateWires (run .n)) h in (rw e, rw e)
 
-    module _ (h : stateWires n ≤ length bytes) where
-      pub no-state : holdsState n bytes ≡ false → _≡_ {A = Read} (record { outcome = Refused refusal.State; run = runOf n fresh }) (readBack n bytes)
-      unfolding readBack
-      no-state k = rw (e, le-ltb (length bytes) (stateWires n) h, k)
+  module _ (h : stateWires (run .n) ≤ length bytes) where
+    pub state-malformed : wellFormed run ≡ false → (Refused refusal.State ≡ outcome (statePackChecks run (length bytes))) × (bytes ≡ packedState run bytes)
+    unfolding packedState
+    state-malformed k = let e = le-ltb (length bytes) (stateWires (run .n)) h in (rw (e, k), rw (e, k))
 
-      pub read-taken : holdsState n bytes ≡ true → _≡_ {A = Read} (record { outcome = Taken; run = runIn n bytes }) (readBack n bytes)
-      unfolding readBack
-      read-taken k = rw (e, le-ltb (length bytes) (stateWires n) h, k)
-
-  -- what comparing the packed run with the bytes found
-  pub found : (run : Run) (r : Bool) → run ≡ runIn n bytes → r ≡ wellFormed run && same (bytesOf (stateBits n (stateOf run))) (take (stateWires n) bytes)
-      → holdsState n bytes ≡ r
-  unfolding holdsState
-  found run r e q = sym (q ∙ ap (λ (x : Run). wellFormed x && same (bytesOf (stateBits n (stateOf x))) (take (stateWires n) bytes)) e)
-
-  pub run-variables : (run : Run) → run ≡ runIn n bytes → run .n ≡ n
-  unfolding runIn runOf
-  run-variables run e = ap (λ (x : Run). x .n) e
+    pub state-taken : wellFormed run ≡ true → (Taken ≡ outcome (statePackChecks run (length bytes))) × (over (bytesOf (stateBits (run .n) (stateOf run))) bytes ≡ packedState run bytes)
+    unfolding packedState
+    state-taken k = let e = le-ltb (length bytes) (stateWires (run .n)) h in (rw (e, k), rw (e, k))

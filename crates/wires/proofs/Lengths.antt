@@ -1,33 +1,28 @@
 -- How many wires rows and a state have: the sum of their parts.
 -- Assumes nothing.
 use mathlib.Core.Path.{_≡_, refl, sym, ap, ap₂, _∙_}
+use mathlib.Core.Bool.{Bool}
 use mathlib.Core.List.{List, [], _∷_, _++_}
-use Prim.Native.Nat.{ℕ, zero, suc, _+_, _*_, _≤_}
-use native.Mathlib.Nat.{mul-zero, mul-suc, add-mul, mul-add, mul-le-mul}
+use Prim.Native.Nat.{ℕ, zero, suc, _+_, _*_}
+use native.Mathlib.Nat.{mul-zero, mul-suc, add-mul, mul-add}
 use native.Mathlib.Omega.{arith}
 use lib.ListN.{length, length-append}
 use Rattle.dimensions.specs.declared.Dimensions.{Dimensions}
 use Rattle.tables.specs.declared.Row.{Row}
 use Rattle.tables.specs.Rows.{rowsFrom, rowsOf}
 use Rattle.dimensions.specs.Sizes.{rowCount, stateWires, inputWires}
-use Rattle.state.specs.declared.Level.{Level}
 use Rattle.state.specs.State.{State}
 use Rattle.wires.specs.Layout.{upto, rowBits, rowsBits, stateBits}
-use Rattle.wires.specs.Bits.{Bits, bitsIn, inOrder}
-use Rattle.wires.specs.Levels.{levelBits}
+use Rattle.wires.specs.Bits.{Bits, bitsIn, inOrder, levelAt}
 use Rattle.wires.specs.Packing.{inputBits}
-use Rattle.wires.specs.Unpacking.{levelAt}
 use Rattle.wires.proofs.Series.{length-upto, length-joined}
 
 pub row-length : (n : ℕ) (r : Row) → length (rowBits n r) ≡ n + n
 row-length n r = simp (length-append, length-upto)
 
-pub level-length : (n : ℕ) (x : Level) → length (levelBits n x) ≡ n + (n + n)
-level-length n x = simp (length-append, length-upto)
-
--- the levels' wires of any bits
-pub group-length : (n : ℕ) (b : Bits) (l : ℕ) → length (upto (b .levelT l) n ++ (upto (b .levelF l) n ++ upto (b .chosen l) n)) ≡ n + (n + n)
-group-length n b l = simp (length-append, length-upto)
+-- a level's wires: three groups of n
+pub level-length : (n : ℕ) (t f v : ℕ → Bool) → length (upto t n ++ (upto f n ++ upto v n)) ≡ n + (n + n)
+level-length n t f v = simp (length-append, length-upto)
 
 -- the state's wires, part by part
 abbrev pub stateWidth : ℕ → ℕ
@@ -40,19 +35,15 @@ width-is n = omega (arith, add-mul n (n + n) n, add-mul n n n, add-mul (n + n) n
     thrice : (n : ℕ) → 3 * n ≡ n + n + n
     thrice n = omega arith
 
-pub order-length : (n : ℕ) (b : Bits) → length (inOrder n b) ≡ stateWidth n
+order-length : (n : ℕ) (b : Bits) → length (inOrder n b) ≡ stateWidth n
 unfolding inOrder
 order-length n b =
-    let e = length-joined (n + (n + n)) (λ l. upto (b .levelT l) n ++ (upto (b .levelF l) n ++ upto (b .chosen l) n)) n (group-length n b) in
+    let e = length-joined (n + (n + n)) (λ l. upto (b .levelT l) n ++ (upto (b .levelF l) n ++ upto (b .chosen l) n)) n (λ l. level-length n _ _ _) in
     simp (length-append, length-upto) (ap (λ (k : ℕ). n + (n + (suc n + (k + 2)))) e)
 
 pub state-length : (n : ℕ) (s : State) → length (stateBits n s) ≡ stateWires n
 unfolding stateBits inOrder
 state-length n s = order-length n (bitsIn s) ∙ width-is n
-
--- a state of at most 32 variables has at most 3171 wires
-pub state-most : (n : ℕ) → n ≤ 32 → stateWires n ≤ 3171
-state-most n h = omega (arith, mul-le-mul {n₁ = 3 * n} {m₁ = n} {n₂ = 96} {m₂ = 32} (omega arith) h)
 
 pub rows-length : (n : ℕ) (rows : List Row) → length (rowsBits n rows) ≡ (n + n) * length rows
 unfolding rowsBits

@@ -3,10 +3,5 @@ pub mod Lengths
 pub mod Addresses
 pub mod Stores
 pub mod Tables
-pub mod ArrayLevels
-pub mod Words
-pub mod RunRead
-pub mod Sameness
+pub mod Levels
 pub mod Checks
-pub mod StateBack
-pub mod RoundTrip

@@ -7,8 +7,8 @@ use Prim.Native.Nat.{ℕ, suc, _+_, _*_, _≤_, _<_}
 use native.Mathlib.Nat.{zero-add, mul-zero, mul-suc, mul-le-mul-left}
 use native.Mathlib.Numerals.{add-one}
 use native.Mathlib.Omega.{arith}
-use lib.ListN.{length, set, take, drop, length-map}
-use lib.Seq.{sets, sets-eq, length-sets, take-at}
+use lib.ListN.{length, set, drop, length-map}
+use lib.Seq.{sets, sets-eq, length-sets}
 use Rattle.words.specs.Booleans.{digit}
 use Rattle.words.proofs.Stores.{sets-append}
 use Rattle.gates.specs.Memory.{bytesOf, over}
@@ -19,10 +19,10 @@ use Rattle.wires.proofs.Series.{length-upto, upto-more, length-joined, 
 abbrev pub stored : List ℕ → ℕ → List Bool → List ℕ
 stored b at w = sets b at (bytesOf w)
 
-pub stored-length : (b : List ℕ) (at : ℕ) (w : List Bool) → length (stored b at w) ≡ length b
+stored-length : (b : List ℕ) (at : ℕ) (w : List Bool) → length (stored b at w) ≡ length b
 stored-length b at w = length-sets b at (bytesOf w)
 
-pub stored-append : (b : List ℕ) (at : ℕ) (v w : List Bool) → stored b at (v ++ w) ≡ stored (stored b at v) (at + length v) w
+stored-append : (b : List ℕ) (at : ℕ) (v w : List Bool) → stored b at (v ++ w) ≡ stored (stored b at v) (at + length v) w
 stored-append b at v w =
     ap (λ (l : List ℕ). sets b at l) (map-append digit v w)
     ∙ sets-append (bytesOf v) (bytesOf w) b at
@@ -80,8 +80,3 @@ pub stored-front : (b : List ℕ) (w : List Bool) → length w ≤ length b → 
 stored-front b w h =
     sets-eq (bytesOf w) b 0 (omega (arith, length-map w digit))
     ∙ ap (λ (k : ℕ). bytesOf w ++ drop k b) (zero-add (length (bytesOf w)))
-
--- what was stored at the front is read there
-pub stored-take : (b : List ℕ) (w : List Bool) (k : ℕ) {c : List ℕ} → k ≡ length w → length w ≤ length b → c ≡ stored b 0 w → take k c ≡ bytesOf w
-stored-take b w k e h q =
-    ap (take k) (q ∙ stored-front b w h) ∙ take-at (bytesOf w) (drop (length (bytesOf w)) b) k (length-map w digit ∙ sym e)

@@ -19,7 +19,7 @@ use Rattle.wires.specs.Packing.{inputBits}
 use Rattle.wires.proofs.Lengths.{rows-length, table-length, input-length}
 use Rattle.wires.proofs.Stores.{stored, stored-then, stored-front}
 
-pub rows-append : (n : ℕ) (xs ys : List Row) → rowsBits n (xs ++ ys) ≡ rowsBits n xs ++ rowsBits n ys
+rows-append : (n : ℕ) (xs ys : List Row) → rowsBits n (xs ++ ys) ≡ rowsBits n xs ++ rowsBits n ys
 unfolding rowsBits
 rows-append n [] ys = refl
 rows-append n (x ∷ xs) ys = ap (λ (l : List Bool). rowBits n x ++ l) (rows-append n xs ys) ∙ sym (append-assoc (rowBits n x) (rowsBits n xs) (rowsBits n ys))
@@ -34,8 +34,8 @@ rows-from n words i (suc k) =
     next : (j : ℕ) → suc i + j ≡ i + suc j
     next j = omega arith
 
-pub rows-joined : (n : ℕ) (words : List ℕ) (k : ℕ) → joined (λ j. rowBits n (rowAt words j)) k ≡ rowsBits n (rowsFrom words 0 k)
-rows-joined n words k =
+pub table-joined : (n : ℕ) (words : List ℕ) (k : ℕ) → joined (λ j. rowBits n (rowAt words j)) k ≡ rowsBits n (rowsFrom words 0 k)
+table-joined n words k =
     ap (λ (f : ℕ → List Bool). joined f k) (fun-ext (λ j. ap (λ (m : ℕ). rowBits n (rowAt words m)) (front j))) ∙ sym (rows-from n words 0 k)
   where
     front : (j : ℕ) → j ≡ 0 + j

@@ -1,5 +1,5 @@
--- A state's wires by name, for the proofs; no contract cites this.
-use Prim.Native.Nat.{ℕ, suc}
+-- A state's wires by name and by number, for the proofs; no contract cites this.
+use Prim.Native.Nat.{ℕ, suc, _+_, _*_}
 use mathlib.Core.Bool.{Bool}
 use mathlib.Core.List.{List, [], _∷_, _++_}
 use lib.Dec.{eqb}
@@ -19,6 +19,7 @@ pub record Bits : Type 0 where
   pub satisfied : Bool
   pub refuted : Bool
 
+-- the bits of a state
 abbrev pub bitsIn : State → Bits
 bitsIn s = record {
   T = λ i. bit (s .t) i;
@@ -36,3 +37,20 @@ unfoldable pub inOrder : ℕ → Bits → List Bool
 inOrder n b =
     upto (b .T) n ++ (upto (b .F) n ++ (upto (b .depth) (suc n)
     ++ (joined (λ l. upto (b .levelT l) n ++ (upto (b .levelF l) n ++ upto (b .chosen l) n)) n ++ (b .satisfied ∷ (b .refuted ∷ [])))))
+
+-- where a level's wires begin, among the levels'
+abbrev pub levelAt : ℕ → ℕ → ℕ
+levelAt n l = (n + (n + n)) * l
+
+-- the bits of a state whose wire k holds f k
+abbrev pub stateAt : ℕ → (ℕ → Bool) → Bits
+stateAt n f = record {
+  T = λ i. f i;
+  F = λ i. f (n + i);
+  depth = λ k. f (n + (n + k));
+  levelT = λ l i. f (n + (n + (suc n + (levelAt n l + i))));
+  levelF = λ l i. f (n + (n + (suc n + (levelAt n l + (n + i)))));
+  chosen = λ l i. f (n + (n + (suc n + (levelAt n l + (n + (n + i))))));
+  satisfied = f (n + (n + (suc n + (levelAt n n + 0))));
+  refuted = f (n + (n + (suc n + (levelAt n n + 1))));
+}

@@ -1,6 +1,5 @@
 pub mod Layout
 pub mod Packing
-pub mod Reading
+pub mod StatePacking
 pub mod Bits
-pub mod Unpacking
 pub mod Levels

@@ -5,8 +5,8 @@ use Prim.Native.Nat.{ℕ}
 use native.Mathlib.Omega.{arith}
 use borrow.Author.Tests.{not-true, not-false}
 use borrow.Author.Needs.{needs}
+use Rattle.words.proofs.Sameness.{same-is}
 use Rattle.lexer.specs.Bytes.{isBlank}
-use Rattle.lexer.proofs.Runs.{same-is}
 use Rattle.lexer.proofs.Cuts.{Found, found, missing}
 use Rattle.dimacs.specs.Answers.{numbersHeld}
 use Rattle.dimacs.proofs.Parts.{no-part, one-part, not-first, not-p, not-cnf, both-names}

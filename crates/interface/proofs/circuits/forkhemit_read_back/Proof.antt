@@ -4,7 +4,7 @@ use mathlib.Core.Path.{sym, ap, _∙_}
 use Rattle.refusals.specs.declared.Outcome.{Outcome}
 use Rattle.state.specs.declared.Run.{Run}
 use Rattle.stored.specs.Words.{stored}
-use Rattle.wires.specs.Reading.{readBack}
+use Rattle.readback.specs.Reading.{readBack}
 use Rattle.lent.specs.Codes.{codeOf}
 use Rattle.lent.specs.Lent.{storedIf}
 use Rattle.interface.proofs.Rooms.{stored-room, back-refused, back-decided, back-run}

@@ -38,7 +38,7 @@ loop-again : tie.Need-loop-again Inv-loop μ-loop
 loop-again c = let l = c .before .before .before .before .before .before in
     let s = l .before .before in (
       search needs,
-      list-turn _ _ _ _ _ _ _ (l .loop .inv .1) _ _ (λ j. level-length (s .args .n) (levelIn (s .args .n) (s .args .levels) (s .args .depth) j))
+      list-turn _ _ _ _ _ _ _ (l .loop .inv .1) _ _ (λ j. level-length (s .args .n) _ _ _)
           (c .before .before .put-level .ensures .1 ∙ ap (λ (x : Level). stored (l .loop .bytes) (l .loop .next) (levelBits (s .args .n) x)) (c .before .before .before .before .level-at .ensures)) (c .before .before .put-level .ensures .0),
     )
 

@@ -6,7 +6,7 @@ use Prim.Native.Nat.{ℕ, _≤_, _+_, _*_, _-_}
 use Rattle.tables.specs.Rows.{rowAt}
 use Rattle.wires.specs.Layout.{joined, rowBits}
 use Rattle.wires.proofs.Lengths.{row-length}
-use Rattle.wires.proofs.Tables.{rows-joined}
+use Rattle.wires.proofs.Tables.{table-joined}
 use Rattle.wires.proofs.Stores.{Listed, stored, list-start, list-room, list-turn}
 use borrow.Author.Needs.{needs}
 use Rattle.wires.proofs.packing.put_rows.Statement.{statement}
@@ -67,7 +67,7 @@ returns c = let l = c .before in
     let e : l .loop .j ≡ s .args .rows = omega arith in (
       l .loop .inv .1 .place ∙ ap (λ (k : ℕ). s .args .at + (s .args .n + s .args .n) * k) e,
       l .loop .inv .1 .bytes ∙ ap (λ (k : ℕ). stored (s .args .bytes .now) (s .args .at) (joined (λ j. rowBits (s .args .n) (rowAt (s .args .words .now) j)) k)) e
-          ∙ ap (stored (s .args .bytes .now) (s .args .at)) (rows-joined (s .args .n) (s .args .words .now) (s .args .rows)),
+          ∙ ap (stored (s .args .bytes .now) (s .args .at)) (table-joined (s .args .n) (s .args .words .now) (s .args .rows)),
     )
 
 pub put-rows-spec : {M : Type 1} → statement M

@@ -8,7 +8,7 @@ use Rattle.wires.specs.Levels.{levelsBits, levelIn}
 use Rattle.wires.proofs.Series.{length-joined}
 use Rattle.wires.proofs.Lengths.{level-length}
 use Rattle.wires.proofs.Stores.{stored, stored-then, upto-then}
-use Rattle.wires.proofs.ArrayLevels.{state-parts}
+use Rattle.wires.proofs.Levels.{state-parts}
 use borrow.Author.Needs.{needs}
 use Rattle.wires.proofs.packing.put_state.Statement.{statement}
 use Rattle.wires.proofs.packing.put_state.Tie as tie
@@ -43,7 +43,7 @@ returns c = let s = c .before .before .before .before .before .before .before .b
     let r = c .before .before .before .before .before .before .before .before .before .before .put-one in
     let u = c .before .before .before .before .before .before .put-levels in
     let v = c .before .before .put-standing in
-    let e = length-joined (n + (n + n)) _ n (λ l. level-length n (levelIn n (run .levels) (run .depth) l)) in
+    let e = length-joined (n + (n + n)) _ n (λ l. level-length n _ _ _) in
     upto-then (s .args .bytes .now) (s .args .at) _ (bit (run .t)) n _ (p .ensures .1) (p .ensures .0)
     (upto-then _ _ _ (bit (run .f)) n _ (q .ensures .1) (q .ensures .0)
     (upto-then _ _ _ (λ k. eqb k (run .depth)) (n + 1) _ (r .ensures .1) (r .ensures .0)

@@ -1,0 +1,17 @@
+-- `refused` meets its contract: its run is that of `Run::fresh`.
+-- Assumes nothing.
+use mathlib.Core.Path.{ap}
+use Rattle.refusals.specs.declared.Outcome.the-variants.{Refused}
+use Rattle.state.specs.declared.Run.{Run}
+use borrow.Author.Needs.{needs}
+use Rattle.readback.proofs.refused.Statement.{statement}
+use Rattle.readback.proofs.refused.Tie as tie
+
+fresh-requires : tie.Need-fresh-requires
+fresh-requires c κs = search needs
+
+returns : tie.Need-returns
+returns c = ap (λ (x : Run). record { outcome = Refused (c .before .args .refusal); run = x }) (c .fresh .ensures)
+
+pub refused-spec : {M : Type 1} → statement M
+refused-spec = tie.close (tie.spec fresh-requires returns)

@@ -1,0 +1,82 @@
+-- `get_run` meets its contract: its callees read the wires where the definition has them.
+-- Assumes nothing.
+use native.Mathlib.Omega.{arith}
+use Rattle.readback.proofs.RunRead.{levels-room, run-read}
+use borrow.Author.Needs.{needs}
+use Rattle.readback.proofs.unpacking.get_run.Statement.{statement}
+use Rattle.readback.proofs.unpacking.get_run.Tie as tie
+
+add-get-one : tie.Need-add-get-one
+add-get-one c = search needs
+
+get-one-requires : tie.Need-get-one-requires
+get-one-requires c κs = search needs
+
+mul-get-levels : tie.Need-mul-get-levels
+mul-get-levels c = search needs
+
+add-get-levels : tie.Need-add-get-levels
+add-get-levels c = search needs
+
+get-levels-requires : tie.Need-get-levels-requires
+get-levels-requires c κs = let s = c .before .before in
+    (search needs, (omega (arith, c .get-one .ensures .1), levels-room (s .args .n) (s .args .bytes .now) (c .get-one .result) (c .get-one .ensures .1) (s .pre .1)))
+
+mul-last : tie.Need-mul-last
+mul-last c = search needs
+
+mul-last-2 : tie.Need-mul-last-2
+mul-last-2 c = search needs
+
+mul-last-3 : tie.Need-mul-last-3
+mul-last-3 c = search needs
+
+add-last : tie.Need-add-last
+add-last c = search needs
+
+add-last-2 : tie.Need-add-last-2
+add-last-2 c = search needs
+
+get-set-requires : tie.Need-get-set-requires
+get-set-requires c κs = search needs
+
+get-set-requires-2 : tie.Need-get-set-requires-2
+get-set-requires-2 c κs = search needs
+
+shared-slice-read-standing : tie.Need-shared-slice-read-standing
+shared-slice-read-standing c = search needs
+
+add-standing : tie.Need-add-standing
+add-standing c = search needs
+
+shared-slice-read-standing-2 : tie.Need-shared-slice-read-standing-2
+shared-slice-read-standing-2 c = search needs
+
+standing-requires : tie.Need-standing-requires
+standing-requires c κs = search needs
+
+returns : tie.Need-returns
+returns c = let s = c .before .before .before .before .before .before .before .before in
+    run-read (s .args .n) (s .args .bytes .now) _ _ _ _ _ (c .standing .ensures) (c .before .before .before .before .get-set .ensures) (c .before .before .before .get-set2 .ensures) (c .before .before .before .before .before .before .get-one .ensures .0) (c .before .before .before .before .before .get-levels .ensures)
+
+pub get-run-spec : {M : Type 1} → statement M
+get-run-spec =
+    tie.close
+    (tie.spec
+    add-get-one
+    get-one-requires
+    mul-get-levels
+    add-get-levels
+    get-levels-requires
+    mul-last
+    mul-last-2
+    mul-last-3
+    add-last
+    add-last-2
+    get-set-requires
+    get-set-requires-2
+    shared-slice-read-standing
+    add-standing
+    shared-slice-read-standing-2
+    standing-requires
+    returns)

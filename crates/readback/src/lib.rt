@@ -1,0 +1,79 @@
+// A run read back from bytes, a byte a wire (document 01, "Circuit"). Turned back by 1, 10 and 12.
+mod unpacking;
+
+use dimensions::Dimensions;
+use refusals::Outcome;
+use refusals::Refusal;
+use state::Run;
+ghost use mathlib.Core.Path.{_≡_};
+ghost use mathlib.Core.Bool.{_&&_};
+ghost use Prim.Native.Nat.{_≤_};
+ghost use lib.ListN.{length, take};
+ghost use Rattle.words.specs.Sameness.{same};
+ghost use Rattle.refusals.specs.declared.Outcome.the-variants.{Refused};
+ghost use Rattle.dimensions.specs.Sizes.{stateWires};
+ghost use Rattle.state.specs.State.{stateOf, runOf, fresh};
+ghost use Rattle.state.specs.WellFormed.{wellFormed};
+ghost use Rattle.gates.specs.Memory.{bytesOf};
+ghost use Rattle.wires.specs.Layout.{stateBits};
+ghost use Rattle.readback.specs.Reading.{readBack};
+
+// The wires of a state of 32 variables.
+const STATE_WIRES: usize = 3171;
+
+// A run read back; with a refusal, the fresh run.
+pub struct Read {
+    pub outcome: Outcome,
+    pub run: Run,
+}
+
+// Whether the run is a well-formed state that gives these bytes when it is packed.
+fn gives(d: Dimensions, run: Run, bytes: &[u8]) -> bool
+    requires { ⌜ d .n ≤ 32 ⌝ }
+    requires { ⌜ run .n ≡ d .n ⌝ }
+    requires { ⌜ stateWires (d .n) ≤ length (now bytes) ⌝ }
+    ensures { λ r. ⌜ r ≡ wellFormed run && same (bytesOf (stateBits (d .n) (stateOf run))) (take (stateWires (d .n)) (now (bytes .entry))) ⌝ }
+{
+    let mut again = [0u8; STATE_WIRES];
+    match wires::pack_state(run, &mut again) {
+        Outcome::Taken => {}
+        Outcome::Refused(_) => return false,
+    }
+    let k = d.state_wires();
+    check::same(&again[..k], &bytes[..k])
+}
+
+// The fresh run of n, and why no other is given.
+fn refused(n: u8, refusal: Refusal) -> Read
+    ensures { λ r. ⌜ r ≡ record { outcome = Refused refusal; run = runOf n fresh } ⌝ }
+{
+    Read {
+        outcome: Outcome::Refused(refusal),
+        run: Run::fresh(n),
+    }
+}
+
+// The run of n that the front of the bytes holds; 1, 10 or 12 if there is none.
+pub fn read_back(n: u8, bytes: &[u8]) -> Read
+    ensures { λ r. ⌜ r ≡ readBack n (now (bytes .entry)) ⌝ }
+{
+    if n < 1 || 32 < n {
+        return refused(n, Refusal::Variables);
+    }
+    let d = Dimensions {
+        n,
+        left: 1,
+        right: 1,
+    };
+    if bytes.len() < d.state_wires() {
+        return refused(n, Refusal::Wires);
+    }
+    let run = unpacking::get_run(n, bytes);
+    if !gives(d, run, bytes) {
+        return refused(n, Refusal::State);
+    }
+    Read {
+        outcome: Outcome::Taken,
+        run,
+    }
+}
