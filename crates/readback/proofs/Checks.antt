@@ -10,24 +10,20 @@ use lib.Dec.{ltb}
 use lib.ListN.{length, take, length-map}
 use lib.Seq.{take-at}
 use borrow.Author.Tests.{lt-ltb, le-ltb}
-use Rattle.refusals.specs.Checks.{outcome}
 use Rattle.refusals.specs.declared.Outcome.the-variants.{Taken, Refused}
-use Rattle.refusals.specs.declared.Refusal.{Refusal}
 use Rattle.refusals.specs.declared.Refusal.the-variants.{Variables, Wires}
 use Rattle.refusals.specs.declared.Refusal.the-variants as refusal
-use Rattle.refusals.proofs.Outcomes.{refused-taken}
 use Rattle.words.specs.Booleans.{digit}
 use Rattle.words.specs.Sameness.{same}
-use Rattle.words.proofs.Truth.{on}
 use Rattle.dimensions.specs.Sizes.{outside, stateWires}
 use Rattle.state.specs.declared.Run.{Run}
 use Rattle.state.specs.State.{fresh, stateOf, runOf}
 use Rattle.state.specs.WellFormed.{wellFormed}
 use Rattle.gates.specs.Memory.{bytesOf, over}
 use Rattle.wires.specs.Layout.{stateBits}
-use Rattle.wires.specs.StatePacking.{statePackChecks, packedState}
+use Rattle.wires.specs.StatePacking.{packable, packedState}
 use Rattle.wires.proofs.Lengths.{state-length}
-use Rattle.wires.proofs.Checks.{state-malformed, state-taken}
+use Rattle.wires.proofs.Checks.{state-decided, state-packed}
 use Rattle.readback.specs.declared.Read.{Read}
 use Rattle.readback.specs.Unpacking.{runIn, holdsState}
 use Rattle.readback.specs.Reading.{readBack}
@@ -43,17 +39,13 @@ module _ (n : ℕ) (run : Run) (e : run .n ≡ n) (b : List ℕ) (h : stateWires
   room : stateWires (run .n) ≤ length b
   room = subst (λ (k : ℕ). stateWires k ≤ length b) (sym e) h
 
-  pub again-malformed : (r : Refusal) → outcome (statePackChecks run (length b)) ≡ Refused r → wellFormed run ≡ false
-  again-malformed r q = on (wellFormed run) (λ k. absurd (refused-taken (sym q ∙ sym (state-taken run b room k .0)))) (λ k. k)
+  pub again-decided : wellFormed run ≡ packable run (length b)
+  again-decided = state-decided run b room
 
-  module _ (q : outcome (statePackChecks run (length b)) ≡ Taken) where
-    pub again-formed : wellFormed run ≡ true
-    again-formed = on (wellFormed run) (λ k. k) (λ k. absurd (refused-taken (state-malformed run b room k .0 ∙ q)))
-
-    pub again-bytes : take (stateWires n) (packedState run b) ≡ bytesOf (stateBits n (stateOf run))
-    again-bytes =
-        ap (take (stateWires n)) (sym (state-taken run b room again-formed .1) ∙ ap (λ (k : ℕ). over (bytesOf (stateBits k (stateOf run))) b) e)
-        ∙ take-at (bytesOf (stateBits n (stateOf run))) _ (stateWires n) (length-map (stateBits n (stateOf run)) digit ∙ state-length n (stateOf run))
+  pub again-bytes : wellFormed run ≡ true → take (stateWires n) (packedState run b) ≡ bytesOf (stateBits n (stateOf run))
+  again-bytes k =
+      ap (take (stateWires n)) (sym (state-packed run b room k) ∙ ap (λ (j : ℕ). over (bytesOf (stateBits j (stateOf run))) b) e)
+      ∙ take-at (bytesOf (stateBits n (stateOf run))) _ (stateWires n) (length-map (stateBits n (stateOf run)) digit ∙ state-length n (stateOf run))
 
 -- ---- the entry
 

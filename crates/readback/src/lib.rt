@@ -35,9 +35,8 @@ fn gives(d: Dimensions, run: Run, bytes: &[u8]) -> bool
     ensures { λ r. ⌜ r ≡ wellFormed run && same (bytesOf (stateBits (d .n) (stateOf run))) (take (stateWires (d .n)) (now (bytes .entry))) ⌝ }
 {
     let mut again = [0u8; STATE_WIRES];
-    match wires::pack_state(run, &mut again) {
-        Outcome::Taken => {}
-        Outcome::Refused(_) => return false,
+    if !wires::pack_state(run, &mut again) {
+        return false;
     }
     let k = d.state_wires();
     check::same(&again[..k], &bytes[..k])

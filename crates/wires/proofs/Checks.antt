@@ -13,7 +13,6 @@ use Rattle.refusals.specs.declared.Outcome.{Outcome}
 use Rattle.refusals.specs.declared.Outcome.the-variants.{Taken, Refused}
 use Rattle.refusals.specs.declared.Refusal.{Refusal}
 use Rattle.refusals.specs.declared.Refusal.the-variants.{Wires}
-use Rattle.refusals.specs.declared.Refusal.the-variants as refusal
 use Rattle.refusals.proofs.Outcomes.{outcome-taken, outcome-refused, check-passed, checks-taken, refused-taken}
 use Rattle.words.specs.Booleans.{digit}
 use Rattle.dimensions.specs.declared.Dimensions.{Dimensions}
@@ -27,7 +26,7 @@ use Rattle.state.proofs.Checks.{state-formed, state-same}
 use Rattle.gates.specs.Memory.{bytesOf, over}
 use Rattle.wires.specs.Layout.{stateBits}
 use Rattle.wires.specs.Packing.{inputBits, packChecks, packed}
-use Rattle.wires.specs.StatePacking.{statePackChecks, packedState}
+use Rattle.wires.specs.StatePacking.{packable, packedState}
 use Rattle.wires.proofs.Lengths.{input-length}
 
 module _ (d : Dimensions) (left right : List ℕ) (run : Run) (room : ℕ) where
@@ -89,15 +88,18 @@ module _ (d : Dimensions) (left right : List ℕ) (run : Run) (bytes : List ℕ)
       (length-map (inputBits d left right (stateOf run)) digit ∙ input-length d left right (stateOf run))
 
 module _ (run : Run) (bytes : List ℕ) where
-  pub state-no-room : length bytes < stateWires (run .n) → (Refused Wires ≡ outcome (statePackChecks run (length bytes))) × (bytes ≡ packedState run bytes)
+  pub state-no-room : length bytes < stateWires (run .n) → (false ≡ packable run (length bytes)) × (bytes ≡ packedState run bytes)
   unfolding packedState
   state-no-room h = let e = lt-ltb (length bytes) (stateWires (run .n)) h in (rw e, rw e)
 
   module _ (h : stateWires (run .n) ≤ length bytes) where
-    pub state-malformed : wellFormed run ≡ false → (Refused refusal.State ≡ outcome (statePackChecks run (length bytes))) × (bytes ≡ packedState run bytes)
-    unfolding packedState
-    state-malformed k = let e = le-ltb (length bytes) (stateWires (run .n)) h in (rw (e, k), rw (e, k))
+    pub state-decided : wellFormed run ≡ packable run (length bytes)
+    state-decided = rw (le-ltb (length bytes) (stateWires (run .n)) h)
 
-    pub state-taken : wellFormed run ≡ true → (Taken ≡ outcome (statePackChecks run (length bytes))) × (over (bytesOf (stateBits (run .n) (stateOf run))) bytes ≡ packedState run bytes)
+    pub state-kept : wellFormed run ≡ false → bytes ≡ packedState run bytes
     unfolding packedState
-    state-taken k = let e = le-ltb (length bytes) (stateWires (run .n)) h in (rw (e, k), rw (e, k))
+    state-kept k = rw (le-ltb (length bytes) (stateWires (run .n)) h, k)
+
+    pub state-packed : wellFormed run ≡ true → over (bytesOf (stateBits (run .n) (stateOf run))) bytes ≡ packedState run bytes
+    unfolding packedState
+    state-packed k = rw (le-ltb (length bytes) (stateWires (run .n)) h, k)

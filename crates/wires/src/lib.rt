@@ -9,7 +9,7 @@ ghost use mathlib.Core.Path.{_≡_};
 ghost use lib.ListN.{length};
 ghost use Rattle.refusals.specs.Checks.{outcome};
 ghost use Rattle.wires.specs.Packing.{packChecks, packed};
-ghost use Rattle.wires.specs.StatePacking.{statePackChecks, packedState};
+ghost use Rattle.wires.specs.StatePacking.{packable, packedState};
 
 // Whether rows and run can be packed into so many bytes: 1, 2, 4, 3, 10, 12 or 13 if not.
 pub fn check(d: Dimensions, left: &[u32], right: &[u32], run: Run, room: usize) -> Outcome
@@ -41,9 +41,9 @@ pub fn pack(d: Dimensions, left: &[u32], right: &[u32], run: Run, bytes: &mut [u
     Outcome::Taken
 }
 
-// Packs a run's state into the front of the bytes; later bytes stay. Refused, 10 or 12, it changes no byte.
-pub fn pack_state(run: Run, bytes: &mut [u8]) -> Outcome
-    ensures { λ r. ⌜ r ≡ outcome (statePackChecks run (length (now (bytes .entry)))) ⌝ }
+// Packs a run's state into the front of the bytes; later bytes stay. False, and no byte changed, where they are too few or the run is not well-formed.
+pub fn pack_state(run: Run, bytes: &mut [u8]) -> bool
+    ensures { λ r. ⌜ r ≡ packable run (length (now (bytes .entry))) ⌝ }
     ensures { λ _. ⌜ now (bytes .exit) ≡ packedState run (now (bytes .entry)) ⌝ }
 {
     let n = run.n;
@@ -53,11 +53,11 @@ pub fn pack_state(run: Run, bytes: &mut [u8]) -> Outcome
         right: 1,
     };
     if bytes.len() < d.state_wires() {
-        return Outcome::Refused(Refusal::Wires);
+        return false;
     }
     if !state::well_formed(run) {
-        return Outcome::Refused(Refusal::State);
+        return false;
     }
     packing::put_state(n as usize, run, bytes, 0);
-    Outcome::Taken
+    true
 }

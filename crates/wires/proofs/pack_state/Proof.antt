@@ -1,7 +1,7 @@
 -- `pack_state` meets its contract: each test of the code is a condition of the definition, in its order, and the state's wires are stored at the front.
 -- Assumes nothing.
 use mathlib.Core.Path.{_≡_, sym, subst, _∙_}
-use mathlib.Core.Bool.{true}
+use mathlib.Core.Bool.{true, false}
 use Prim.Native.Nat.{ℕ, _≤_, _<_}
 use native.Mathlib.Omega.{arith}
 use borrow.Author.Tests.{not-true, not-false}
@@ -12,7 +12,7 @@ use Rattle.state.proofs.HeldRun.{formed-run-e}
 use Rattle.wires.specs.Layout.{stateBits}
 use Rattle.wires.proofs.Lengths.{state-length}
 use Rattle.wires.proofs.Stores.{stored-front}
-use Rattle.wires.proofs.Checks.{state-no-room, state-malformed, state-taken}
+use Rattle.wires.proofs.Checks.{state-no-room, state-decided, state-kept, state-packed}
 use borrow.Author.Needs.{needs}
 use Rattle.wires.proofs.pack_state.Statement.{statement}
 use Rattle.wires.proofs.pack_state.Tie as tie
@@ -29,8 +29,9 @@ well-formed-requires c κs = search needs
 
 returns-2 : tie.Need-returns-2
 returns-2 c = let s = c .before .before .before .before .before in
-    state-malformed (s .args .run) (s .args .bytes .now) (subst (λ (k : ℕ). k ≤ length (s .args .bytes .now)) (c .before .before .before .state-wires .ensures) (c .before .before .if1 .left))
-    (sym (c .before .well-formed .ensures) ∙ not-true _ (c .if2 .taken))
+    let h = subst (λ (k : ℕ). k ≤ length (s .args .bytes .now)) (c .before .before .before .state-wires .ensures) (c .before .before .if1 .left) in
+    let f : wellFormed (s .args .run) ≡ false = sym (c .before .well-formed .ensures) ∙ not-true _ (c .if2 .taken) in
+    (sym f ∙ state-decided (s .args .run) (s .args .bytes .now) h, state-kept (s .args .run) (s .args .bytes .now) h f)
 
 cast-put-state : tie.Need-cast-put-state
 cast-put-state c = search needs
@@ -47,8 +48,10 @@ returns-3 : tie.Need-returns-3
 returns-3 c = let s = c .before .before .before .before .before .before .before .before .before in
     let w = stateBits (s .args .run .n) (stateOf (s .args .run)) in
     let h = subst (λ (k : ℕ). k ≤ length (s .args .bytes .now)) (c .before .before .before .before .before .before .before .state-wires .ensures) (c .before .before .before .before .before .before .if1 .left) in
-    let t = state-taken (s .args .run) (s .args .bytes .now) h (sym (c .before .before .before .before .before .well-formed .ensures) ∙ not-false _ (c .before .before .before .before .if2 .left)) in
-    (t .0, c .before .before .put-state .ensures ∙ stored-front (s .args .bytes .now) w (omega (arith, h, state-length (s .args .run .n) (stateOf (s .args .run)))) ∙ t .1)
+    let f : wellFormed (s .args .run) ≡ true = sym (c .before .before .before .before .before .well-formed .ensures) ∙ not-false _ (c .before .before .before .before .if2 .left) in (
+      sym f ∙ state-decided (s .args .run) (s .args .bytes .now) h,
+      c .before .before .put-state .ensures ∙ stored-front (s .args .bytes .now) w (omega (arith, h, state-length (s .args .run .n) (stateOf (s .args .run)))) ∙ state-packed (s .args .run) (s .args .bytes .now) h f,
+    )
 
 pub pack-state-spec : {M : Type 1} → statement M
 pack-state-spec =
