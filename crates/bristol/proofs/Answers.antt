@@ -15,7 +15,7 @@ use Rattle.refusals.specs.Checks.{outcome}
 use Rattle.dimensions.specs.declared.Dimensions.{Dimensions}
 use Rattle.gates.specs.Memory.{gatesOf}
 use Rattle.bristol.specs.declared.WrittenLines.the-variants as lines
-use Rattle.bristol.specs.Lines.{linesOf}
+use Rattle.bristol.specs.Text.{linesOf}
 use Rattle.bristol.specs.Writing.{circuitChecks, lineAt, linesAt, writtenLines}
 use Rattle.bristol.proofs.Numbering.{lines-of-words}
 use Rattle.bristol.proofs.Fitting.{fitting-next, fitting-front, fitting-room}

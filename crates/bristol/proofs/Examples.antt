@@ -1,4 +1,4 @@
--- Document 01's lines, computed: the header for n = 1 and one row each, its three gate lines, and whole texts.
+-- Whole texts, computed, and the lines of one that fit.
 -- Assumes nothing.
 use mathlib.Core.Path.{_≡_, refl}
 use mathlib.Core.List.{[], _∷_, flatten}
@@ -7,30 +7,10 @@ use Rattle.text.specs.Decimal.{decimalWithin, decimal}
 use Rattle.dimensions.specs.declared.Dimensions.{Dimensions}
 use Rattle.gates.specs.Gates.Gate.{XOR, AND, INV}
 use Rattle.bristol.specs.Writing.{fitting}
-use Rattle.bristol.specs.Lines.{inputLine, outputLine, gateLine, gateLines, linesOf, circuitText}
+use Rattle.bristol.specs.Text.{gateLines, linesOf, circuitText}
 
 abbrev one : Dimensions
 one = record { n = 1; left = 1; right = 1 }
-
-pub second-header : inputLine one ≡ bytes "3 2 2 9\n"
-unfolding decimal decimalWithin
-second-header = refl
-
-pub third-header : outputLine one ≡ bytes "2 9 1\n"
-unfolding decimal decimalWithin
-third-header = refl
-
-pub xor-line : gateLine 13 (XOR 0 1) ≡ bytes "2 1 0 1 13 XOR\n"
-unfolding decimal decimalWithin
-xor-line = refl
-
-pub and-line : gateLine 13 (AND 0 1) ≡ bytes "2 1 0 1 13 AND\n"
-unfolding decimal decimalWithin
-and-line = refl
-
-pub inv-line : gateLine 14 (INV 13) ≡ bytes "1 1 13 14 INV\n"
-unfolding decimal decimalWithin
-inv-line = refl
 
 -- 13 inputs, so the first gate drives wire 13
 pub two-gates : circuitText one (XOR 0 1 ∷ INV 13 ∷ []) ≡ bytes "2 15\n3 2 2 9\n2 9 1\n\n2 1 0 1 13 XOR\n1 1 13 14 INV\n"

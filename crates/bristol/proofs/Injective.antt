@@ -1,95 +1,21 @@
--- The text determines gates and dimensions: nothing is lost on the way to the back end. No field holds a space or an LF, so a line parts into its fields, and the text into its lines.
+-- The text determines gates and dimensions: nothing is lost on the way to the back end. Each of its lines parts from what follows; the gates by induction.
 -- Assumes nothing.
 use mathlib.Core.Path.{_≡_, refl, sym, ap, ap₂, subst, _∙_}
-use mathlib.Core.Bool.{Bool, true, false, _&&_, false≢true}
-use mathlib.Core.List.{List, [], _∷_, _++_, append-assoc, tail-eq-of-cons-eq, flatten}
-use Prim.Native.Nat.{ℕ, suc, _+_, _*_, _/_, _^_, _≤_, _<_}
-use native.Mathlib.Nat.{mul-le-mul, mul-le-mul-left, eq-of-mul-eq-mul-left}
+use mathlib.Core.Bool.{true}
+use mathlib.Core.List.{List, [], _∷_, _++_, tail-eq-of-cons-eq, flatten}
+use Prim.Native.Nat.{ℕ, suc, _+_, _/_, _^_, _≤_}
 use native.Mathlib.Omega.{arith}
-use borrow.Author.Tests.{ltb-true, ltb-false, not-true}
-use lib.Dec.{ltb}
-use lib.ListN.{length, getD}
-use Rattle.words.proofs.Truth.{and-l, and-r, and-i, on}
-use Rattle.lexer.specs.Spelling.{bytes}
-use Rattle.text.specs.Decimal.{decimal}
-use Rattle.text.proofs.Decimals.{decimal-injective}
-use Rattle.text.proofs.Fields.{plain, decimal-plain, field-split}
+use lib.ListN.{length}
+use Rattle.words.proofs.Truth.{and-l, and-r}
 use Rattle.dimensions.specs.declared.Dimensions.{Dimensions}
-use Rattle.dimensions.specs.Sizes.{stateWires, inputWires}
-use Rattle.dimensions.proofs.Products.{product}
+use Rattle.dimensions.specs.Sizes.{inputWires}
 use Rattle.gates.specs.Gates.{Gate}
-use Rattle.gates.specs.Gates.Gate.{XOR, AND, INV}
 use Rattle.gates.specs.Memory.{gatesOf, wordsOf, accepted}
 use Rattle.gates.proofs.Circuits.{reads, ordered}
 use Rattle.gates.proofs.InMemory.{accepted-length, accepted-ordered, words-gates}
-use Rattle.bristol.specs.Lines.{line, inputLine, outputLine, gateFields, gateLine, gateLines, linesOf, circuitText}
-
--- ---- a line's fields
-
--- one or more such fields
-abbrev plains : List (List ℕ) → Bool
-plains [] = false
-plains (f ∷ []) = plain f
-plains (f ∷ g ∷ fs) = plain f && plains (g ∷ fs)
-
--- lines of plain fields that start the same bytes have the same fields
-line-split : (fs gs : List (List ℕ)) (s t : List ℕ) → plains fs ≡ true → plains gs ≡ true → line fs ++ s ≡ line gs ++ t → (fs ≡ gs) × (s ≡ t)
-line-split [] gs s t h k e = absurd (false≢true h)
-line-split (f ∷ fs) [] s t h k e = absurd (false≢true k)
-line-split (f ∷ []) (g ∷ []) s t h k e =
-    let p = field-split f g 10 10 s t h k refl refl (sym (append-assoc f (10 ∷ []) s) ∙ e ∙ append-assoc g (10 ∷ []) t) in
-    (ap (λ (x : List ℕ). x ∷ []) (p .0), p .2)
-line-split (f ∷ []) (g ∷ g′ ∷ gs) s t h k e =
-    let p = field-split f g 10 32 s (line (g′ ∷ gs) ++ t) h (and-l (plain g) _ k) refl refl (sym (append-assoc f (10 ∷ []) s) ∙ e ∙ append-assoc g (32 ∷ line (g′ ∷ gs)) t) in
-    absurd (let z : _≡_ {A = ℕ} 10 32 = p .1 in omega arith)
-line-split (f ∷ f′ ∷ fs) (g ∷ []) s t h k e =
-    let p = field-split f g 32 10 (line (f′ ∷ fs) ++ s) t (and-l (plain f) _ h) k refl refl (sym (append-assoc f (32 ∷ line (f′ ∷ fs)) s) ∙ e ∙ append-assoc g (10 ∷ []) t) in
-    absurd (let z : _≡_ {A = ℕ} 32 10 = p .1 in omega arith)
-line-split (f ∷ f′ ∷ fs) (g ∷ g′ ∷ gs) s t h k e =
-    let p = field-split f g 32 32 (line (f′ ∷ fs) ++ s) (line (g′ ∷ gs) ++ t) (and-l (plain f) _ h) (and-l (plain g) _ k) refl refl
-    (sym (append-assoc f (32 ∷ line (f′ ∷ fs)) s) ∙ e ∙ append-assoc g (32 ∷ line (g′ ∷ gs)) t) in
-    let q = line-split (f′ ∷ fs) (g′ ∷ gs) s t (and-r (plain f) _ h) (and-r (plain g) _ k) (p .2) in
-    (ap₂ (λ (x : List ℕ) (l : List (List ℕ)). x ∷ l) (p .0) (q .0), q .1)
-
--- ---- gates
-
-gate-plain : (wire : ℕ) (g : Gate) → plains (gateFields wire g) ≡ true
-gate-plain wire (XOR a b) = and-i (decimal-plain a) (and-i (decimal-plain b) (and-i (decimal-plain wire) refl))
-gate-plain wire (AND a b) = and-i (decimal-plain a) (and-i (decimal-plain b) (and-i (decimal-plain wire) refl))
-gate-plain wire (INV a) = and-i (decimal-plain a) (and-i (decimal-plain wire) refl)
-
--- equal fields have the same first byte at each place
-differ : (fs gs : List (List ℕ)) (i : ℕ) → fs ≡ gs → getD (getD fs i []) 0 0 ≡ getD (getD gs i []) 0 0
-differ fs gs i e = ap (λ (l : List (List ℕ)). getD (getD l i []) 0 0) e
-
-module _ (wire m : ℕ) (h : m ≤ 2 ^ 64) where
-  -- a wire that is read has a number of 64 bits
-  same-wire : (a b : ℕ) → ltb a m ≡ true → ltb b m ≡ true → decimal a ≡ decimal b → a ≡ b
-  same-wire a b p q e = decimal-injective a b (omega (arith, ltb-true a m p)) (omega (arith, ltb-true b m q)) e
-
-  fields-injective : (f g : Gate) → reads m f ≡ true → reads m g ≡ true → gateFields wire f ≡ gateFields wire g → f ≡ g
-  fields-injective (XOR a b) (XOR x y) p q e =
-      ap₂ XOR (same-wire a x (and-l _ _ p) (and-l _ _ q) cc) (same-wire b y (and-r (ltb a m) _ p) (and-r (ltb x m) _ q) cc)
-  fields-injective (AND a b) (AND x y) p q e =
-      ap₂ AND (same-wire a x (and-l _ _ p) (and-l _ _ q) cc) (same-wire b y (and-r (ltb a m) _ p) (and-r (ltb x m) _ q) cc)
-  fields-injective (INV a) (INV x) p q e = ap INV (same-wire a x p q cc)
-  fields-injective (XOR a b) (AND x y) p q e = absurd (let z : _≡_ {A = ℕ} 88 65 = differ _ _ 5 e in omega arith)
-  fields-injective (AND a b) (XOR x y) p q e = absurd (let z : _≡_ {A = ℕ} 65 88 = differ _ _ 5 e in omega arith)
-  fields-injective (XOR a b) (INV x) p q e = absurd (let z : _≡_ {A = ℕ} 50 49 = differ _ _ 0 e in omega arith)
-  fields-injective (AND a b) (INV x) p q e = absurd (let z : _≡_ {A = ℕ} 50 49 = differ _ _ 0 e in omega arith)
-  fields-injective (INV a) (XOR x y) p q e = absurd (let z : _≡_ {A = ℕ} 49 50 = differ _ _ 0 e in omega arith)
-  fields-injective (INV a) (AND x y) p q e = absurd (let z : _≡_ {A = ℕ} 49 50 = differ _ _ 0 e in omega arith)
-
-  gate-split : (f g : Gate) (s t : List ℕ) → reads m f ≡ true → reads m g ≡ true → gateLine wire f ++ s ≡ gateLine wire g ++ t → (f ≡ g) × (s ≡ t)
-  gate-split f g s t p q e =
-      let parts = line-split (gateFields wire f) (gateFields wire g) s t (gate-plain wire f) (gate-plain wire g) e in
-      (fields-injective f g p q (parts .0), parts .1)
-
--- a gate's line is not empty
-gate-some : (wire : ℕ) (g : Gate) (t : List ℕ) → gateLine wire g ++ t ≡ [] → ⊥
-gate-some wire (XOR a b) t e = let z : _≡_ {A = ℕ} 50 0 = ap (λ (l : List ℕ). getD l 0 0) e in omega arith
-gate-some wire (AND a b) t e = let z : _≡_ {A = ℕ} 50 0 = ap (λ (l : List ℕ). getD l 0 0) e in omega arith
-gate-some wire (INV a) t e = let z : _≡_ {A = ℕ} 49 0 = ap (λ (l : List ℕ). getD l 0 0) e in omega arith
+use Rattle.bristol_line.specs.Lines.{inputLine, outputLine}
+use Rattle.bristol_line.proofs.Injective.{inputFields, size-split, input-split, output-split, gate-split, gate-some, Within, dimensions-injective}
+use Rattle.bristol.specs.Text.{gateLines, linesOf, circuitText}
 
 gates-injective : (m : ℕ) (fs gs : List Gate) → m + length fs ≤ 2 ^ 64 → m + length gs ≤ 2 ^ 64 → ordered m fs ≡ true → ordered m gs ≡ true
     → flatten (gateLines m fs) ≡ flatten (gateLines m gs) → fs ≡ gs
@@ -102,26 +28,6 @@ gates-injective m (f ∷ fs) (g ∷ gs) h k p q e =
     ap₂ (λ (x : Gate) (l : List Gate). x ∷ l) (parts .0)
     (gates-injective (suc m) fs gs (omega arith) (omega arith) (and-r (reads m f) _ p) (and-r (reads m g) _ q) (parts .1))
 
--- ---- the text
-
-abbrev sizeFields : ℕ → ℕ → List (List ℕ)
-sizeFields inputs gates = decimal gates ∷ decimal (inputs + gates) ∷ []
-
-abbrev inputFields : Dimensions → List (List ℕ)
-inputFields d = bytes "3" ∷ decimal (2 * d .n * d .left) ∷ decimal (2 * d .n * d .right) ∷ decimal (stateWires (d .n)) ∷ []
-
-abbrev outputFields : Dimensions → List (List ℕ)
-outputFields d = bytes "2" ∷ decimal (stateWires (d .n)) ∷ bytes "1" ∷ []
-
-size-plain : (inputs gates : ℕ) → plains (sizeFields inputs gates) ≡ true
-size-plain inputs gates = and-i (decimal-plain gates) (decimal-plain (inputs + gates))
-
-input-plain : (d : Dimensions) → plains (inputFields d) ≡ true
-input-plain d = and-i (decimal-plain (2 * d .n * d .left)) (and-i (decimal-plain (2 * d .n * d .right)) (decimal-plain (stateWires (d .n))))
-
-output-plain : (d : Dimensions) → plains (outputFields d) ≡ true
-output-plain d = and-i (decimal-plain (stateWires (d .n))) refl
-
 -- equal texts have the same second header line and the same gate lines
 header-split : (d e : Dimensions) (fs gs : List Gate) → circuitText d fs ≡ circuitText e gs
     → (inputFields d ≡ inputFields e) × (flatten (gateLines (inputWires d) fs) ≡ flatten (gateLines (inputWires e) gs))
@@ -129,11 +35,9 @@ unfolding circuitText linesOf flatten
 header-split d e fs gs h =
     let s : List ℕ = 10 ∷ flatten (gateLines (inputWires d) fs) in
     let t : List ℕ = 10 ∷ flatten (gateLines (inputWires e) gs) in
-    let sizes = line-split (sizeFields (inputWires d) (length fs)) (sizeFields (inputWires e) (length gs)) (inputLine d ++ (outputLine d ++ s)) (inputLine e ++ (outputLine e ++ t))
-    (size-plain (inputWires d) (length fs)) (size-plain (inputWires e) (length gs)) h in
-    let inputs = line-split (inputFields d) (inputFields e) (outputLine d ++ s) (outputLine e ++ t) (input-plain d) (input-plain e) (sizes .1) in
-    let outputs = line-split (outputFields d) (outputFields e) s t (output-plain d) (output-plain e) (inputs .1) in
-    (inputs .0, tail-eq-of-cons-eq (outputs .1))
+    let sizes = size-split (length fs) (inputWires d + length fs) (length gs) (inputWires e + length gs) (inputLine d ++ (outputLine d ++ s)) (inputLine e ++ (outputLine e ++ t)) h in
+    let inputs = input-split d e (outputLine d ++ s) (outputLine e ++ t) sizes in
+    (inputs .0, tail-eq-of-cons-eq (output-split d e s t (inputs .1)))
 
 -- ordered gates whose wires have numbers of 64 bits
 pub text-injective : (d : Dimensions) (fs gs : List Gate) → inputWires d + length fs ≤ 2 ^ 64 → inputWires d + length gs ≤ 2 ^ 64
@@ -148,44 +52,6 @@ words-injective d us ws h k p q e =
     let same = text-injective d (gatesOf us) (gatesOf ws) (omega (arith, accepted-length m us p)) (omega (arith, accepted-length m ws q))
     (accepted-ordered m us p) (accepted-ordered m ws q) e in
     sym (words-gates m us p) ∙ ap wordsOf same ∙ words-gates m ws q
-
--- ---- the dimensions
-
--- what dimensions within the limits have
-pub record Within (d : Dimensions) : Type 0 where
-  pub least : 1 ≤ d .n
-  pub n-most : d .n ≤ 32
-  pub left-most : d .left ≤ 128
-  pub right-most : d .right ≤ 128
-
--- more variables have more wires
-state-less : (n m : ℕ) → n < m → stateWires n ≡ stateWires m → ⊥
-state-less n m h e = let squares : 3 * n * n ≤ 3 * m * m = mul-le-mul (mul-le-mul-left 3 (omega arith)) (omega arith) in omega arith
-
-state-injective : (n m : ℕ) → stateWires n ≡ stateWires m → n ≡ m
-state-injective n m e =
-    on (ltb n m) (λ p. absurd (state-less n m (ltb-true n m p) e))
-    (λ p. on (ltb m n) (λ q. absurd (state-less m n (ltb-true m n q) (sym e))) (λ q. omega (arith, ltb-false n m p, ltb-false m n q)))
-
-rows-below : (n rows : ℕ) → n ≤ 32 → rows ≤ 128 → 2 * n * rows < 2 ^ 64
-rows-below n rows h k = omega (arith, product (2 * n) rows (omega arith) (omega arith))
-
-state-below : (n : ℕ) → n ≤ 32 → stateWires n < 2 ^ 64
-state-below n h = omega (arith, product (3 * n) n (omega arith) (omega arith))
-
-same-rows : (n m a b : ℕ) → n ≡ m → 1 ≤ n → n ≤ 32 → a ≤ 128 → b ≤ 128 → decimal (2 * n * a) ≡ decimal (2 * m * b) → a ≡ b
-same-rows n m a b e least most ha hb h =
-    let h′ : decimal (2 * n * a) ≡ decimal (2 * n * b) = h ∙ ap (λ (k : ℕ). decimal (2 * k * b)) (sym e) in
-    eq-of-mul-eq-mul-left (2 * n) (omega arith) a b
-    (decimal-injective (2 * n * a) (2 * n * b) (rows-below n a most ha) (rows-below n b most hb) h′)
-
-dimensions-injective : (d e : Dimensions) → Within d → Within e → inputFields d ≡ inputFields e → d ≡ e
-dimensions-injective d e wd we h =
-    let n : d .n ≡ e .n = state-injective (d .n) (e .n)
-    (decimal-injective (stateWires (d .n)) (stateWires (e .n)) (state-below (d .n) (wd .n-most)) (state-below (e .n) (we .n-most)) cc) in
-    let left : d .left ≡ e .left = same-rows (d .n) (e .n) (d .left) (e .left) n (wd .least) (wd .n-most) (wd .left-most) (we .left-most) cc in
-    let right : d .right ≡ e .right = same-rows (d .n) (e .n) (d .right) (e .right) n (wd .least) (wd .n-most) (wd .right-most) (we .right-most) cc in
-    λ i. record { n = n i; left = left i; right = right i }
 
 -- the text determines the dimensions as well
 pub circuit-injective : (d e : Dimensions) (us ws : List ℕ) → Within d → Within e → inputWires d + length us / 3 ≤ 2 ^ 64 → inputWires e + length ws / 3 ≤ 2 ^ 64

@@ -20,7 +20,7 @@ use Rattle.bristol.specs.declared.Written.{Written}
 use Rattle.bristol.specs.declared.Written.the-variants as W
 use Rattle.bristol.specs.declared.WrittenLines.{WrittenLines}
 use Rattle.bristol.specs.declared.WrittenLines.the-variants as lines
-use Rattle.bristol.specs.Lines.{linesOf, circuitText}
+use Rattle.bristol.specs.Text.{linesOf, circuitText}
 use Rattle.bristol.specs.Writing.{circuitChecks, lineAt, written, filled, linesAt, writtenLines, filledLines}
 use Rattle.bristol.proofs.Numbering.{lines-of-words, lines-length}
 use Rattle.bristol.proofs.Fitting.{fitting-past, fitting-next, fitting-front}

@@ -1,5 +1,4 @@
 pub mod Parts
-pub mod Composing
 pub mod Numbering
 pub mod Requests
 pub mod Fitting

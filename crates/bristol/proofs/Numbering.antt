@@ -11,13 +11,12 @@ use Rattle.dimensions.specs.declared.Dimensions.{Dimensions}
 use Rattle.dimensions.specs.Sizes.{inputWires}
 use Rattle.dimensions.proofs.Products.{product}
 use Rattle.gates.specs.Gates.{Gate}
-use Rattle.gates.specs.Gates.Gate.{INV}
 use Rattle.gates.specs.Memory.{gateOf, gatesOf, accepted}
 use Rattle.gates.proofs.InMemory.{accepted-length}
-use Rattle.lexer.specs.Spelling.{bytes}
-use Rattle.bristol.specs.Lines.{sizeLine, inputLine, outputLine, gateLine, gateLines, linesOf}
+use Rattle.bristol_line.specs.Lines.{line, sizeLine, inputLine, outputLine, gateLine}
+use Rattle.bristol_line.proofs.Lengths.{size-length, input-length, output-length, gate-length}
+use Rattle.bristol.specs.Text.{gateLines, linesOf}
 use Rattle.bristol.specs.Writing.{lineAt}
-use Rattle.bristol.proofs.Composing.{size-length, input-length, output-length, gate-length}
 
 gate-lines : (wire : ℕ) (gs : List Gate) → length (gateLines wire gs) ≡ length gs
 unfolding gateLines
@@ -47,12 +46,6 @@ gate-line-at wire (k ∷ a ∷ b ∷ ws) (suc i) h =
     let next : wire + suc i ≡ suc wire + i = omega arith in
     rw (first, second, third, next) (gate-line-at (suc wire) ws i (omega arith))
 
--- a known kind that is neither XOR nor AND
-pub gate-inv : (k a b : ℕ) → (k ≡ 0 → ⊥) → (k ≡ 1 → ⊥) → gateOf k a b ≡ INV a
-gate-inv zero a b x y = absurd (x refl)
-gate-inv (suc zero) a b x y = absurd (y refl)
-gate-inv (suc (suc k)) a b x y = refl
-
 -- the inputs of any dimensions are few
 pub inputs-small : (d : Dimensions) → d .n ≤ 255 → d .left ≤ 255 → d .right ≤ 255 → inputWires d ≤ 17179869184
 inputs-small d n l r = omega (arith, product (2 * d .n) (d .left + d .right) (omega arith) (omega arith), product (3 * d .n) (d .n) (omega arith) (omega arith))
@@ -67,7 +60,7 @@ gate-lines-length wire (g ∷ gs) (suc i) = gate-lines-length (suc wire) gs i
 
 pub lines-length : (d : Dimensions) (gs : List Gate) (i : ℕ) → length (getD (linesOf d gs) i []) ≤ 127
 unfolding linesOf
-lines-length d gs zero = size-length (inputWires d) (length gs)
+lines-length d gs zero = size-length (length gs) (inputWires d + length gs)
 lines-length d gs (suc zero) = input-length d
 lines-length d gs (suc (suc zero)) = output-length d
 lines-length d gs (suc (suc (suc zero))) = omega arith
@@ -75,11 +68,11 @@ lines-length d gs (suc (suc (suc (suc i)))) = gate-lines-length (inputWires d) g
 
 -- ---- the lines of a number
 
-pub lines-first : (d : Dimensions) (ws : List ℕ) (i : ℕ) → accepted (inputWires d) ws ≡ true → i ≡ 0 → lineAt d ws i ≡ sizeLine (inputWires d) (length ws / 3)
+pub lines-first : (d : Dimensions) (ws : List ℕ) (i : ℕ) → accepted (inputWires d) ws ≡ true → i ≡ 0 → lineAt d ws i ≡ sizeLine (length ws / 3) (inputWires d + length ws / 3)
 unfolding linesOf
 lines-first d ws i a e =
     let count : length (gatesOf ws) ≡ length ws / 3 = omega (arith, accepted-length (inputWires d) ws a) in
-    ap (lineAt d ws) e ∙ ap (sizeLine (inputWires d)) count
+    ap (lineAt d ws) e ∙ ap (λ (k : ℕ). sizeLine k (inputWires d + k)) count
 
 pub lines-second : (d : Dimensions) (ws : List ℕ) (i : ℕ) → i ≡ 1 → lineAt d ws i ≡ inputLine d
 unfolding linesOf
@@ -89,7 +82,7 @@ pub lines-third : (d : Dimensions) (ws : List ℕ) (i : ℕ) → i ≡ 2 → lin
 unfolding linesOf
 lines-third d ws i e = ap (lineAt d ws) e
 
-pub lines-blank : (d : Dimensions) (ws : List ℕ) (i : ℕ) → i ≡ 3 → lineAt d ws i ≡ bytes "\n"
+pub lines-blank : (d : Dimensions) (ws : List ℕ) (i : ℕ) → i ≡ 3 → lineAt d ws i ≡ line []
 unfolding linesOf
 lines-blank d ws i e = ap (lineAt d ws) e
 

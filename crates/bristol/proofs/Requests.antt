@@ -24,7 +24,7 @@ use Rattle.gates.specs.Memory.{gatesOf, accepted, over}
 use Rattle.bristol.specs.declared.Written.{Written}
 use Rattle.bristol.specs.declared.Written.the-variants as W
 use Rattle.bristol.specs.declared.WrittenLines.the-variants as lines
-use Rattle.bristol.specs.Lines.{linesOf}
+use Rattle.bristol.specs.Text.{linesOf}
 use Rattle.bristol.specs.Writing.{circuitChecks, lineAt, checks, written, filled, linesAt, writtenLines, filledLines}
 use Rattle.bristol.proofs.Written.{the-type}
 

@@ -13,7 +13,7 @@ use Rattle.bristol.specs.declared.Written.{Written}
 use Rattle.bristol.specs.declared.Written.the-variants.{Line, Past, Refused}
 use Rattle.bristol.specs.declared.WrittenLines.{WrittenLines}
 use Rattle.bristol.specs.declared.WrittenLines.the-variants as lines
-use Rattle.bristol.specs.Lines.{linesOf}
+use Rattle.bristol.specs.Text.{linesOf}
 
 -- 1, 2, 9: words that are no gates behind the inputs
 abbrev pub circuitChecks : Dimensions → List ℕ → List Check

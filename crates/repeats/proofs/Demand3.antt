@@ -30,8 +30,8 @@ use Rattle.wires.specs.Layout.{upto}
 use Rattle.wires.proofs.Series.{length-upto, upto-at, upto-cong}
 use Rattle.netlist.specs.Outputs.{closed}
 use Rattle.netlist.proofs.EveryState.{gates-carry-out}
-use Rattle.bristol.specs.Lines.{circuitText}
 use Rattle.answers.specs.Printed.{answerText}
+use Rattle.bristol.specs.Text.{circuitText}
 use Rattle.repeats.specs.Repeats.{Attempt, History, circuitWords, ended, longOnes}
 use Rattle.repeats.specs.Demand3.{Accepts, historyOf, Follows, answerFor, Ends, seen, Demand3}
 use Rattle.repeats.proofs.Histories.{closed-open, open-closed, repeated, number, repeats-are}

@@ -16,8 +16,8 @@ use Rattle.verdicts.specs.Verdicts.{verdictOf}
 use Rattle.solver.specs.Entries.{answerOf}
 use Rattle.gates.specs.Memory.{gatesOf}
 use Rattle.netlist.specs.Outputs.{closed, CarriesOut}
-use Rattle.bristol.specs.Lines.{circuitText}
 use Rattle.answers.specs.Printed.{answerText}
+use Rattle.bristol.specs.Text.{circuitText}
 use Rattle.repeats.specs.Repeats.{Attempt, History, circuitWords, repeats, ended, longOnes}
 
 -- ---- history

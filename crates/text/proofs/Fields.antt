@@ -5,9 +5,9 @@ use mathlib.Core.Bool.{Bool, true, not, _&&_, _||_, false≢true}
 use mathlib.Core.List.{List, [], _∷_, _++_}
 use Prim.Native.Nat.{ℕ}
 use native.Mathlib.Omega.{arith}
-use borrow.Author.Tests.{leb-true, ne-eqb}
+use borrow.Author.Tests.{leb-true, ne-eqb, not-true}
 use lib.Dec.{eqb, leb, ltb}
-use Rattle.words.proofs.Truth.{and-l, and-r, and-i, not-f}
+use Rattle.words.proofs.Truth.{and-l, and-r, and-i}
 use Rattle.text.specs.Decimal.{decimal}
 use Rattle.text.proofs.Decimals.{isDigit, allDigits, decimal-digits}
 
@@ -38,10 +38,10 @@ pub field-split : (xs ys : List ℕ) (x y : ℕ) (s t : List ℕ) → plain xs �
 field-split [] [] x y s t h k p q e = (refl, cc, cc)
 field-split [] (b ∷ ys) x y s t h k p q e =
     let same : b ≡ x = cc in
-    absurd (false≢true (sym (not-f (ends b) (and-l (not (ends b)) _ k)) ∙ ap ends same ∙ p))
+    absurd (false≢true (sym (not-true (ends b) (and-l (not (ends b)) _ k)) ∙ ap ends same ∙ p))
 field-split (a ∷ xs) [] x y s t h k p q e =
     let same : a ≡ y = cc in
-    absurd (false≢true (sym (not-f (ends a) (and-l (not (ends a)) _ h)) ∙ ap ends same ∙ q))
+    absurd (false≢true (sym (not-true (ends a) (and-l (not (ends a)) _ h)) ∙ ap ends same ∙ q))
 field-split (a ∷ xs) (b ∷ ys) x y s t h k p q e =
     let head : a ≡ b = cc in
     let tail : xs ++ (x ∷ s) ≡ ys ++ (y ∷ t) = cc in

@@ -1,9 +1,9 @@
 -- `gate_text` meets its contract: three words a gate, and a wire a gate behind the inputs.
 -- Assumes nothing.
-use mathlib.Core.Path.{sym}
+use mathlib.Core.Path.{sym, ap, _∙_}
 use native.Mathlib.Omega.{arith}
 use denote.Ref.{now}
-use Rattle.bristol.proofs.Composing.{same-line}
+use Rattle.bristol_line.specs.ByValue.{lineOf}
 use Rattle.bristol.proofs.Numbering.{gate-line-at}
 use borrow.Author.Needs.{needs}
 use Rattle.bristol.proofs.gate_text.Statement.{statement}
@@ -12,59 +12,54 @@ use Rattle.bristol.proofs.gate_text.Tie as tie
 mul-at : tie.Need-mul-at
 mul-at c = search needs
 
-mul-gate-line : tie.Need-mul-gate-line
-mul-gate-line c = search needs
+mul-gate : tie.Need-mul-gate
+mul-gate c = search needs
 
-shared-slice-read-gate-line : tie.Need-shared-slice-read-gate-line
-shared-slice-read-gate-line c = search needs
+shared-slice-read-gate : tie.Need-shared-slice-read-gate
+shared-slice-read-gate c = search needs
 
-add-gate-line : tie.Need-add-gate-line
-add-gate-line c = search needs
+add-gate : tie.Need-add-gate
+add-gate c = search needs
 
-mul-gate-line-2 : tie.Need-mul-gate-line-2
-mul-gate-line-2 c = search needs
+mul-gate-2 : tie.Need-mul-gate-2
+mul-gate-2 c = search needs
 
-shared-slice-read-gate-line-2 : tie.Need-shared-slice-read-gate-line-2
-shared-slice-read-gate-line-2 c = search needs
+shared-slice-read-gate-2 : tie.Need-shared-slice-read-gate-2
+shared-slice-read-gate-2 c = search needs
 
-add-gate-line-2 : tie.Need-add-gate-line-2
-add-gate-line-2 c = search needs
+add-gate-2 : tie.Need-add-gate-2
+add-gate-2 c = search needs
 
-mul-gate-line-3 : tie.Need-mul-gate-line-3
-mul-gate-line-3 c = search needs
+mul-gate-3 : tie.Need-mul-gate-3
+mul-gate-3 c = search needs
 
-shared-slice-read-gate-line-3 : tie.Need-shared-slice-read-gate-line-3
-shared-slice-read-gate-line-3 c = search needs
+shared-slice-read-gate-3 : tie.Need-shared-slice-read-gate-3
+shared-slice-read-gate-3 c = search needs
 
-add-gate-line-3 : tie.Need-add-gate-line-3
-add-gate-line-3 c = search needs
+add-gate-3 : tie.Need-add-gate-3
+add-gate-3 c = search needs
 
-gate-line-requires : tie.Need-gate-line-requires
-gate-line-requires c κs = search needs
-
-same-length : tie.Need-same-length
-same-length c = search needs
+gate-requires : tie.Need-gate-requires
+gate-requires c κs = search needs
 
 returns : tie.Need-returns
 returns c =
-    let call = c .before .before in
-    let start = call .before .before .before .before .before .before .before .args in
-    same-line (now (start .text)) _ _ _ _ (call .gate-line .ensures) (sym (gate-line-at (start .inputs) (now (start .gates)) (start .number) (omega arith)))
+    let start = c .before .before .before .before .before .args in
+    c .gate .ensures ∙ ap lineOf (sym (gate-line-at (start .inputs) (now (start .gates)) (start .number) (omega arith)))
 
 pub gate-text-spec : {M : Type 1} → statement M
 gate-text-spec =
     tie.close
     (tie.spec
     mul-at
-    mul-gate-line
-    shared-slice-read-gate-line
-    add-gate-line
-    mul-gate-line-2
-    shared-slice-read-gate-line-2
-    add-gate-line-2
-    mul-gate-line-3
-    shared-slice-read-gate-line-3
-    add-gate-line-3
-    gate-line-requires
-    same-length
+    mul-gate
+    shared-slice-read-gate
+    add-gate
+    mul-gate-2
+    shared-slice-read-gate-2
+    add-gate-2
+    mul-gate-3
+    shared-slice-read-gate-3
+    add-gate-3
+    gate-requires
     returns)

@@ -9,7 +9,7 @@ use mathlib.Core.List.{[]}
 use lib.ListN.{length, drop}
 use borrow.Rule.Slice.PartMut.{putMid}
 use Rattle.gates.specs.Memory.{gatesOf}
-use Rattle.bristol.specs.Lines.{linesOf}
+use Rattle.bristol.specs.Text.{linesOf}
 use Rattle.bristol.specs.Writing.{fitting}
 use Rattle.bristol.proofs.Numbering.{lines-of-words}
 use Rattle.bristol.proofs.Requests.{taken-accepted}

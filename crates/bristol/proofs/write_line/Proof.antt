@@ -8,7 +8,7 @@ use lib.ListN.{length}
 use Rattle.refusals.specs.declared.Outcome.the-variants.{Taken}
 use Rattle.refusals.specs.Checks.{outcome}
 use Rattle.gates.specs.Memory.{gatesOf}
-use Rattle.bristol.specs.Lines.{linesOf}
+use Rattle.bristol.specs.Text.{linesOf}
 use Rattle.bristol.specs.Writing.{circuitChecks}
 use Rattle.bristol.proofs.Numbering.{lines-of-words}
 use Rattle.bristol.proofs.Requests.{taken-accepted, refuse-circuit, past-last}

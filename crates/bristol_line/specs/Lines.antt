@@ -1,11 +1,10 @@
--- The circuit text, Bristol Fashion, by its lines: document 01, "Circuit".
-use Prim.Native.Nat.{ℕ, suc, _+_, _*_}
-use mathlib.Core.List.{List, [], _∷_, _++_, flatten}
-use lib.ListN.{length}
+-- The lines of the circuit text, Bristol Fashion: document 01, "Circuit".
+use Prim.Native.Nat.{ℕ, _*_}
+use mathlib.Core.List.{List, [], _∷_, _++_}
 use Rattle.lexer.specs.Spelling.{bytes}
 use Rattle.text.specs.Decimal.{decimal}
 use Rattle.dimensions.specs.declared.Dimensions.{Dimensions}
-use Rattle.dimensions.specs.Sizes.{stateWires, inputWires}
+use Rattle.dimensions.specs.Sizes.{stateWires}
 use Rattle.gates.specs.Gates.{Gate}
 use Rattle.gates.specs.Gates.Gate.{XOR, AND, INV}
 
@@ -17,7 +16,7 @@ line (f ∷ g ∷ fs) = f ++ (32 ∷ line (g ∷ fs))
 
 -- the first header line: the number of gates and of wires
 abbrev pub sizeLine : ℕ → ℕ → List ℕ
-sizeLine inputs gates = line (decimal gates ∷ decimal (inputs + gates) ∷ [])
+sizeLine gates wires = line (decimal gates ∷ decimal wires ∷ [])
 
 -- the second: the number of input values, and the widths of left rows, right rows and state
 abbrev pub inputLine : Dimensions → List ℕ
@@ -36,19 +35,3 @@ gateFields wire (INV a) = bytes "1" ∷ bytes "1" ∷ decimal a ∷ decimal wire
 -- the line of a gate that drives a wire
 abbrev pub gateLine : ℕ → Gate → List ℕ
 gateLine wire gate = line (gateFields wire gate)
-
--- a line a gate, the first of which drives a wire and each later one the next
-unfoldable pub gateLines : ℕ → List Gate → List (List ℕ)
-gateLines wire [] = []
-gateLines wire (g ∷ gs) = gateLine wire g ∷ gateLines (suc wire) gs
-
--- three header lines, the blank line, a line a gate
-unfoldable pub linesOf : Dimensions → List Gate → List (List ℕ)
-unfolding gateLines
-linesOf d gates =
-    sizeLine (inputWires d) (length gates) ∷ inputLine d ∷ outputLine d ∷ line [] ∷ gateLines (inputWires d) gates
-
--- the text is its lines, joined
-unfoldable pub circuitText : Dimensions → List Gate → List ℕ
-unfolding linesOf flatten
-circuitText d gates = flatten (linesOf d gates)

@@ -1,0 +1,4 @@
+pub mod Pieces
+pub mod Lengths
+pub mod Examples
+pub mod Injective
