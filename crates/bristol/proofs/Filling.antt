@@ -27,11 +27,11 @@ use Rattle.bristol.specs.Writing.{circuitChecks, lineAt, written, filled
 use Rattle.bristol.proofs.Written.{the-type}
 use Rattle.bristol.proofs.Parts.{lent-part, put-back}
 use Rattle.bristol.proofs.Fitting.{fitting-next, fitting-none}
-use Rattle.bristol.proofs.Requests.{was-put, not-put, lines-lead}
+use Rattle.bristol.proofs.Requests.{was-put, not-put, lines-by-room}
 
 -- the lent bytes after some turns, with the number of the line to come and of the bytes put
 pub record Put (ls : List (List ℕ)) (lent : List ℕ) (line : ℕ) (bytes : List ℕ) (next at : ℕ) : Type 0 where
-  pub forth : line ≤ next
+  pub after : line ≤ next
   pub inside : at ≤ length lent
   pub same : length bytes ≡ length lent
   pub counted : next - line + length (fitting (length lent - at) (drop next ls)) ≡ length (fitting (length lent) (drop line ls))
@@ -41,7 +41,7 @@ pub record Put (ls : List (List ℕ)) (lent : List ℕ) (line : ℕ) (bytes : Li
 module _ (ls : List (List ℕ)) (lent : List ℕ) (line : ℕ) where
   pub none-put : Put ls lent line lent line 0
   none-put = record {
-    forth = omega arith;
+    after = omega arith;
     inside = omega arith;
     same = refl;
     counted = rw sub-zero (omega arith);
@@ -68,13 +68,13 @@ module _ (ls : List (List ℕ)) (lent : List ℕ) (line : ℕ) where
       split : out ≡ (take at bytes ++ l) ++ drop (length l) (drop at bytes)
       split = o ∙ sym (append-assoc (take at bytes) l (drop (length l) (drop at bytes)))
 
-      pub one-more : Put ls lent line out (suc next) (at + length l)
+      one-more : Put ls lent line out (suc next) (at + length l)
       unfolding flatten
       one-more = record {
-        forth = omega (arith, p .forth);
+        after = omega (arith, p .after);
         inside = room;
         same = ap length split ∙ omega (arith, length-append (take at bytes ++ l) (drop (length l) (drop at bytes)), front, length-drop (length l) (drop at bytes), length-drop at bytes, p .same, room);
-        counted = omega (arith, p .counted, p .forth, ap length more);
+        counted = omega (arith, p .counted, p .after, ap length more);
         text =
             ap (λ (x : List ℕ). x ++ flatten (fitting (length lent - (at + length l)) (drop (suc next) ls)))
             (ap (take (at + length l)) split ∙ take-at (take at bytes ++ l) (drop (length l) (drop at bytes)) (at + length l) front)
@@ -91,13 +91,13 @@ module _ (ls : List (List ℕ)) (lent : List ℕ) (line : ℕ) where
       unfolding flatten
       put-text = sym (ap (λ (x : List (List ℕ)). take at bytes ++ flatten x) z ∙ append-nil (take at bytes)) ∙ p .text
 
-      pub put-count : next - line ≡ length (fitting (length lent) (drop line ls))
+      put-count : next - line ≡ length (fitting (length lent) (drop line ls))
       put-count = omega (arith, p .counted, ap length z)
 
-      pub put-length : at ≡ length (flatten (fitting (length lent) (drop line ls)))
+      put-length : at ≡ length (flatten (fitting (length lent) (drop line ls)))
       put-length = sym (length-take-le at bytes (omega (arith, p .same, p .inside))) ∙ ap length put-text
 
-      pub put-bytes : bytes ≡ over (flatten (fitting (length lent) (drop line ls))) lent
+      put-bytes : bytes ≡ over (flatten (fitting (length lent) (drop line ls))) lent
       put-bytes =
           sym (take-append-drop at bytes) ∙ ap₂ (λ (x y : List ℕ). x ++ y) put-text (p .kept)
           ∙ ap (λ (k : ℕ). flatten (fitting (length lent) (drop line ls)) ++ drop k lent) put-length
@@ -129,11 +129,11 @@ module _ (d : Dimensions) (ws : List ℕ) (e : outcome (circuitChecks d ws) ≡ 
     (p : Put (linesOf d (gatesOf ws)) lent line bytes next at) (z : fitting (length lent - at) (drop next (linesOf d (gatesOf ws))) ≡ []) where
   -- a first line that there is and that has no room: none is put
   long-first : line < length (linesOf d (gatesOf ws)) → ltb (length lent) (length (lineAt d ws line)) ≡ true → next ≡ line
-  long-first h q = omega (arith, p .forth, put-count (linesOf d (gatesOf ws)) lent line bytes next at p z, ap length (fitting-none (linesOf d (gatesOf ws)) line (length lent) h (ltb-true _ _ q)))
+  long-first h q = omega (arith, p .after, put-count (linesOf d (gatesOf ws)) lent line bytes next at p z, ap length (fitting-none (linesOf d (gatesOf ws)) line (length lent) h (ltb-true _ _ q)))
 
   pub lines-put : (next ≡ line → length (linesOf d (gatesOf ws)) ≤ line) → (lines.Lines (next - line) at ≡ writtenLines d ws line lent) × (bytes ≡ filledLines d ws line lent)
   lines-put some =
-      let q = lines-lead d ws line lent e false (fits (ltb (length lent) (length (lineAt d ws line))) refl (ltb line (length (linesOf d (gatesOf ws)))) refl) in
+      let q = lines-by-room d ws line lent e false (fits (ltb (length lent) (length (lineAt d ws line))) refl (ltb line (length (linesOf d (gatesOf ws)))) refl) in
       (ap₂ lines.Lines (put-count (linesOf d (gatesOf ws)) lent line bytes next at p z) (put-length (linesOf d (gatesOf ws)) lent line bytes next at p z) ∙ sym (q .0), put-bytes (linesOf d (gatesOf ws)) lent line bytes next at p z ∙ sym (q .1))
     where
       fits : (b : Bool) → ltb (length lent) (length (lineAt d ws line)) ≡ b → (c : Bool) → ltb line (length (linesOf d (gatesOf ws))) ≡ c
@@ -147,7 +147,7 @@ module _ (d : Dimensions) (ws : List ℕ) (e : outcome (circuitChecks d ws) ≡ 
   pub lines-refused : line < length (linesOf d (gatesOf ws)) → next ≡ line → (lines.Refused LineBuffer ≡ writtenLines d ws line lent) × (bytes ≡ filledLines d ws line lent)
   unfolding flatten
   lines-refused h none =
-      let q = lines-lead d ws line lent e true (long (ltb (length lent) (length (lineAt d ws line))) refl) in
+      let q = lines-by-room d ws line lent e true (long (ltb (length lent) (length (lineAt d ws line))) refl) in
       (sym (q .0), put-bytes (linesOf d (gatesOf ws)) lent line bytes next at p z ∙ ap (λ (x : List (List ℕ)). over (flatten x) lent) empty ∙ sym (q .1))
     where
       long : (b : Bool) → ltb (length lent) (length (lineAt d ws line)) ≡ b → ltb (length lent) (length (lineAt d ws line)) ≡ true

@@ -22,9 +22,9 @@ use Rattle.bristol.specs.declared.WrittenLines.{WrittenLines}
 use Rattle.bristol.specs.declared.WrittenLines.the-variants as lines
 use Rattle.bristol.specs.Text.{linesOf, circuitText}
 use Rattle.bristol.specs.Writing.{circuitChecks, lineAt, written, filled, linesAt, writtenLines, filledLines}
-use Rattle.bristol.proofs.Numbering.{lines-of-words, lines-length}
+use Rattle.bristol.proofs.Numbering.{lines-length}
 use Rattle.bristol.proofs.Fitting.{fitting-past, fitting-next, fitting-front}
-use Rattle.bristol.proofs.Requests.{taken-accepted, past-last, line-put, lines-lead}
+use Rattle.bristol.proofs.Requests.{taken-lines, past-last, line-put, lines-by-room}
 
 -- ---- requests in a row, whatever each puts
 
@@ -93,12 +93,12 @@ module _ (d : Dimensions) (ws : List ℕ) (e : outcome (circuitChecks d ws) ≡ 
   unfolding circuitText
   requests-join =
       asked-join (linesOf d (gatesOf ws)) (λ j. front (written d ws j (lent j)) (filled d ws j (lent j))) (λ j. 1) one-line (λ i h. omega arith)
-      0 (4 + length ws / 3) (omega (arith, lines-of-words d ws (taken-accepted d ws e)))
+      0 (4 + length ws / 3) (omega (arith, taken-lines d ws e))
 
   -- and there is no further line
   pub requests-end : (i : ℕ) → 4 + length ws / 3 ≤ i → (written d ws i (lent i) ≡ W.Past) × (filled d ws i (lent i) ≡ lent i)
   requests-end i h =
-      let p = past-last d ws i (lent i) e (omega (arith, lines-of-words d ws (taken-accepted d ws e))) in
+      let p = past-last d ws i (lent i) e (omega (arith, taken-lines d ws e)) in
       (sym (p .0), sym (p .1))
 
 -- ---- as many lines a request as fit
@@ -121,7 +121,7 @@ requestedLines d ws lent i k = asked (λ j. fronts (writtenLines d ws j (lent j)
 module _ (d : Dimensions) (ws : List ℕ) (e : outcome (circuitChecks d ws) ≡ Taken) (lent : ℕ → List ℕ) (room : (i : ℕ) → length (lineAt d ws i) ≤ length (lent i)) where
   given-lines : (i : ℕ) → (writtenLines d ws i (lent i) ≡ lines.Lines (length (linesAt d ws i (lent i))) (length (flatten (linesAt d ws i (lent i)))))
       × (filledLines d ws i (lent i) ≡ over (flatten (linesAt d ws i (lent i))) (lent i))
-  given-lines i = lines-lead d ws i (lent i) e false (le-ltb (length (lent i)) (length (lineAt d ws i)) (room i))
+  given-lines i = lines-by-room d ws i (lent i) e false (le-ltb (length (lent i)) (length (lineAt d ws i)) (room i))
 
   some-lines : (i : ℕ) → fronts (writtenLines d ws i (lent i)) (filledLines d ws i (lent i)) ≡ flatten (take (counted (writtenLines d ws i (lent i))) (drop i (linesOf d (gatesOf ws))))
   some-lines i =
@@ -138,13 +138,13 @@ module _ (d : Dimensions) (ws : List ℕ) (e : outcome (circuitChecks d ws) ≡ 
   unfolding circuitText
   lines-join k h =
       asked-join (linesOf d (gatesOf ws)) (λ j. fronts (writtenLines d ws j (lent j)) (filledLines d ws j (lent j))) (λ j. counted (writtenLines d ws j (lent j)))
-      some-lines one-at-least 0 k (omega (arith, lines-of-words d ws (taken-accepted d ws e)))
+      some-lines one-at-least 0 k (omega (arith, taken-lines d ws e))
 
   -- and past the last line none is put
   pub lines-end : (i : ℕ) → 4 + length ws / 3 ≤ i → (writtenLines d ws i (lent i) ≡ lines.Lines 0 0) × (filledLines d ws i (lent i) ≡ lent i)
   unfolding flatten
   lines-end i h =
-      let none : linesAt d ws i (lent i) ≡ [] = fitting-past (linesOf d (gatesOf ws)) i (length (lent i)) (omega (arith, lines-of-words d ws (taken-accepted d ws e))) in (
+      let none : linesAt d ws i (lent i) ≡ [] = fitting-past (linesOf d (gatesOf ws)) i (length (lent i)) (omega (arith, taken-lines d ws e)) in (
         given-lines i .0 ∙ ap (λ (x : List (List ℕ)). lines.Lines (length x) (length (flatten x))) none,
         given-lines i .1 ∙ ap (λ (x : List (List ℕ)). over (flatten x) (lent i)) none,
       )

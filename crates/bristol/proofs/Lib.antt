@@ -3,7 +3,7 @@ pub mod Numbering
 pub mod Requests
 pub mod Fitting
 pub mod Filling
-pub mod Answers
+pub mod Counts
 pub mod Joining
 pub mod Examples
 pub mod Injective

@@ -24,7 +24,7 @@ gate-lines wire [] = refl
 gate-lines wire (g ∷ gs) = ap suc (gate-lines (suc wire) gs)
 
 -- four lines and one for each gate
-pub lines-number : (d : Dimensions) (gs : List Gate) → length (linesOf d gs) ≡ 4 + length gs
+lines-number : (d : Dimensions) (gs : List Gate) → length (linesOf d gs) ≡ 4 + length gs
 unfolding linesOf
 lines-number d gs = omega (arith, gate-lines (inputWires d) gs)
 

@@ -4,7 +4,7 @@ use mathlib.Core.Path.{_≡_, refl, sym, ap, subst, _∙_}
 use mathlib.Core.Bool.{Bool, true, false, not, _||_, cond}
 use mathlib.Core.List.{List, [], _∷_, _++_, flatten}
 use mathlib.Core.Logic.{⊎-elim}
-use Prim.Native.Nat.{ℕ, _≤_, _<_}
+use Prim.Native.Nat.{ℕ, _+_, _/_, _≤_, _<_}
 use native.Mathlib.Omega.{arith}
 use borrow.Author.Tests.{lt-ltb, le-ltb, ltb-true, ltb-false, not-false}
 use lib.Dec.{ltb}
@@ -27,6 +27,7 @@ use Rattle.bristol.specs.declared.WrittenLines.the-variants as lines
 use Rattle.bristol.specs.Text.{linesOf}
 use Rattle.bristol.specs.Writing.{circuitChecks, lineAt, checks, written, filled, linesAt, writtenLines, filledLines}
 use Rattle.bristol.proofs.Written.{the-type}
+use Rattle.bristol.proofs.Numbering.{lines-of-words}
 
 module _ (d : Dimensions) (ws : List ℕ) where
   pub refuse-size : (q : Refusal) → outcome (sizeChecks (d .n) (d .left) (d .right)) ≡ Refused q → Refused q ≡ outcome (circuitChecks d ws)
@@ -34,14 +35,14 @@ module _ (d : Dimensions) (ws : List ℕ) where
 
   module _ (s : outcome (sizeChecks (d .n) (d .left) (d .right)) ≡ Taken) where
     -- the checks on the sizes are passed: the gates decide
-    sized : outcome (circuitChecks d ws) ≡ outcome (check (not (accepted (inputWires d) ws)) Gates ∷ [])
-    sized = outcome-taken (sizeChecks (d .n) (d .left) (d .right)) (check (not (accepted (inputWires d) ws)) Gates ∷ []) s
+    by-gates : outcome (circuitChecks d ws) ≡ outcome (check (not (accepted (inputWires d) ws)) Gates ∷ [])
+    by-gates = outcome-taken (sizeChecks (d .n) (d .left) (d .right)) (check (not (accepted (inputWires d) ws)) Gates ∷ []) s
 
     pub refuse-gates : not (accepted (inputWires d) ws) ≡ true → Refused Gates ≡ outcome (circuitChecks d ws)
-    refuse-gates e = sym (sized ∙ ap (λ (b : Bool). outcome (check b Gates ∷ [])) e)
+    refuse-gates e = sym (by-gates ∙ ap (λ (b : Bool). outcome (check b Gates ∷ [])) e)
 
     pub take-circuit : not (accepted (inputWires d) ws) ≡ false → Taken ≡ outcome (circuitChecks d ws)
-    take-circuit e = sym (sized ∙ ap (λ (b : Bool). outcome (check b Gates ∷ [])) e)
+    take-circuit e = sym (by-gates ∙ ap (λ (b : Bool). outcome (check b Gates ∷ [])) e)
 
   -- a circuit that is taken has accepted gates
   pub taken-accepted : outcome (circuitChecks d ws) ≡ Taken → accepted (inputWires d) ws ≡ true
@@ -50,21 +51,25 @@ module _ (d : Dimensions) (ws : List ℕ) where
       let rows = cond (outside 128 (d .left) || outside 128 (d .right)) (Refused RowCount) gates in
       not-false _ (check-passed (not (accepted (inputWires d) ws)) Gates Taken (checks-taken (outside 128 (d .left) || outside 128 (d .right)) RowCount gates (checks-taken (outside 32 (d .n)) Variables rows e)))
 
+  -- and so many lines
+  pub taken-lines : outcome (circuitChecks d ws) ≡ Taken → length (linesOf d (gatesOf ws)) ≡ 4 + length ws / 3
+  taken-lines e = lines-of-words d ws (taken-accepted e)
+
   module _ (i : ℕ) (lent : List ℕ) where
     -- what an outcome of the checks leads to
-    leads : (o : Outcome) → outcome (checks d ws i lent) ≡ o
+    by-outcome : (o : Outcome) → outcome (checks d ws i lent) ≡ o
         → (written d ws i lent ≡ given o (cond (ltb i (length (linesOf d (gatesOf ws)))) (W.Line (length (lineAt d ws i))) W.Past) W.Refused)
         × (filled d ws i lent ≡ given o (over (lineAt d ws i) lent) (λ r. lent))
-    leads o e = (
+    by-outcome o e = (
       ap (λ (x : Outcome). given x (cond (ltb i (length (linesOf d (gatesOf ws)))) (W.Line (length (lineAt d ws i))) W.Past) W.Refused) e,
       ap (λ (x : Outcome). given x (over (lineAt d ws i) lent) (λ r. lent)) e,
     )
 
     -- and for several lines
-    lead-lines : (o : Outcome) → outcome (checks d ws i lent) ≡ o
+    lines-by-outcome : (o : Outcome) → outcome (checks d ws i lent) ≡ o
         → (writtenLines d ws i lent ≡ given o (lines.Lines (length (linesAt d ws i lent)) (length (flatten (linesAt d ws i lent)))) lines.Refused)
         × (filledLines d ws i lent ≡ given o (over (flatten (linesAt d ws i lent)) lent) (λ r. lent))
-    lead-lines o e = (
+    lines-by-outcome o e = (
       ap (λ (x : Outcome). given x (lines.Lines (length (linesAt d ws i lent)) (length (flatten (linesAt d ws i lent)))) lines.Refused) e,
       ap (λ (x : Outcome). given x (over (flatten (linesAt d ws i lent)) lent) (λ r. lent)) e,
     )
@@ -74,22 +79,22 @@ module _ (d : Dimensions) (ws : List ℕ) where
       refused = outcome-refused (circuitChecks d ws) (check (ltb (length lent) (length (lineAt d ws i))) LineBuffer ∷ []) q e
 
       pub refuse-circuit : (W.Refused q ≡ written d ws i lent) × (lent ≡ filled d ws i lent)
-      refuse-circuit = let p = leads (Refused q) refused in (sym (p .0), sym (p .1))
+      refuse-circuit = let p = by-outcome (Refused q) refused in (sym (p .0), sym (p .1))
 
       pub refuse-lines : (lines.Refused q ≡ writtenLines d ws i lent) × (lent ≡ filledLines d ws i lent)
-      refuse-lines = let p = lead-lines (Refused q) refused in (sym (p .0), sym (p .1))
+      refuse-lines = let p = lines-by-outcome (Refused q) refused in (sym (p .0), sym (p .1))
 
     module _ (e : outcome (circuitChecks d ws) ≡ Taken) where
       -- the room decides
-      roomy : (b : Bool) → ltb (length lent) (length (lineAt d ws i)) ≡ b → outcome (checks d ws i lent) ≡ outcome (check b LineBuffer ∷ [])
-      roomy b h =
+      by-room : (b : Bool) → ltb (length lent) (length (lineAt d ws i)) ≡ b → outcome (checks d ws i lent) ≡ outcome (check b LineBuffer ∷ [])
+      by-room b h =
           outcome-taken (circuitChecks d ws) (check (ltb (length lent) (length (lineAt d ws i))) LineBuffer ∷ []) e
           ∙ ap (λ (x : Bool). outcome (check x LineBuffer ∷ [])) h
 
       pub past-last : length (linesOf d (gatesOf ws)) ≤ i → (W.Past ≡ written d ws i lent) × (lent ≡ filled d ws i lent)
       past-last h =
           let none : lineAt d ws i ≡ [] = List·getD-eq-default (linesOf d (gatesOf ws)) [] h in
-          let p = leads Taken (roomy false (ap (λ (l : List ℕ). ltb (length lent) (length l)) none ∙ le-ltb (length lent) 0 (omega arith))) in
+          let p = by-outcome Taken (by-room false (ap (λ (l : List ℕ). ltb (length lent) (length l)) none ∙ le-ltb (length lent) 0 (omega arith))) in
           let past : ltb i (length (linesOf d (gatesOf ws))) ≡ false = le-ltb _ _ h in
           (sym (p .0 ∙ ap (λ (b : Bool). cond b (W.Line (length (lineAt d ws i))) W.Past) past), sym (p .1 ∙ ap (λ (l : List ℕ). over l lent) none))
 
@@ -105,9 +110,9 @@ module _ (d : Dimensions) (ws : List ℕ) where
           go : (b : Bool) → ltb (length lent) (length (lineAt d ws i)) ≡ b
               → (cond b (W.Refused LineBuffer) (W.Line (length (lineAt d ws i))) ≡ written d ws i lent)
               × (cond b lent (over (lineAt d ws i) lent) ≡ filled d ws i lent)
-          go true q = let p = leads (Refused LineBuffer) (roomy true q) in (sym (p .0), sym (p .1))
+          go true q = let p = by-outcome (Refused LineBuffer) (by-room true q) in (sym (p .0), sym (p .1))
           go false q =
-              let p = leads Taken (roomy false q) in
+              let p = by-outcome Taken (by-room false q) in
               (sym (p .0 ∙ ap (λ (b : Bool). cond b (W.Line (length (lineAt d ws i))) W.Past) there), sym (p .1))
 
       module _ (h : i < length (linesOf d (gatesOf ws))) (end : ℕ) (q : end ≡ length (lineAt d ws i)) where
@@ -155,8 +160,8 @@ module _ (d : Dimensions) (ws : List ℕ) where
           go false q x y = absurd (⊎-elim (λ z. omega arith) (λ z. omega arith) (subst (λ (w : Written). OneOf (1 ∷ (2 ∷ [])) (tagOf the-type w)) (sym x) t))
 
       -- several lines: whether the first of them has room decides
-      pub lines-lead : (b : Bool) → ltb (length lent) (length (lineAt d ws i)) ≡ b
+      pub lines-by-room : (b : Bool) → ltb (length lent) (length (lineAt d ws i)) ≡ b
           → (writtenLines d ws i lent ≡ cond b (lines.Refused LineBuffer) (lines.Lines (length (linesAt d ws i lent)) (length (flatten (linesAt d ws i lent)))))
           × (filledLines d ws i lent ≡ cond b lent (over (flatten (linesAt d ws i lent)) lent))
-      lines-lead true q = lead-lines (Refused LineBuffer) (roomy true q)
-      lines-lead false q = lead-lines Taken (roomy false q)
+      lines-by-room true q = lines-by-outcome (Refused LineBuffer) (by-room true q)
+      lines-by-room false q = lines-by-outcome Taken (by-room false q)

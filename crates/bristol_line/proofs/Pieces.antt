@@ -10,7 +10,6 @@ use lib.Seq.{sets}
 use Rattle.words.proofs.Stores.{sets-append}
 use Rattle.text.specs.Decimal.{decimal}
 use Rattle.text.proofs.Decimals.{decimal-digit, decimal-step}
-use Rattle.bristol_line.specs.declared.Line.{Line}
 use Rattle.bristol_line.specs.ByValue.{lineOf}
 
 -- a piece written to a list from a place on: the list then, and the place behind it
@@ -65,15 +64,16 @@ ended x = decimal x ++ (10 ∷ [])
 abbrev zeros : List ℕ
 zeros = replicate 128 0
 
--- the pieces of a line, from its front on
-pub two-pieces : (a b r s : List ℕ) (g h : ℕ) → Piece zeros 0 r g a → Piece r g s h b → Piece zeros 0 s h (a ++ b)
-two-pieces a b r s g h p q = further zeros r s a b 0 g h p q
-
+-- the pieces of a line, from its front on: three, four, five
 pub three-pieces : (a b c r s t : List ℕ) (g h i : ℕ) → Piece zeros 0 r g a → Piece r g s h b → Piece s h t i c → Piece zeros 0 t i ((a ++ b) ++ c)
-three-pieces a b c r s t g h i p q v = two-pieces (a ++ b) c s t h i (two-pieces a b r s g h p q) v
+three-pieces a b c r s t g h i p q v = further zeros s t (a ++ b) c 0 h i (further zeros r s a b 0 g h p q) v
 
 pub four-pieces : (a b c d r s t u : List ℕ) (g h i j : ℕ) → Piece zeros 0 r g a → Piece r g s h b → Piece s h t i c → Piece t i u j d → Piece zeros 0 u j (((a ++ b) ++ c) ++ d)
-four-pieces a b c d r s t u g h i j p q v w = two-pieces ((a ++ b) ++ c) d t u i j (three-pieces a b c r s t g h i p q v) w
+four-pieces a b c d r s t u g h i j p q v w = further zeros t u ((a ++ b) ++ c) d 0 i j (three-pieces a b c r s t g h i p q v) w
+
+pub five-pieces : (a b c d e r s t u v : List ℕ) (g h i j k : ℕ) → Piece zeros 0 r g a → Piece r g s h b → Piece s h t i c → Piece t i u j d → Piece u j v k e
+    → Piece zeros 0 v k ((((a ++ b) ++ c) ++ d) ++ e)
+five-pieces a b c d e r s t u v g h i j k p q w x y = further zeros u v (((a ++ b) ++ c) ++ d) e 0 j k (four-pieces a b c d r s t u g h i j p q w x) y
 
 -- pieces that are the line
 pub made : (front line out : List ℕ) (end : ℕ) → Piece zeros 0 out end front → front ≡ line → record { bytes = out; length = end } ≡ lineOf line

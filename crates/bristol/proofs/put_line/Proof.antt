@@ -10,8 +10,8 @@ use Rattle.gates.specs.Memory.{gatesOf}
 use Rattle.bristol_line.proofs.Lengths.{Holds, holds}
 use Rattle.bristol.specs.Text.{linesOf}
 use Rattle.bristol.specs.Writing.{lineAt}
-use Rattle.bristol.proofs.Numbering.{lines-of-words, lines-length}
-use Rattle.bristol.proofs.Requests.{taken-accepted, line-long, line-copied}
+use Rattle.bristol.proofs.Numbering.{lines-length}
+use Rattle.bristol.proofs.Requests.{taken-accepted, taken-lines, line-long, line-copied}
 use borrow.Author.Needs.{needs}
 use Rattle.bristol.proofs.put_line.Statement.{statement}
 use Rattle.bristol.proofs.put_line.Tie as tie
@@ -23,7 +23,7 @@ line-text-requires c κs =
 
 -- how many lines there are
 number : (c : tie.Start) → length (linesOf (c .args .d) (gatesOf (now (c .args .gates)))) ≡ 4 + length (now (c .args .gates)) / 3
-number c = lines-of-words (c .args .d) (now (c .args .gates)) (taken-accepted (c .args .d) (now (c .args .gates)) (c .pre .0))
+number c = taken-lines (c .args .d) (now (c .args .gates)) (c .pre .0)
 
 -- what the line's text holds
 text : (c : tie.After-line-text) → let start = c .before .before .before .args in Holds (c .line-text .result) (lineAt (start .d) (now (start .gates)) (start .line))

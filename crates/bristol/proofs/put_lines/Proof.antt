@@ -11,8 +11,7 @@ use borrow.Rule.Slice.PartMut.{putMid}
 use Rattle.gates.specs.Memory.{gatesOf}
 use Rattle.bristol.specs.Text.{linesOf}
 use Rattle.bristol.specs.Writing.{fitting}
-use Rattle.bristol.proofs.Numbering.{lines-of-words}
-use Rattle.bristol.proofs.Requests.{taken-accepted}
+use Rattle.bristol.proofs.Requests.{taken-lines}
 use Rattle.bristol.proofs.Fitting.{fitting-past}
 use Rattle.bristol.proofs.Filling.{Put, none-put, line-more, line-last, lines-put, lines-refused}
 use borrow.Author.Needs.{needs}
@@ -50,7 +49,7 @@ enum-known-length c = search needs
 
 -- how many lines there are
 number : (c : tie.Start Inv-loop μ-loop) → length (linesOf (c .args .d) (gatesOf (now (c .args .gates)))) ≡ 4 + length (now (c .args .gates)) / 3
-number c = lines-of-words (c .args .d) (now (c .args .gates)) (taken-accepted (c .args .d) (now (c .args .gates)) (c .pre))
+number c = taken-lines (c .args .d) (now (c .args .gates)) (c .pre)
 
 -- the next line was too long, and changed no byte
 last : (c : tie.At-match-keys2 Inv-loop μ-loop)
@@ -77,7 +76,7 @@ returns c =
     (p .0, last (c .before) .0 ∙ p .1)
 
 sub-t18 : tie.Need-sub-t18 Inv-loop μ-loop
-sub-t18 c = c .before .before .before .before .before .before .before .loop .inv .forth
+sub-t18 c = c .before .before .before .before .before .before .before .loop .inv .after
 
 same-length-2 : tie.Need-same-length-2 Inv-loop μ-loop
 same-length-2 c = ap length (last (c .before) .0) ∙ c .before .before .before .before .before .before .before .loop .inv .same
@@ -117,7 +116,7 @@ loop-again : tie.Need-loop-again Inv-loop μ-loop
 loop-again c = more c
 
 sub-t19 : tie.Need-sub-t19 Inv-loop μ-loop
-sub-t19 c = c .before .loop .inv .forth
+sub-t19 c = c .before .loop .inv .after
 
 same-length-3 : tie.Need-same-length-3 Inv-loop μ-loop
 same-length-3 c = c .before .loop .inv .same

@@ -1,17 +1,12 @@
 -- `write_line` meets its contract: each return cites the law of what its checks found.
 -- Assumes nothing.
 use mathlib.Core.Path.{_≡_, sym, _∙_}
-use Prim.Native.Nat.{_+_, _/_}
 use native.Mathlib.Omega.{arith}
 use denote.Ref.{now}
-use lib.ListN.{length}
 use Rattle.refusals.specs.declared.Outcome.the-variants.{Taken}
 use Rattle.refusals.specs.Checks.{outcome}
-use Rattle.gates.specs.Memory.{gatesOf}
-use Rattle.bristol.specs.Text.{linesOf}
 use Rattle.bristol.specs.Writing.{circuitChecks}
-use Rattle.bristol.proofs.Numbering.{lines-of-words}
-use Rattle.bristol.proofs.Requests.{taken-accepted, refuse-circuit, past-last}
+use Rattle.bristol.proofs.Requests.{taken-lines, refuse-circuit, past-last}
 use borrow.Author.Needs.{needs}
 use Rattle.bristol.proofs.write_line.Statement.{statement}
 use Rattle.bristol.proofs.write_line.Tie as tie
@@ -34,19 +29,13 @@ returns c =
 taken : (c : tie.After-enum-told) → let start = c .before .before .before .before .before .args in outcome (circuitChecks (start .d) (now (start .gates))) ≡ Taken
 taken c = sym (c .before .before .check .ensures) ∙ c .enum-told .given .1
 
--- how many lines there are
-number : (c : tie.After-enum-told) → let start = c .before .before .before .before .before .args in length (linesOf (start .d) (gatesOf (now (start .gates)))) ≡ 4 + length (now (start .gates)) / 3
-number c =
-    let start = c .before .before .before .before .before .args in
-    lines-of-words (start .d) (now (start .gates)) (taken-accepted (start .d) (now (start .gates)) (taken c))
-
 add-if1 : tie.Need-add-if1
 add-if1 c = search needs
 
 returns-2 : tie.Need-returns-2
 returns-2 c =
     let start = c .before .before .before .before .before .before .args in
-    past-last (start .d) (now (start .gates)) (start .line) (now (start .bytes)) (taken (c .before)) (omega (arith, number (c .before)))
+    past-last (start .d) (now (start .gates)) (start .line) (now (start .bytes)) (taken (c .before)) (omega (arith, taken-lines (start .d) (now (start .gates)) (taken (c .before))))
 
 put-line-requires : tie.Need-put-line-requires
 put-line-requires c κs = (taken (c .before .before), omega arith)

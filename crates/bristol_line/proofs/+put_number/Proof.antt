@@ -5,7 +5,6 @@ use native.Mathlib.Omega.{arith}
 use denote.Ref.{now}
 use Rattle.text.proofs.Decimals.{decimal-length}
 use Rattle.bristol_line.proofs.Pieces.{number-digit, number-more}
-use borrow.Author.Needs.{needs}
 use borrow.Fn.Kinds.{In}
 use borrow.Fn.PlainCycle.{Measures, is, falls, and}
 use Rattle.bristol_line.proofs.put_number.Reads as put-number

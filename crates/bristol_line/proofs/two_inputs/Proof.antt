@@ -4,7 +4,7 @@ use mathlib.Core.List.{_∷_, _++_, append-assoc}
 use denote.Ref.{now}
 use Rattle.lexer.specs.Spelling.{bytes}
 use Rattle.text.specs.Decimal.{decimal}
-use Rattle.bristol_line.proofs.Pieces.{spaced, two-pieces, four-pieces, made}
+use Rattle.bristol_line.proofs.Pieces.{spaced, five-pieces, made}
 use borrow.Author.Needs.{needs}
 use Rattle.bristol_line.proofs.two_inputs.Statement.{statement}
 use Rattle.bristol_line.proofs.two_inputs.Tie as tie
@@ -27,14 +27,13 @@ put-requires-2 c κs = search needs
 returns : tie.Need-returns
 returns c =
     let start = c .before .before .before .before .before .before .before .before .before .before .before .args in
-    let front = ((bytes "2 1 " ++ spaced (start .a)) ++ spaced (start .b)) ++ spaced (start .wire) in
-    made (front ++ now (start .kind)) (bytes "2 1 " ++ decimal (start .a) ++ (32 ∷ decimal (start .b) ++ (32 ∷ decimal (start .wire) ++ (32 ∷ now (start .kind))))) _ _
-    (two-pieces front (now (start .kind)) _ _ _ _
-    (four-pieces (bytes "2 1 ") (spaced (start .a)) (spaced (start .b)) (spaced (start .wire)) _ _ _ _ _ _ _ _
+    made ((((bytes "2 1 " ++ spaced (start .a)) ++ spaced (start .b)) ++ spaced (start .wire)) ++ now (start .kind))
+    (bytes "2 1 " ++ decimal (start .a) ++ (32 ∷ decimal (start .b) ++ (32 ∷ decimal (start .wire) ++ (32 ∷ now (start .kind))))) _ _
+    (five-pieces (bytes "2 1 ") (spaced (start .a)) (spaced (start .b)) (spaced (start .wire)) (now (start .kind)) _ _ _ _ _ _ _ _ _ _
     (c .before .before .before .before .before .before .before .before .put .ensures)
     (c .before .before .before .before .before .before .put-field .ensures .1)
     (c .before .before .before .before .put-field2 .ensures .1)
-    (c .before .before .put-field3 .ensures .1))
+    (c .before .before .put-field3 .ensures .1)
     (c .put2 .ensures)) (simp append-assoc)
 
 pub two-inputs-spec : {M : Type 1} → statement M

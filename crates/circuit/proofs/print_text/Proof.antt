@@ -5,7 +5,7 @@ use Prim.Native.Nat.{_+_, _-_, _/_}
 use native.Mathlib.Omega.{arith}
 use denote.Ref.{now}
 use lib.ListN.{length, length-take}
-use Rattle.bristol.proofs.Answers.{lines-within, lines-some, lines-few}
+use Rattle.bristol.proofs.Counts.{lines-within, lines-some, lines-few}
 use borrow.Author.Needs.{needs}
 use Rattle.circuit.proofs.print_text.Statement.{statement}
 use Rattle.circuit.proofs.print_text.Tie as tie

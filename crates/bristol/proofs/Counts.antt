@@ -1,5 +1,5 @@
--- What an answer of lines says to a host: they are within the bytes, at least one while there is one, and no more than there are. By what the checks
--- found.
+-- What the two numbers of an answer say to a host: the lines are within the bytes, at least one while there is one, and no more than there are. By
+-- what the checks found.
 -- Assumes nothing.
 use mathlib.Core.Path.{_≡_, refl, ap, sym, _∙_}
 use mathlib.Core.Bool.{Bool, true, false}
@@ -17,13 +17,12 @@ use Rattle.gates.specs.Memory.{gatesOf}
 use Rattle.bristol.specs.declared.WrittenLines.the-variants as lines
 use Rattle.bristol.specs.Text.{linesOf}
 use Rattle.bristol.specs.Writing.{circuitChecks, lineAt, linesAt, writtenLines}
-use Rattle.bristol.proofs.Numbering.{lines-of-words}
 use Rattle.bristol.proofs.Fitting.{fitting-next, fitting-front, fitting-room}
-use Rattle.bristol.proofs.Requests.{taken-accepted, refuse-lines, lines-lead}
+use Rattle.bristol.proofs.Requests.{taken-lines, refuse-lines, lines-by-room}
 
 module _ (d : Dimensions) (ws : List ℕ) (i : ℕ) (lent : List ℕ) (k n : ℕ) (e : writtenLines d ws i lent ≡ lines.Lines k n) where
   -- the circuit was taken, and the first line had room
-  pub record Answered : Type 0 where
+  record Answered : Type 0 where
     pub taken : outcome (circuitChecks d ws) ≡ Taken
     pub room : length (lineAt d ws i) ≤ length lent
     pub count : k ≡ length (linesAt d ws i lent)
@@ -34,13 +33,13 @@ module _ (d : Dimensions) (ws : List ℕ) (i : ℕ) (lent : List ℕ) (k n : ℕ
     where
       go : (o : Outcome) → outcome (circuitChecks d ws) ≡ o → (b : Bool) → ltb (length lent) (length (lineAt d ws i)) ≡ b → Answered
       go (Refused r) h b q = absurd (let x = refuse-lines d ws i lent r h .0 in let z : _≡_ {A = ℕ} 0 1 = cc in omega arith)
-      go Taken h true q = absurd (let x = lines-lead d ws i lent h true q .0 in let z : _≡_ {A = ℕ} 0 1 = cc in omega arith)
+      go Taken h true q = absurd (let x = lines-by-room d ws i lent h true q .0 in let z : _≡_ {A = ℕ} 0 1 = cc in omega arith)
       go Taken h false q =
-          let x = lines-lead d ws i lent h false q .0 in
+          let x = lines-by-room d ws i lent h false q .0 in
           record { taken = h; room = ltb-false _ _ q; count = cc; size = cc }
 
   number : length (linesOf d (gatesOf ws)) ≡ 4 + length ws / 3
-  number = lines-of-words d ws (taken-accepted d ws (answered .taken))
+  number = taken-lines d ws (answered .taken)
 
   pub lines-within : n ≤ length lent
   lines-within = omega (arith, answered .size, fitting-room (length lent) (drop i (linesOf d (gatesOf ws))))
