@@ -2,57 +2,34 @@
 -- above n, so refusals 1 to 4 do not apply to it. By the clauses' literals, each of which is below n.
 -- Assumes nothing.
 use mathlib.Core.Path.{_≡_, refl, sym, ap, _∙_, subst}
-use mathlib.Core.Bool.{Bool, true, false, _&&_, false≢true}
+use mathlib.Core.Bool.{true, false, _&&_}
 use mathlib.Core.List.{List, [], _∷_, _++_}
 use Prim.Native.Nat.{ℕ, zero, suc, _-_, _*_, _^_, _≤_, _<_}
 use native.Mathlib.Omega.{arith}
-use lib.Dec.{eqb, leb, ltb}
+use lib.Dec.{eqb, ltb}
 use lib.Pow.{pow-pos}
 use lib.ListN.{length, getD, replicate, length-append, length-replicate}
-use borrow.Author.Tests.{leb-true, eqb-true, eqb-false}
-use Rattle.words.proofs.Truth.{on, and-l, and-r, and-i}
-use Rattle.lexer.specs.Pieces.{Piece, behind, linesFrom}
-use Rattle.numbers.specs.Numbers.{Number, number, malformed, numberOf}
+use borrow.Author.Tests.{eqb-true, eqb-false}
+use Rattle.words.proofs.Truth.{on, and-l, and-r}
+use Rattle.lexer.specs.Pieces.{Piece, tokensFrom}
 use Rattle.refusals.specs.declared.Refusal.{Refusal}
 use Rattle.refusals.specs.declared.Refusal.the-variants as R
 use Rattle.refusals.specs.declared.Outcome.{Outcome}
 use Rattle.refusals.specs.declared.Outcome.the-variants.{Taken, Refused}
-use Rattle.dimacs.specs.Rows.{Literal, wordsOf}
-use Rattle.dimacs.specs.Clauses.{Reading, clause, ended, unreadable, joined, before, clauses, rowsOf, complete}
-use Rattle.dimacs.specs.Header.{Numbers, numbers, none, numbersOf, pastRemarks}
-use Rattle.dimacs.specs.Text.{refused, bodyOf, within, headed, fromHeader, tableOf}
+use Rattle.header.specs.Header.{headerOf}
+use Rattle.header.proofs.Limits.{header-either}
+use Rattle.clauses.specs.Rows.{wordsOf}
+use Rattle.clauses.specs.Clauses.{Reading, clause, ended, unreadable, clauses, rowsOf, complete}
+use Rattle.clauses.proofs.Literals.{below, row-lt}
+use Rattle.clauses.proofs.Reading.{belowAll, clauses-below}
+use Rattle.dimacs.specs.Text.{refused, bodyOf, fromHeader, tableOf}
 use Rattle.dimacs.specs.Pair.{pairOf, acceptedPair, refusedPair}
 use Rattle.dimacs.specs.declared.Table.{Table}
 use Rattle.dimacs.specs.declared.Pair.{Pair}
-use Rattle.dimacs.proofs.Literals.{below, row-lt}
 use Rattle.dimacs.proofs.Fill.{words-length}
 use Rattle.dimacs.proofs.Pairs.{left-refused, right-refused, differ, agree}
 
--- ---- every literal that is read is below n
-
-abbrev belowAll : ℕ → Reading → Bool
-belowAll n (clause ls from to rest) = below n ls && belowAll n rest
-belowAll n ended = true
-belowAll n unreadable = true
-
-joined-below : (n : ℕ) (l : Literal) (at : ℕ) (x : Reading) → ltb (l .bit) n ≡ true → belowAll n x ≡ true → belowAll n (joined l at x) ≡ true
-joined-below n l at (clause ls from to rest) h e =
-    and-i (and-i h (and-l (below n ls) (belowAll n rest) e)) (and-r (below n ls) (belowAll n rest) e)
-joined-below n l at ended h e = refl
-joined-below n l at unreadable h e = refl
-
-before-below : (n : ℕ) (t : Piece) (x : Number) (rest : Reading) → belowAll n rest ≡ true → belowAll n (before n t x rest) ≡ true
-before-below n t malformed rest e = refl
-before-below n t (number s zero) rest e = e
-before-below n t (number s (suc i)) rest e =
-    on (ltb i n)
-    (λ h. rw h (joined-below n (record { minus = s; bit = i }) (t .at) rest h e))
-    (λ h. rw h)
-
-clauses-below : (n : ℕ) (ts : List Piece) → belowAll n (clauses n ts) ≡ true
-unfolding clauses
-clauses-below n [] = refl
-clauses-below n (t ∷ ts) = before-below n t (numberOf (t .bytes)) (clauses n ts) (clauses-below n ts)
+-- ---- every row is below 2 ^ n
 
 rows-lt : (n : ℕ) (x : Reading) → belowAll n x ≡ true → (zs : List ℕ) → ((i : ℕ) → getD zs i 0 < 2 ^ n) → (i : ℕ) → getD (wordsOf (rowsOf x) ++ zs) i 0 < 2 ^ n
 rows-lt n (clause ls from to rest) e zs h zero = row-lt n false ls (and-l (below n ls) (belowAll n rest) e)
@@ -83,10 +60,6 @@ Fine t = t .outcome ≡ Taken → Within (t .n) (t .rows) (t .words)
 refused-fine : (r : Refusal) → Fine (refused r)
 refused-fine r e = absurd (let z : _≡_ {A = ℕ} 0 1 = cc in omega arith)
 
-within-low : (most : ℕ) (s : Bool) (v : ℕ) → within most s v ≡ true → (1 ≤ v) × (v ≤ most)
-within-low most true v e = absurd (false≢true e)
-within-low most false v e = (leb-true 1 v (and-l (leb 1 v) (leb v most) e), leb-true v most (and-r (leb 1 v) (leb v most) e))
-
 body-fine : (n m : ℕ) (ts : List Piece) → (1 ≤ n) × (n ≤ 32) → (1 ≤ m) × (m ≤ 128) → Fine (bodyOf n m (clauses n ts))
 body-fine n m ts hn hm =
     on (complete (clauses n ts) && eqb (length (rowsOf (clauses n ts))) m)
@@ -101,27 +74,17 @@ body-fine n m ts hn hm =
     }))
     (λ c. rw c (refused-fine R.Text))
 
-headed-fine : (text : List ℕ) (end : ℕ) (x : Numbers) → Fine (headed text end x)
-headed-fine text end none = refused-fine R.Text
-headed-fine text end (numbers malformed m) = refused-fine R.Text
-headed-fine text end (numbers (number s n) malformed) = refused-fine R.Text
-headed-fine text end (numbers (number s n) (number t m)) =
-    on (within 32 s n)
-    (λ a. on (within 128 t m)
-    (λ b. rw (a, b) (body-fine n m _ (within-low 32 s n a) (within-low 128 t m b)))
-    (λ b. rw (a, b) (refused-fine R.RowCount)))
-    (λ a. rw a (refused-fine R.Variables))
-
-lines-fine : (text : List ℕ) (lines : List Piece) → Fine (fromHeader text lines)
-lines-fine text [] = refused-fine R.Text
-lines-fine text (l ∷ ls) = headed-fine text (behind l) (numbersOf (l .bytes))
+header-fine : (text : List ℕ) (end : ℕ) → Fine (fromHeader text end (headerOf text .sizes))
+header-fine text end =
+    header-either (λ x. Fine (fromHeader text end x)) (refused-fine R.Text) (refused-fine R.Variables) (refused-fine R.RowCount)
+    (λ n m hn hm. body-fine n m (tokensFrom text end) hn hm) text
 
 pub accepted-text : (text : List ℕ) → tableOf text .outcome ≡ Taken → Within (tableOf text .n) (tableOf text .rows) (tableOf text .words)
 unfolding tableOf
 accepted-text text =
     on (ltb 65536 (length text))
     (λ e. rw e (refused-fine R.Text))
-    (λ e. rw e (lines-fine text (pastRemarks (linesFrom text 0))))
+    (λ e. rw e (header-fine text (headerOf text .end)))
 
 -- ---- an accepted pair
 

@@ -11,15 +11,15 @@ use Rattle.lexer.specs.Spelling.{bytes}
 use Rattle.lexer.specs.Bytes.{run, trimmed}
 use Rattle.lexer.specs.Pieces.{cut, filled, partsFrom}
 use Rattle.numbers.specs.Numbers.{digitsAfter, decimalOf, numberOf}
-use Rattle.dimacs.specs.Clauses.{clauses}
-use Rattle.dimacs.specs.Header.{pastRemarks}
+use Rattle.refusals.specs.Numbers.{codeOf}
+use Rattle.header.specs.Header.{pastRemarks, headerOf}
+use Rattle.clauses.specs.Clauses.{clauses}
 use Rattle.dimacs.specs.Text.{tableOf}
-use Rattle.dimacs.proofs.Endings.{ending}
 
--- the ending, n, the row count and the first four words
+-- the outcome, n, the row count and the first four words
 meaning : String → List ℕ
-unfolding tableOf pastRemarks partsFrom cut filled run trimmed same clauses numberOf decimalOf digitsAfter put
-meaning s = let t = tableOf (bytes s) in ending (t .outcome) ∷ (t .n ∷ (t .rows ∷ take 4 (t .words)))
+unfolding tableOf headerOf pastRemarks partsFrom cut filled run trimmed same clauses numberOf decimalOf digitsAfter put
+meaning s = let t = tableOf (bytes s) in codeOf (t .outcome) ∷ (t .n ∷ (t .rows ∷ take 4 (t .words)))
 
 abbrev table : ℕ → ℕ → ℕ → ℕ → ℕ → ℕ → List ℕ
 table n m a b c d = 0 ∷ (n ∷ (m ∷ (a ∷ (b ∷ (c ∷ (d ∷ []))))))

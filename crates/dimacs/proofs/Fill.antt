@@ -1,7 +1,7 @@
 -- Rows filled into words, a clause at a time: the rows still to come fill the words as all rows fill empty ones.
 -- Assumes nothing.
 use mathlib.Core.Path.{_≡_, refl, sym, ap, ap₂, _∙_, subst}
-use mathlib.Core.Bool.{true, false, false≢true, _&&_, and-false}
+use mathlib.Core.Bool.{Bool, true, false, false≢true, _&&_, and-false}
 use mathlib.Core.List.{List, [], _∷_, _++_}
 use mathlib.Core.Logic.{⊎-elim}
 use Prim.Native.Nat.{ℕ, zero, suc, _+_, _-_, _*_, _≤_, _<_}
@@ -13,16 +13,25 @@ use types.Run.{OneOf}
 use denote.Enum.Declared.{tagOf}
 use Rattle.refusals.specs.declared.Refusal.the-variants.{Text}
 use Rattle.refusals.specs.declared.Outcome.the-variants.{Taken}
-use Rattle.dimacs.specs.Rows.{wordsOf}
-use Rattle.dimacs.specs.Clauses.{Reading, clause, ended, unreadable, rowsOf, complete}
+use Rattle.clauses.specs.Rows.{wordsOf}
+use Rattle.clauses.specs.Clauses.{Reading, clause, ended, unreadable, rowsOf, complete}
 use Rattle.dimacs.specs.Text.{refused, bodyOf}
-use Rattle.dimacs.specs.Answers.{clausesFrom, first, counts}
-use Rattle.dimacs.specs.declared.clauses.Row.{Row}
-use Rattle.dimacs.specs.declared.clauses.Clause.{Clause}
-use Rattle.dimacs.specs.declared.clauses.Clause.the-variants.{Read, End}
+use Rattle.clauses.specs.First.{clausesFrom, first}
+use Rattle.clauses.specs.declared.Row.{Row}
+use Rattle.clauses.specs.declared.Clause.{Clause}
+use Rattle.clauses.specs.declared.Clause.the-variants.{Read, End}
 use Rattle.dimacs.specs.declared.Table.{Table}
-use Rattle.dimacs.proofs.clauses.Clause.{the-type}
-use Rattle.dimacs.proofs.Gather.{read-is}
+use Rattle.clauses.proofs.Clause.{the-type}
+use Rattle.clauses.proofs.Reading.{read-is}
+
+-- m clauses, and then the end
+abbrev counts : ℕ → Reading → Bool
+counts zero (clause ls from to rest) = false
+counts zero ended = true
+counts zero unreadable = false
+counts (suc m) (clause ls from to rest) = counts m rest
+counts (suc m) ended = false
+counts (suc m) unreadable = false
 
 -- ---- an answer that a pattern leaves
 
@@ -103,10 +112,10 @@ empty n m text start =
     record { low = omega arith; sized = refl; counted = ap (λ (i : ℕ). counts i (clausesFrom n text start)) z; filled = refl }
 
 module _ {n m : ℕ} {text : List ℕ} {start : ℕ} {words : List ℕ} {at k : ℕ} (F : Filling n m text start words at k) where
-  pub one-more : (r : Row) (s e : ℕ) → k < m → first (clausesFrom n text at) ≡ Read r s e
+  pub one-more : n ≤ 32 → (r : Row) (s e : ℕ) → k < m → first (clausesFrom n text at) ≡ Read r s e
       → Filling n m text start (set (set words (2 * k) (r .positive)) (2 * k + 1) (r .negative)) e (k + 1)
-  one-more r s e h f =
-      let x = read-is n text at r s e f in
+  one-more b r s e h f =
+      let x = read-is n text b at r s e f in
       let rest = clausesFrom n text e in
       let left : m - k ≡ suc (m - (k + 1)) = omega arith in
       record {

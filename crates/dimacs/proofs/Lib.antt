@@ -1,10 +1,6 @@
-pub mod Lines
-pub mod Parts
-pub mod Gather
 pub mod Fill
 pub mod Whole
 pub mod Pairs
-pub mod Literals
 pub mod Accepted
 pub mod Endings
 pub mod Examples

@@ -1,18 +1,19 @@
 -- What a station's text means: a table, or refusal 1, 2 or 5 (document 01, "DIMACS" and "Turned back").
 use Prim.Native.Nat.{ℕ, _-_, _*_}
-use mathlib.Core.Bool.{Bool, not, _&&_, cond}
-use mathlib.Core.List.{List, [], _∷_, _++_}
-use lib.Dec.{eqb, ltb, leb}
+use mathlib.Core.Bool.{_&&_, cond}
+use mathlib.Core.List.{List, _++_}
+use lib.Dec.{eqb, ltb}
 use lib.ListN.{length, replicate}
-use Rattle.lexer.specs.Pieces.{Piece, behind, linesFrom, tokensFrom}
-use Rattle.numbers.specs.Numbers.{number, malformed}
+use Rattle.lexer.specs.Pieces.{tokensFrom}
 use Rattle.refusals.specs.declared.Refusal.{Refusal}
-use Rattle.refusals.specs.declared.Refusal.the-variants.{Variables, RowCount, Text}
+use Rattle.refusals.specs.declared.Refusal.the-variants.{Text}
 use Rattle.refusals.specs.declared.Outcome.the-variants.{Taken, Refused}
-use Rattle.dimacs.specs.Rows.{wordsOf}
-use Rattle.dimacs.specs.Clauses.{Reading, clauses, rowsOf, complete}
-use Rattle.dimacs.specs.Header.{Numbers, numbers, none, pastRemarks, numbersOf}
-use Rattle.dimacs.specs.declared.clauses.Row.{Row}
+use Rattle.header.specs.declared.Sizes.{Sizes}
+use Rattle.header.specs.declared.Sizes.the-variants as S
+use Rattle.header.specs.Header.{headerOf}
+use Rattle.clauses.specs.declared.Row.{Row}
+use Rattle.clauses.specs.Rows.{wordsOf}
+use Rattle.clauses.specs.Clauses.{Reading, clauses, rowsOf, complete}
 use Rattle.dimacs.specs.declared.Table.{Table}
 
 -- a refusal has no n and no rows
@@ -27,25 +28,11 @@ accepted n rs = record { outcome = Taken; n = n; rows = length rs; words = words
 abbrev pub bodyOf : ℕ → ℕ → Reading → Table
 bodyOf n m reading = cond (complete reading && eqb (length (rowsOf reading)) m) (accepted n (rowsOf reading)) (refused Text)
 
--- a number from 1 to `most`
-abbrev pub within : ℕ → Bool → ℕ → Bool
-within most minus v = not minus && (leb 1 v && leb v most)
-
--- both numbers of a header must be well-formed; n is judged first, then m, then what follows the line
-abbrev pub headed : List ℕ → ℕ → Numbers → Table
-headed text end none = refused Text
-headed text end (numbers malformed m) = refused Text
-headed text end (numbers (number s n) malformed) = refused Text
-headed text end (numbers (number s n) (number t m)) =
-    cond (within 32 s n)
-    (cond (within 128 t m) (bodyOf n m (clauses n (tokensFrom text end))) (refused RowCount))
-    (refused Variables)
-
--- the header is the first line that is no remark
-abbrev pub fromHeader : List ℕ → List Piece → Table
-fromHeader text [] = refused Text
-fromHeader text (l ∷ ls) = headed text (behind l) (numbersOf (l .bytes))
+-- what a header leads to: its refusal, or the clauses behind its line
+abbrev pub fromHeader : List ℕ → ℕ → Sizes → Table
+fromHeader text end (S.Refused r) = refused r
+fromHeader text end (S.Of n m) = bodyOf n m (clauses n (tokensFrom text end))
 
 -- an overlong text is 5 before all else
 unfoldable pub tableOf : List ℕ → Table
-tableOf text = cond (ltb 65536 (length text)) (refused Text) (fromHeader text (pastRemarks (linesFrom text 0)))
+tableOf text = cond (ltb 65536 (length text)) (refused Text) (fromHeader text (headerOf text .end) (headerOf text .sizes))

@@ -1,18 +1,13 @@
 // Reads the DIMACS texts of the two stations into tables of row words.
-mod clauses;
-mod header;
-
 use clauses::Clause;
-use header::Numbers;
-use lexer::kinds::Kind;
-use numbers::Number;
+use header::Sizes;
 use refusals::Outcome;
 use refusals::Refusal;
 ghost use mathlib.Core.Path.{_≡_};
 ghost use Prim.Native.Nat.{_≤_};
+ghost use Rattle.clauses.specs.First.{clausesFrom};
 ghost use Rattle.dimacs.specs.Text.{tableOf, bodyOf, refused};
 ghost use Rattle.dimacs.specs.Pair.{pairOf, refusedPair};
-ghost use Rattle.dimacs.specs.Answers.{clausesFrom, limitedOf};
 
 // A station's table: n, its row count and its row words, positive before negative; the words past the rows are zero. A refused text has none.
 pub struct Table {
@@ -42,19 +37,6 @@ fn refuse(refusal: Refusal) -> Table
         rows: 0,
         words: [0u32; 256],
     }
-}
-
-// A number's value where it is from 1 to `most`, and else 0.
-fn limited(x: Number, most: u8) -> u8
-    ensures { λ r. ⌜ r ≡ limitedOf most x ⌝ }
-{
-    let Number::Value(minus, v) = x else {
-        return 0;
-    };
-    if minus {
-        return 0;
-    }
-    if v <= most as u32 { v as u8 } else { 0 }
 }
 
 // The table of m clauses with which the text ends.
@@ -94,20 +76,13 @@ pub fn read(text: &[u8]) -> Table
     if 65536 < text.len() {
         return refuse(Refusal::Text);
     }
-    let at = header::find_header(text);
-    let end = lexer::kinds::find(text, at, Kind::LineFeed);
-    let Numbers::Of(variables, clauses) = header::read_header(&text[at..end]) else {
-        return refuse(Refusal::Text);
-    };
-    let n = limited(variables, 32);
-    if n == 0 {
-        return refuse(Refusal::Variables);
+    let header = header::read_header(text);
+    let end = header.end;
+    let sizes = header.sizes;
+    match sizes {
+        Sizes::Of(n, m) => read_rows(text, end, n, m),
+        Sizes::Refused(refusal) => refuse(refusal),
     }
-    let m = limited(clauses, 128);
-    if m == 0 {
-        return refuse(Refusal::RowCount);
-    }
-    read_rows(text, end, n, m)
 }
 
 // Nothing but the refusal.

@@ -10,7 +10,7 @@ ghost use Rattle.wires.specs.Packing.{packChecks, packed};
 ghost use Rattle.readback.specs.Reading.{readBack};
 ghost use Rattle.repeats.specs.Application.{bytesAfter, wiresAfter};
 ghost use Rattle.stored.specs.Words.{runIn};
-ghost use Rattle.lent.specs.Codes.{codeOf};
+ghost use Rattle.refusals.specs.Numbers.{codeOf};
 ghost use Rattle.interface.specs.Codes.{generatedCode, generatedNumbers};
 ghost use Rattle.lent.specs.Lent.{dimensions, front, storedIf};
 ghost use Rattle.interface.specs.Lent.{applyIn, applyStored, applyMarked, backChecks};

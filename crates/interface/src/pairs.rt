@@ -3,7 +3,7 @@ ghost use mathlib.Core.Path.{_≡_};
 ghost use Rattle.refusals.specs.Checks.{outcome};
 ghost use Rattle.dimensions.specs.Sizes.{sizeChecks};
 ghost use Rattle.tables.specs.Acceptance.{tableChecks};
-ghost use Rattle.lent.specs.Codes.{codeOf};
+ghost use Rattle.refusals.specs.Numbers.{codeOf};
 ghost use Rattle.lent.specs.Lent.{dimensions, frontIf};
 ghost use Rattle.interface.specs.Lent.{sizeNumbers, pairIn, pairOutcome, leftRead, rightRead, sizesRead};
 

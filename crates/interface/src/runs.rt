@@ -9,7 +9,7 @@ ghost use Rattle.verdicts.specs.Verdicts.{modelOf};
 ghost use Rattle.solver.specs.Entries.{solved};
 ghost use Rattle.state.specs.State.{fresh, runOf};
 ghost use Rattle.stored.specs.Words.{runIn};
-ghost use Rattle.lent.specs.Codes.{codeOf};
+ghost use Rattle.refusals.specs.Numbers.{codeOf};
 ghost use Rattle.interface.specs.Codes.{solvedCode, solvedNumbers, modelCode, modelNumbers};
 ghost use Rattle.lent.specs.Lent.{dimensions, front, storedIf};
 ghost use Rattle.interface.specs.Lent.{stepIn, stepStored, freshChecks};

@@ -9,7 +9,7 @@ ghost use lib.ListN as ListN;
 ghost use Rattle.bristol.specs.Writing as Writing;
 ghost use Rattle.answers.specs.Printed.{answerText};
 ghost use Rattle.lines.specs.Numbers.{budgetOf};
-ghost use Rattle.lent.specs.Codes.{codeOf};
+ghost use Rattle.refusals.specs.Numbers.{codeOf};
 ghost use Rattle.interface.specs.Codes.{lineCode, lineNumbers, linesCode, linesNumbers, budgetCode, budgetNumbers, answerFrom};
 ghost use Rattle.lent.specs.Lent.{dimensions, front, textOutcome};
 ghost use Rattle.interface.specs.Lent.{textWritten, lengthWritten};

@@ -1,17 +1,9 @@
--- Results as numbers, and a verdict from numbers.
+-- A verdict as numbers, and from numbers.
 use Prim.Native.Nat.{ℕ, _%_, _^_}
 use mathlib.Core.Bool.{cond}
 use lib.Dec.{eqb}
-use Rattle.refusals.specs.Numbers.{numberOf}
-use Rattle.refusals.specs.declared.Outcome.{Outcome}
-use Rattle.refusals.specs.declared.Outcome.the-variants.{Taken, Refused}
 use Rattle.verdicts.specs.declared.Verdict.{Verdict}
 use Rattle.verdicts.specs.declared.Verdict.the-variants.{Satisfiable, Unsatisfiable, Unknown}
-
--- 0 where the call was taken, else the refusal's number
-abbrev pub codeOf : Outcome → ℕ
-codeOf Taken = 0
-codeOf (Refused r) = numberOf r
 
 -- the number of the standing that the verdict follows from
 abbrev pub verdictNumber : Verdict → ℕ

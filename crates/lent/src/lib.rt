@@ -11,7 +11,8 @@ ghost use mathlib.Core.List.{[], _∷_};
 ghost use Prim.Native.Nat.{_*_, min};
 ghost use lib.ListN.{take};
 ghost use Rattle.lent.specs.Codes as Codes;
-ghost use Rattle.lent.specs.Codes.{codeOf, modelWord, verdictFrom};
+ghost use Rattle.refusals.specs.Numbers.{codeOf};
+ghost use Rattle.lent.specs.Codes.{modelWord, verdictFrom};
 ghost use Rattle.lent.specs.Lent as Lent;
 ghost use Rattle.lent.specs.Lent.{front, frontIf, storedIf, textOutcome, pairRoom};
 

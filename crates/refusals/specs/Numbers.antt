@@ -2,6 +2,8 @@
 use Prim.Native.Nat.{ℕ}
 use Rattle.refusals.specs.declared.Refusal.{Refusal}
 use Rattle.refusals.specs.declared.Refusal.the-variants.{Variables, RowCount, RowBit, RowBuffer, Text, TextsDiffer, GateBuffer, NumberLine, Gates, Wires, LineBuffer, State, OtherVariables, NoModel}
+use Rattle.refusals.specs.declared.Outcome.{Outcome}
+use Rattle.refusals.specs.declared.Outcome.the-variants.{Taken, Refused}
 
 -- the number of a refusal
 abbrev pub numberOf : Refusal → ℕ
@@ -19,3 +21,8 @@ numberOf LineBuffer = 11
 numberOf State = 12
 numberOf OtherVariables = 13
 numberOf NoModel = 14
+
+-- 0 where the call was taken, else the refusal's number
+abbrev pub codeOf : Outcome → ℕ
+codeOf Taken = 0
+codeOf (Refused r) = numberOf r

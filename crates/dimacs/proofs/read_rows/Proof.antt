@@ -56,7 +56,7 @@ loop-less : tie.Need-loop-less Inv-loop μ-loop
 loop-less c = search needs
 
 loop-again : tie.Need-loop-again Inv-loop μ-loop
-loop-again c = one-more (c .before .before .before .before .before .loop .inv) _ _ _ (c .before .before .before .before .loop-test .taken) (sym (c .before .before .before .read-clause .ensures) ∙ c .before .row .given .1)
+loop-again c = one-more (c .before .before .before .before .before .loop .inv) (c .before .before .before .before .before .before .before .pre .0) _ _ _ (c .before .before .before .before .loop-test .taken) (sym (c .before .before .before .read-clause .ensures) ∙ c .before .row .given .1)
 
 read-clause-requires-2 : tie.Need-read-clause-requires-2 Inv-loop μ-loop
 read-clause-requires-2 c κs = search needs

@@ -4,7 +4,7 @@ use mathlib.Core.Path.{sym, ap, _∙_}
 use mathlib.Core.List.{[], _∷_}
 use lib.ListN.{length, take}
 use Rattle.refusals.specs.declared.Outcome.{Outcome}
-use Rattle.lent.specs.Codes.{codeOf}
+use Rattle.refusals.specs.Numbers.{codeOf}
 use Rattle.lent.specs.Lent.{frontIf}
 use Rattle.lent.proofs.Rooms.{text-long, text-fits}
 use borrow.Author.Needs.{needs}

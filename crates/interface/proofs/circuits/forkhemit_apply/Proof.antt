@@ -5,7 +5,7 @@ use mathlib.Core.List.{[], _∷_}
 use Prim.Native.Nat.{ℕ}
 use Rattle.words.specs.Booleans.{digit}
 use Rattle.repeats.specs.declared.Applied.{Applied}
-use Rattle.lent.specs.Codes.{codeOf}
+use Rattle.refusals.specs.Numbers.{codeOf}
 use Rattle.lent.specs.Lent.{frontIf, storedIf}
 use Rattle.lent.proofs.Fronts.{bool-digit}
 use Rattle.interface.proofs.Entries.{apply-is, bytes-are, wires-are}

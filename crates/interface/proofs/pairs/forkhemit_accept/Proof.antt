@@ -1,7 +1,7 @@
 -- `forkhemit_accept` meets its contract: it is acceptance, with the outcome as a number.
 -- Assumes nothing.
 use mathlib.Core.Path.{ap, _∙_}
-use Rattle.lent.specs.Codes.{codeOf}
+use Rattle.refusals.specs.Numbers.{codeOf}
 use Rattle.interface.proofs.Entries.{accept-is}
 use borrow.Author.Needs.{needs}
 use Rattle.interface.proofs.pairs.forkhemit_accept.Statement.{statement}

@@ -5,7 +5,7 @@ use Rattle.refusals.specs.declared.Outcome.{Outcome}
 use Rattle.state.specs.declared.Run.{Run}
 use Rattle.state.specs.State.{fresh, runOf}
 use Rattle.stored.specs.Words.{stored}
-use Rattle.lent.specs.Codes.{codeOf}
+use Rattle.refusals.specs.Numbers.{codeOf}
 use Rattle.lent.specs.Lent.{storedIf}
 use Rattle.interface.proofs.Capped.{below, above, inside}
 use Rattle.interface.proofs.Rooms.{stored-room, fresh-refused, fresh-decided}

@@ -9,7 +9,7 @@ use Rattle.text.specs.declared.Text.{Text}
 use Rattle.text.specs.Texts.{textOf}
 use Rattle.verdicts.specs.declared.Verdict.{Verdict}
 use Rattle.answers.specs.Printed.{answerText}
-use Rattle.lent.specs.Codes.{codeOf}
+use Rattle.refusals.specs.Numbers.{codeOf}
 use Rattle.interface.specs.Codes.{answerFrom}
 use Rattle.lent.specs.Lent.{frontIf, textOutcome}
 use Rattle.text.proofs.Appending.{text-back}

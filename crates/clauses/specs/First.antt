@@ -1,0 +1,34 @@
+-- The first clause from a place on, as code reads it: its literals from the first on, in words of 32 bits. No entry's contract rests on this file.
+use Prim.Native.Nat.{ℕ}
+use mathlib.Core.Bool.{Bool, cond}
+use mathlib.Core.List.{List, [], _∷_}
+use lib.Dec.{ltb}
+use Rattle.lexer.specs.Pieces.{tokensFrom}
+use Rattle.clauses.specs.Rows.{Literal, withLiteral}
+use Rattle.clauses.specs.Clauses.{Reading, clause, ended, unreadable, clauses}
+use Rattle.clauses.specs.declared.Row.{Row}
+use Rattle.clauses.specs.declared.Clause.{Clause}
+use Rattle.clauses.specs.declared.Clause.the-variants.{Read, End, Unreadable}
+
+-- the clauses of a text from a place on
+abbrev pub clausesFrom : ℕ → List ℕ → ℕ → Reading
+clausesFrom n text at = clauses n (tokensFrom text at)
+
+-- a row without literals
+abbrev pub emptyRow : Row
+emptyRow = record { positive = 0; negative = 0 }
+
+-- a row with a literal more; the row itself where a word has no such bit
+abbrev pub rowWith : Bool → ℕ → Row → Row
+rowWith minus i r = cond (ltb i 32) (withLiteral minus i r) r
+
+-- a row with all literals of a list more
+abbrev pub withLiterals : Row → List Literal → Row
+withLiterals r [] = r
+withLiterals r (l ∷ ls) = withLiterals (rowWith (l .minus) (l .bit) r) ls
+
+-- the first clause of a reading
+abbrev pub first : Reading → Clause
+first (clause ls from to rest) = Read (withLiterals emptyRow ls) from to
+first ended = End
+first unreadable = Unreadable

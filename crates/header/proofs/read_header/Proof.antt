@@ -1,0 +1,56 @@
+-- `read_header` meets its contract: the line from the place found to its LF is the header's. Assumes nothing.
+use mathlib.Core.Path.{_≡_, sym, ap, ap₂, _∙_}
+use mathlib.Core.Bool.{not}
+use Prim.Native.Nat.{ℕ, _≤_}
+use native.Mathlib.Omega.{arith}
+use lib.ListN.{length}
+use borrow.Author.Needs.{needs}
+use Rattle.lexer.specs.Bytes.{isLineFeed}
+use Rattle.lexer.proofs.Runs.{end-ge, end-le}
+use Rattle.header.specs.declared.Sizes.{Sizes}
+use Rattle.header.proofs.Lines.{header-at}
+use Rattle.header.proofs.read_header.Statement.{statement}
+use Rattle.header.proofs.read_header.Tie as tie
+
+-- the line lies in the text
+starts : (c : tie.After-find) → c .before .find-header .result ≤ c .find .result
+starts c = omega (arith, c .find .ensures, end-ge (λ b. not (isLineFeed b)) (c .before .before .before .args .text .now) (c .before .find-header .result))
+
+ends : (c : tie.After-find) → c .find .result ≤ length (c .before .before .before .args .text .now)
+ends c = omega (arith, c .find .ensures, end-le (λ b. not (isLineFeed b)) (c .before .before .before .args .text .now) (c .before .find-header .result) (c .before .find-header .ensures .0))
+
+find-header-requires : tie.Need-find-header-requires
+find-header-requires c κs = search needs
+
+find-requires : tie.Need-find-requires
+find-requires c κs = search needs
+
+sub-read-line : tie.Need-sub-read-line
+sub-read-line c = starts c
+
+part-read-line-start : tie.Need-part-read-line-start
+part-read-line-start c = starts c
+
+part-read-line-end : tie.Need-part-read-line-end
+part-read-line-end c = ends c
+
+read-line-requires : tie.Need-read-line-requires
+read-line-requires c κs = search needs
+
+returns : tie.Need-returns
+returns c =
+    let found = c .before .before .before .find-header in
+    ap (λ (x : Sizes). record { sizes = x; end = c .before .before .find .result }) (c .read-line .ensures)
+    ∙ sym (header-at _ (found .result) (c .before .before .find .result) (c .before .before .find .ensures) (found .ensures .0)) ∙ found .ensures .1
+
+pub read-header-spec : {M : Type 1} → statement M
+read-header-spec =
+    tie.close
+    (tie.spec
+    find-header-requires
+    find-requires
+    sub-read-line
+    part-read-line-start
+    part-read-line-end
+    read-line-requires
+    returns)

@@ -1,0 +1,132 @@
+// The header of a DIMACS text, behind its remarks: n and m within their limits, or the refusal.
+use lexer::kinds::Kind;
+use lexer::pieces::Piece;
+use numbers::Number;
+use refusals::Refusal;
+ghost use mathlib.Core.Path.{_≡_};
+ghost use Prim.Native.Nat.{_≤_};
+ghost use lib.ListN.{length};
+ghost use Rattle.lexer.specs.Bytes.{isBlank};
+ghost use Rattle.lexer.specs.Pieces.{linesFrom, partsFrom};
+ghost use Rattle.numbers.specs.Numbers.{number, numberOf};
+ghost use Rattle.header.specs.Header.{within, judged, twoNumbers, headerParts, sizesOf, headed, headerOf};
+
+// n and m, or 1, 2 or 5.
+pub enum Sizes {
+    Of(u8, u8),
+    Refused(Refusal),
+}
+
+// What a header says, and the place behind its line.
+pub struct Header {
+    pub sizes: Sizes,
+    pub end: usize,
+}
+
+// Whether a number is from 1 to `most`.
+fn is_within(minus: bool, v: u32, most: u32) -> bool
+    ensures { λ r. ⌜ r ≡ within most minus v ⌝ }
+{
+    !minus & ((1 <= v) & (v <= most))
+}
+
+// Two numbers as n and m, where both are within their limits.
+fn judge(s: bool, v: u32, t: bool, w: u32) -> Sizes
+    ensures { λ r. ⌜ r ≡ judged (number s v) (number t w) ⌝ }
+{
+    if !is_within(s, v, 32) {
+        return Sizes::Refused(Refusal::Variables);
+    }
+    if !is_within(t, w, 128) {
+        return Sizes::Refused(Refusal::RowCount);
+    }
+    Sizes::Of(v as u8, w as u8)
+}
+
+// Two parts as n and m, where both are well-formed.
+fn read_both(n: &[u8], m: &[u8]) -> Sizes
+    ensures { λ r. ⌜ r ≡ judged (numberOf (now (n .entry))) (numberOf (now (m .entry))) ⌝ }
+{
+    let Number::Value(s, v) = numbers::read_number(n) else {
+        return Sizes::Refused(Refusal::Text);
+    };
+    let Number::Value(t, w) = numbers::read_number(m) else {
+        return Sizes::Refused(Refusal::Text);
+    };
+    judge(s, v, t, w)
+}
+
+// The two parts from `at` on as n and m, where no third follows.
+fn read_sizes(line: &[u8], at: usize) -> Sizes
+    ensures { λ r. ⌜ r ≡ twoNumbers (partsFrom isBlank (now (line .entry)) at) ⌝ }
+{
+    let Piece::At(n, n_end) = lexer::pieces::next_part(line, at, Kind::Blank) else {
+        return Sizes::Refused(Refusal::Text);
+    };
+    let Piece::At(m, m_end) = lexer::pieces::next_part(line, n_end, Kind::Blank) else {
+        return Sizes::Refused(Refusal::Text);
+    };
+    let Piece::Nothing = lexer::pieces::next_part(line, m_end, Kind::Blank) else {
+        return Sizes::Refused(Refusal::Text);
+    };
+    read_both(&line[n..n_end], &line[m..m_end])
+}
+
+// n and m behind `p`, at the first byte, and `cnf`.
+fn read_parts(line: &[u8]) -> Sizes
+    ensures { λ r. ⌜ r ≡ headerParts (partsFrom isBlank (now (line .entry)) 0) ⌝ }
+{
+    let Piece::At(p, p_end) = lexer::pieces::next_part(line, 0, Kind::Blank) else {
+        return Sizes::Refused(Refusal::Text);
+    };
+    let Piece::At(f, f_end) = lexer::pieces::next_part(line, p_end, Kind::Blank) else {
+        return Sizes::Refused(Refusal::Text);
+    };
+    if p != 0 {
+        return Sizes::Refused(Refusal::Text);
+    }
+    if !check::same(&line[p..p_end], b"p") {
+        return Sizes::Refused(Refusal::Text);
+    }
+    if !check::same(&line[f..f_end], b"cnf") {
+        return Sizes::Refused(Refusal::Text);
+    }
+    read_sizes(line, f_end)
+}
+
+// n and m of a header's line.
+fn read_line(line: &[u8]) -> Sizes
+    ensures { λ r. ⌜ r ≡ sizesOf (now (line .entry)) ⌝ }
+{
+    let end = lexer::kinds::trim(line, Kind::Tail);
+    read_parts(&line[..end])
+}
+
+// The place of the first line that is no remark, or the end.
+fn find_header(text: &[u8]) -> usize
+    ensures { λ r. ⌜ r ≤ length (now (text .entry)) ⌝ }
+    ensures { λ r. ⌜ headed (now (text .entry)) (linesFrom (now (text .entry)) r) ≡ headerOf (now (text .entry)) ⌝ }
+{
+    let mut at = 0;
+    while at < text.len() {
+        if text[at] != b'c' {
+            return at;
+        }
+        let end = lexer::kinds::find(text, at, Kind::LineFeed);
+        if text.len() <= end {
+            return end;
+        }
+        at = end + 1;
+    }
+    at
+}
+
+// The header of a text: the first line that is no remark.
+pub fn read_header(text: &[u8]) -> Header
+    ensures { λ r. ⌜ r ≡ headerOf (now (text .entry)) ⌝ }
+{
+    let at = find_header(text);
+    let end = lexer::kinds::find(text, at, Kind::LineFeed);
+    let sizes = read_line(&text[at..end]);
+    Header { sizes, end }
+}
