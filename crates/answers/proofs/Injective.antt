@@ -7,7 +7,9 @@ use mathlib.Core.List.{List, [], _∷_, _++_, append-assoc, append-cancel-left}
 use Prim.Native.Nat.{ℕ, zero, suc, _+_, _^_, _≤_, _<_}
 use native.Mathlib.Nat.{lt-of-le-of-lt}
 use native.Mathlib.Omega.{arith}
+use lib.Dec.{leb}
 use lib.ListN.{length, getD}
+use borrow.Author.Tests.{le-leb}
 use Rattle.words.specs.Sets.{bit}
 use Rattle.words.proofs.Operations.{bit-ext}
 use Rattle.words.proofs.Truth.{and-l}
@@ -16,7 +18,7 @@ use Rattle.refusals.specs.Numbers.{numberOf}
 use Rattle.refusals.proofs.Numbers.{number-injective, number-lt}
 use Rattle.lexer.specs.Spelling.{bytes}
 use Rattle.text.specs.Decimal.{decimal}
-use Rattle.text.proofs.Decimals.{isDigit, allDigits, decimal-digits, decimal-injective, decimal-some}
+use Rattle.text.proofs.Decimals.{decimal-injective, decimal-some, each, decimal-each}
 use Rattle.text.proofs.Fields.{decimal-plain, field-split}
 use Rattle.tables.specs.declared.Row.{Row}
 use Rattle.state.specs.State.{State, fresh}
@@ -33,12 +35,16 @@ use Rattle.verdicts.specs.declared.Verdict.{Verdict}
 use Rattle.verdicts.specs.declared.Verdict.the-variants.{Satisfiable, Unsatisfiable, Unknown}
 use Rattle.answers.specs.Printed.{literal, literals, verdictText, answerText, refusalText, solvedText}
 
+-- a number's bytes are 48 and above
+decimal-digits : (x : ℕ) → each (leb 48) (decimal x) ≡ true
+decimal-digits x = decimal-each (leb 48) (λ d h. le-leb 48 (48 + d) (omega arith)) x
+
 -- no number starts with a minus
-no-minus : (ds s t : List ℕ) → allDigits ds ≡ true → 1 ≤ length ds → ds ++ s ≡ 45 ∷ t → ⊥
+no-minus : (ds s t : List ℕ) → each (leb 48) ds ≡ true → 1 ≤ length ds → ds ++ s ≡ 45 ∷ t → ⊥
 no-minus [] s t h k e = omega arith
 no-minus (d ∷ ds) s t h k e =
     let minus : d ≡ 45 = cc in
-    false≢true (sym (ap isDigit minus) ∙ and-l (isDigit d) (allDigits ds) h)
+    false≢true (sym (ap (leb 48) minus) ∙ and-l (leb 48 d) (each (leb 48) ds) h)
 
 -- ---- literals
 

@@ -11,11 +11,10 @@ use borrow.Author.Tests.{lt-ltb, le-ltb}
 use Rattle.words.proofs.Truth.{on, and-l, and-r, and-i}
 use Rattle.lexer.specs.Bytes.{isSeparator}
 use Rattle.lexer.specs.Pieces.{Piece, behind, tokensFrom}
-use Rattle.lexer.specs.Answers.{firstOf}
-use Rattle.lexer.specs.Places.{part}
+use Rattle.lexer.specs.Places.{part, firstOf}
 use Rattle.lexer.proofs.Cuts.{Found, found}
 use Rattle.numbers.specs.Numbers.{Number, number, malformed, numberOf}
-use Rattle.numbers.specs.Answers.{numberHeld}
+use Rattle.numbers.specs.Held.{numberHeld}
 use Rattle.numbers.specs.declared.Number.the-variants as L
 use Rattle.numbers.proofs.Decimals.{held-value, held-none}
 use Rattle.clauses.specs.Rows.{Literal, rowOf}

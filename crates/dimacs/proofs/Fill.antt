@@ -80,7 +80,7 @@ words-all z rs h =
     sets-eq (wordsOf rs) (zeros z) 0 (omega (arith, words-length rs, length-replicate {A = ℕ} z 0))
     ∙ ap (λ (l : List ℕ). wordsOf rs ++ l) (drop-zeros z (0 + length (wordsOf rs)) ∙ (let q : z - (0 + length (wordsOf rs)) ≡ z - 2 * length rs = omega (arith, words-length rs) in ap zeros q))
 
-pub counts-length : (m : ℕ) (x : Reading) → counts m x ≡ true → length (rowsOf x) ≡ m
+counts-length : (m : ℕ) (x : Reading) → counts m x ≡ true → length (rowsOf x) ≡ m
 counts-length zero (clause ls s e rest) h = absurd (false≢true h)
 counts-length zero ended h = refl
 counts-length zero unreadable h = absurd (false≢true h)
@@ -89,7 +89,7 @@ counts-length (suc m) ended h = absurd (false≢true h)
 counts-length (suc m) unreadable h = absurd (false≢true h)
 
 -- counting the clauses one by one
-pub counts-is : (m : ℕ) (x : Reading) → complete x && eqb (length (rowsOf x)) m ≡ counts m x
+counts-is : (m : ℕ) (x : Reading) → complete x && eqb (length (rowsOf x)) m ≡ counts m x
 counts-is zero (clause ls s e rest) = rw eqb·suc-zero (and-false (complete rest))
 counts-is zero ended = refl
 counts-is zero unreadable = refl

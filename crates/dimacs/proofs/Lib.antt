@@ -1,5 +1,5 @@
 pub mod Fill
-pub mod Whole
+pub mod Texts
 pub mod Pairs
 pub mod Accepted
 pub mod Endings

@@ -1,4 +1,4 @@
--- Two texts together: the first refusal decides.
+-- Two texts together: the first refusal decides. By the outcomes, one after the other.
 -- Assumes nothing.
 use mathlib.Core.Path.{_≡_, sym, ap, ap₂, _∙_}
 use mathlib.Core.Bool.{Bool, true, false, not, cond}

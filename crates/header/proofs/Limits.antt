@@ -1,7 +1,7 @@
 -- n and m as they are judged: a value held up to 1000 passes the tests that the exact one passes, and what is taken is within the limits. By the tests' cases.
 -- Assumes nothing.
 use mathlib.Core.Path.{_≡_, refl, sym, ap, ap₂, _∙_}
-use mathlib.Core.Bool.{Bool, true, false, cond, _&&_, false≢true}
+use mathlib.Core.Bool.{Bool, true, false, _&&_, false≢true}
 use mathlib.Core.List.{List, [], _∷_}
 use Prim.Native.Nat.{ℕ, _≤_}
 use native.Mathlib.Omega.{arith}
@@ -13,7 +13,7 @@ use Rattle.words.specs.Sameness.{same}
 use Rattle.lexer.specs.Bytes.{isBlank, isTail, trimmed}
 use Rattle.lexer.specs.Pieces.{Piece, linesFrom, partsFrom}
 use Rattle.numbers.specs.Numbers.{Number, number, malformed, numberOf}
-use Rattle.numbers.specs.Answers.{held, numberHeld}
+use Rattle.numbers.specs.Held.{held, numberHeld}
 use Rattle.numbers.specs.declared.Number.the-variants as L
 use Rattle.numbers.proofs.Decimals.{held-value, held-none}
 use Rattle.refusals.specs.declared.Refusal.the-variants.{Variables, RowCount, Text}

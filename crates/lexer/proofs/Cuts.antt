@@ -12,8 +12,7 @@ use lib.Seq.{drop-cons, drop-drop}
 use borrow.Author.Tests.{ltb-true, ltb-false}
 use Rattle.lexer.specs.Bytes.{run}
 use Rattle.lexer.specs.Pieces.{Piece, cut, filled, partsFrom}
-use Rattle.lexer.specs.Answers.{firstOf}
-use Rattle.lexer.specs.Places.{runEnd, part}
+use Rattle.lexer.specs.Places.{runEnd, part, firstOf}
 use Rattle.lexer.specs.declared.pieces.Piece.the-variants.{At, Nothing}
 use Rattle.words.proofs.Truth.{on}
 use Rattle.lexer.proofs.Runs.{end-ge, end-le}

@@ -3,7 +3,8 @@ use crate::kinds;
 use crate::kinds::Kind;
 ghost use mathlib.Core.Path.{_≡_};
 ghost use Rattle.lexer.specs.Pieces.{partsFrom, tokensFrom};
-ghost use Rattle.lexer.specs.Answers.{passes, firstOf};
+ghost use Rattle.lexer.specs.Kinds.{passes};
+ghost use Rattle.lexer.specs.Places.{firstOf};
 
 // A piece's place and the place behind it.
 pub enum Piece {

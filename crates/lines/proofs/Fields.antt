@@ -19,20 +19,20 @@ use Rattle.lines.specs.Numbers.{Field, field, malformed, bounded, closed
 use Rattle.lines.specs.Places.{placeOf, placeAt}
 
 -- as `closed`, with v read already and a digit seen
-abbrev closing-after : ℕ → ℕ → List ℕ → List ℕ → Field
-closing-after v closing ds [] = malformed
-closing-after v closing ds (b ∷ rest) = cond (eqb b closing) (bounded (digitsAfter v ds) rest) malformed
+abbrev closingAfter : ℕ → ℕ → List ℕ → List ℕ → Field
+closingAfter v closing ds [] = malformed
+closingAfter v closing ds (b ∷ rest) = cond (eqb b closing) (bounded (digitsAfter v ds) rest) malformed
 
 -- `seen` says whether a digit was seen
 abbrev closedAfter : ℕ → Bool → ℕ → List ℕ → List ℕ → Field
-closedAfter v true closing ds rest = closing-after v closing ds rest
+closedAfter v true closing ds rest = closingAfter v closing ds rest
 closedAfter v false closing [] rest = malformed
-closedAfter v false closing (d ∷ ds) rest = closing-after v closing (d ∷ ds) rest
+closedAfter v false closing (d ∷ ds) rest = closingAfter v closing (d ∷ ds) rest
 
 unfoldable pub fieldAfter : ℕ → Bool → ℕ → List ℕ → Field
 fieldAfter v seen closing text = closedAfter v seen closing (take (run isDigit text) text) (drop (run isDigit text) text)
 
-pub field-start : (closing : ℕ) (text : List ℕ) → fieldAfter 0 false closing text ≡ fieldOf closing text
+field-start : (closing : ℕ) (text : List ℕ) → fieldAfter 0 false closing text ≡ fieldOf closing text
 unfolding fieldAfter fieldOf
 field-start closing text = go (take (run isDigit text) text) (drop (run isDigit text) text)
   where
@@ -41,12 +41,12 @@ field-start closing text = go (take (run isDigit text) text) (drop (run isDigit 
     go (d ∷ ds) [] = refl
     go (d ∷ ds) (b ∷ rest) = refl
 
-pub field-end : (v : ℕ) (seen : Bool) (closing : ℕ) → fieldAfter v seen closing [] ≡ malformed
+field-end : (v : ℕ) (seen : Bool) (closing : ℕ) → fieldAfter v seen closing [] ≡ malformed
 unfolding fieldAfter run
 field-end v true closing = refl
 field-end v false closing = refl
 
-pub field-digit : (v : ℕ) (seen : Bool) (closing b : ℕ) (bs : List ℕ) → isDigit b ≡ true
+field-digit : (v : ℕ) (seen : Bool) (closing b : ℕ) (bs : List ℕ) → isDigit b ≡ true
     → fieldAfter v seen closing (b ∷ bs) ≡ fieldAfter (v * 10 + (b - 48)) true closing bs
 unfolding fieldAfter run digitsAfter
 field-digit v seen closing b bs e = rw (e, run) (go seen (take (run isDigit bs) bs) (drop (run isDigit bs) bs))
@@ -60,16 +60,16 @@ field-digit v seen closing b bs e = rw (e, run) (go seen (take (run isDigit bs) 
     go false ds rest = one false ds rest
 
 -- a byte that is no digit closes the field or spoils it
-pub field-closed : (v closing b : ℕ) (bs : List ℕ) → isDigit b ≡ false → fieldAfter v true closing (b ∷ bs) ≡ cond (eqb b closing) (bounded (some v) bs) malformed
+field-closed : (v closing b : ℕ) (bs : List ℕ) → isDigit b ≡ false → fieldAfter v true closing (b ∷ bs) ≡ cond (eqb b closing) (bounded (some v) bs) malformed
 unfolding fieldAfter run digitsAfter
 field-closed v closing b bs e = rw (e, run)
 
-pub field-empty : (v closing b : ℕ) (bs : List ℕ) → isDigit b ≡ false → fieldAfter v false closing (b ∷ bs) ≡ malformed
+field-empty : (v closing b : ℕ) (bs : List ℕ) → isDigit b ≡ false → fieldAfter v false closing (b ∷ bs) ≡ malformed
 unfolding fieldAfter run
 field-empty v closing b bs e = rw (e, run)
 
 -- no digits make a value smaller
-pub field-over : (v closing : ℕ) (text : List ℕ) → 2 ^ 64 ≤ v → fieldAfter v true closing text ≡ malformed
+field-over : (v closing : ℕ) (text : List ℕ) → 2 ^ 64 ≤ v → fieldAfter v true closing text ≡ malformed
 unfolding fieldAfter digitsAfter
 field-over v closing text h = go (take (run isDigit text) text) (drop (run isDigit text) text)
   where
@@ -83,10 +83,10 @@ field-over v closing text h = go (take (run isDigit text) text) (drop (run isDig
 
 -- ---- places
 
-pub next-byte : (line : List ℕ) (i : ℕ) → i < length line → drop i line ≡ getD line i 0 ∷ drop (i + 1) line
+next-byte : (line : List ℕ) (i : ℕ) → i < length line → drop i line ≡ getD line i 0 ∷ drop (i + 1) line
 next-byte line i h = drop-cons line i 0 h ∙ ap (λ (k : ℕ). getD line i 0 ∷ drop k line) (sym (add-one i))
 
-pub place-behind : (line : List ℕ) (v i : ℕ) → i < length line → placeOf line (field v (drop (i + 1) line)) ≡ Behind v (i + 1)
+place-behind : (line : List ℕ) (v i : ℕ) → i < length line → placeOf line (field v (drop (i + 1) line)) ≡ Behind v (i + 1)
 place-behind line v i h = ap (Behind v) (let e = length-drop (i + 1) line in omega arith)
 
 module _ (line : List ℕ) (at closing i v : ℕ) (low : i < length line)

@@ -13,14 +13,14 @@ use lib.Seq.{drop-cons, take-all}
 use borrow.Author.Tests.{leb-true, eq-eqb, ne-eqb}
 use Rattle.numbers.specs.Numbers.{isDigit, digitsAfter, decimalOf, positive, negative, numberOf}
 use Rattle.numbers.specs.Numbers as N
-use Rattle.numbers.specs.Answers.{leadingZero, held, digitsHeld, numberHeld}
+use Rattle.numbers.specs.Held.{leadingZero, held, digitsHeld, numberHeld}
 use Rattle.numbers.specs.declared.Number.{Number}
 use Rattle.numbers.specs.declared.Number.the-variants.{Value, Malformed}
 use Rattle.numbers.specs.declared.Digits.the-variants as D
 use Rattle.words.proofs.Truth.{on}
 
 -- two values that are held alike go on alike
-pub held-after : (v w : ℕ) (bs : List ℕ) → held v ≡ held w → digitsHeld (digitsAfter v bs) ≡ digitsHeld (digitsAfter w bs)
+held-after : (v w : ℕ) (bs : List ℕ) → held v ≡ held w → digitsHeld (digitsAfter v bs) ≡ digitsHeld (digitsAfter w bs)
 unfolding digitsAfter
 held-after v w [] e = ap D.Value e
 held-after v w (b ∷ bs) e =

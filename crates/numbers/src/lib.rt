@@ -4,7 +4,7 @@
 ghost use mathlib.Core.Path.{_≡_};
 ghost use Prim.Native.Nat.{_+_, _*_, _-_, _≤_};
 ghost use Rattle.numbers.specs.Numbers.{isDigit, decimalOf, numberOf};
-ghost use Rattle.numbers.specs.Answers.{leadingZero, held, digitsHeld, numberHeld};
+ghost use Rattle.numbers.specs.Held.{leadingZero, held, digitsHeld, numberHeld};
 
 // Whether the number has a minus, and its value; 1000 stands for every greater one.
 pub enum Number {

@@ -6,7 +6,7 @@ use Prim.Native.Nat.{ℕ, suc, _+_, _-_, _≤_, _<_}
 use native.Mathlib.Numerals.{add-one}
 use native.Mathlib.Omega.{arith}
 use lib.ListN.{length, getD, set, take, drop, replicate, length-append}
-use lib.Seq.{drop-cons, drop-length, take-append-seam}
+use lib.Seq.{drop-cons, take-append-seam}
 use borrow.Author.Tests.{lt-ltb}
 use Rattle.text.specs.declared.Text.{Text}
 use Rattle.text.specs.Texts.{textOf, pushed, appended}
@@ -24,9 +24,6 @@ appended-then t xs ys r s e h = h ∙ ap (λ (x : Text). appended x ys) e ∙ ap
 pub appended-push : (t : Text) (xs : List ℕ) (b : ℕ) → pushed (appended t xs) b ≡ appended t (xs ++ (b ∷ []))
 unfolding appended
 appended-push t xs b = appended-join t xs (b ∷ [])
-
-pub drop-whole : (xs : List ℕ) (i : ℕ) → i ≡ length xs → drop i xs ≡ []
-drop-whole xs i e = ap (λ (k : ℕ). drop k xs) e ∙ drop-length xs
 
 -- what is left gives what the whole gives, when one byte is pushed
 pub appended-next : (t : Text) (xs : List ℕ) (i : ℕ) → i < length xs → appended t (drop i xs) ≡ appended (pushed t (getD xs i 0)) (drop (i + 1) xs)

@@ -6,9 +6,9 @@ use mathlib.Core.List.{List, [], _∷_, _++_}
 use Prim.Native.Nat.{ℕ, zero, suc, _+_, _-_, _*_, _/_, _%_, _^_, _≤_, _<_, zero-le}
 use native.Mathlib.Nat.{lt-trans, pow-suc, mod-lt, zero-lt-suc, div-lt-iff-lt-mul, div-add-mod'}
 use native.Mathlib.Omega.{arith}
-use lib.Dec.{ltb, leb, lit<}
+use lib.Dec.{ltb, lit<}
 use lib.ListN.{length, length-append}
-use borrow.Author.Tests.{lt-ltb, le-ltb, ltb-true, ltb-false, le-leb}
+use borrow.Author.Tests.{lt-ltb, le-ltb, ltb-true, ltb-false}
 use Rattle.words.proofs.Truth.{on, and-i, and-l, and-r}
 use Rattle.text.specs.Decimal.{decimalWithin, decimal}
 
@@ -100,28 +100,28 @@ decimal-injective x y h k e = sym (value-within 20 x (lt-trans h (lit< tt))) ∙
 
 -- ---- digits are no other bytes
 
-abbrev pub isDigit : ℕ → Bool
-isDigit b = leb 48 b && ltb b 58
+-- every byte passes
+abbrev pub each : (ℕ → Bool) → List ℕ → Bool
+each p [] = true
+each p (b ∷ bs) = p b && each p bs
 
-abbrev pub allDigits : List ℕ → Bool
-allDigits [] = true
-allDigits (b ∷ bs) = isDigit b && allDigits bs
+module _ (p : ℕ → Bool) (digits : (d : ℕ) → d < 10 → p (48 + d) ≡ true) where
+  each-one : (d : ℕ) → d < 10 → each p ((48 + d) ∷ []) ≡ true
+  each-one d h = and-i (digits d h) refl
 
-pub digits-join : (xs ys : List ℕ) → allDigits xs ≡ true → allDigits ys ≡ true → allDigits (xs ++ ys) ≡ true
-digits-join [] ys h k = k
-digits-join (x ∷ xs) ys h k = and-i (and-l (isDigit x) _ h) (digits-join xs ys (and-r (isDigit x) _ h) k)
+  each-join : (xs ys : List ℕ) → each p xs ≡ true → each p ys ≡ true → each p (xs ++ ys) ≡ true
+  each-join [] ys h k = k
+  each-join (x ∷ xs) ys h k = and-i (and-l (p x) _ h) (each-join xs ys (and-r (p x) _ h) k)
 
-one-digit : (x : ℕ) → x < 10 → allDigits ((48 + x) ∷ []) ≡ true
-one-digit x h = and-i (and-i (le-leb 48 (48 + x) (omega arith)) (lt-ltb (48 + x) 58 (omega arith))) refl
+  each-within : (k x : ℕ) → each p (decimalWithin k x) ≡ true
+  unfolding decimalWithin
+  each-within zero x = refl
+  each-within (suc k) x =
+      on (ltb x 10)
+      (λ e. rw (within-digit k x e) (each-one x (ltb-true x 10 e)))
+      (λ e. rw (within-step k x e) (each-join (decimalWithin k (x / 10)) _ (each-within k (x / 10)) (each-one (x % 10) (mod-lt x (zero-lt-suc 9)))))
 
-within-digits : (k x : ℕ) → allDigits (decimalWithin k x) ≡ true
-unfolding decimalWithin
-within-digits zero x = refl
-within-digits (suc k) x =
-    on (ltb x 10)
-    (λ e. rw (within-digit k x e) (one-digit x (ltb-true x 10 e)))
-    (λ e. rw (within-step k x e) (digits-join (decimalWithin k (x / 10)) _ (within-digits k (x / 10)) (one-digit (x % 10) (mod-lt x (zero-lt-suc 9)))))
-
-pub decimal-digits : (x : ℕ) → allDigits (decimal x) ≡ true
-unfolding decimal
-decimal-digits x = within-digits 20 x
+  -- a test that the ten digits pass is passed by every byte of a number
+  pub decimal-each : (x : ℕ) → each p (decimal x) ≡ true
+  unfolding decimal
+  decimal-each x = each-within 20 x

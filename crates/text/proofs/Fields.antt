@@ -3,13 +3,13 @@
 use mathlib.Core.Path.{_≡_, refl, sym, ap, ap₂, _∙_}
 use mathlib.Core.Bool.{Bool, true, not, _&&_, _||_, false≢true}
 use mathlib.Core.List.{List, [], _∷_, _++_}
-use Prim.Native.Nat.{ℕ}
+use Prim.Native.Nat.{ℕ, _+_}
 use native.Mathlib.Omega.{arith}
-use borrow.Author.Tests.{leb-true, ne-eqb, not-true}
-use lib.Dec.{eqb, leb, ltb}
-use Rattle.words.proofs.Truth.{and-l, and-r, and-i}
+use borrow.Author.Tests.{ne-eqb, not-true}
+use lib.Dec.{eqb}
+use Rattle.words.proofs.Truth.{and-l, and-r}
 use Rattle.text.specs.Decimal.{decimal}
-use Rattle.text.proofs.Decimals.{isDigit, allDigits, decimal-digits}
+use Rattle.text.proofs.Decimals.{each, decimal-each}
 
 -- a space or an LF, which ends a field
 abbrev pub ends : ℕ → Bool
@@ -17,20 +17,10 @@ ends b = eqb b 32 || eqb b 10
 
 -- no byte ends the field
 abbrev pub plain : List ℕ → Bool
-plain [] = true
-plain (b ∷ bs) = not (ends b) && plain bs
-
-digit-plain : (b : ℕ) → isDigit b ≡ true → not (ends b) ≡ true
-digit-plain b h =
-    let l = leb-true 48 b (and-l (leb 48 b) (ltb b 58) h) in
-    rw (ne-eqb b 32 (λ e. omega arith), ne-eqb b 10 (λ e. omega arith))
-
-digits-plain : (bs : List ℕ) → allDigits bs ≡ true → plain bs ≡ true
-digits-plain [] h = refl
-digits-plain (b ∷ bs) h = and-i (digit-plain b (and-l (isDigit b) _ h)) (digits-plain bs (and-r (isDigit b) _ h))
+plain bs = each (λ b. not (ends b)) bs
 
 pub decimal-plain : (x : ℕ) → plain (decimal x) ≡ true
-decimal-plain x = digits-plain (decimal x) (decimal-digits x)
+decimal-plain x = decimal-each (λ b. not (ends b)) (λ d h. rw (ne-eqb (48 + d) 32 (λ e. omega arith), ne-eqb (48 + d) 10 (λ e. omega arith))) x
 
 -- fields up to the byte that ends them, and what follows
 pub field-split : (xs ys : List ℕ) (x y : ℕ) (s t : List ℕ) → plain xs ≡ true → plain ys ≡ true → ends x ≡ true → ends y ≡ true

@@ -1,7 +1,7 @@
 -- `read` meets its contract: the header's refusal or its n and m lead where the definition's do. Assumes nothing.
 use mathlib.Core.Path.{sym, _∙_}
 use borrow.Author.Needs.{needs}
-use Rattle.dimacs.proofs.Whole.{overlong, by-header, limits}
+use Rattle.dimacs.proofs.Texts.{overlong, by-header, limits}
 use Rattle.dimacs.proofs.read.Statement.{statement}
 use Rattle.dimacs.proofs.read.Tie as tie
 

@@ -1,5 +1,5 @@
 -- `read_parts` meets its contract: each part that is found is the next, and each test is the definition's. Assumes nothing.
-use mathlib.Core.Path.{sym, ap, _∙_}
+use mathlib.Core.Path.{sym, _∙_}
 use mathlib.Core.List.{List}
 use Prim.Native.Nat.{ℕ}
 use native.Mathlib.Omega.{arith}

@@ -1,5 +1,5 @@
 -- `read_sizes` meets its contract: a part that is found is the next, and one that is not leaves too few. Assumes nothing.
-use mathlib.Core.Path.{sym, ap, _∙_}
+use mathlib.Core.Path.{sym, _∙_}
 use mathlib.Core.List.{List}
 use Prim.Native.Nat.{ℕ}
 use native.Mathlib.Omega.{arith}

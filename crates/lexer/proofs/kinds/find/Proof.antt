@@ -4,7 +4,7 @@ use mathlib.Core.Bool.{not}
 use Prim.Native.Nat.{_-_}
 use lib.ListN.{length}
 use borrow.Author.Needs.{needs}
-use Rattle.lexer.specs.Answers.{passes}
+use Rattle.lexer.specs.Kinds.{passes}
 use Rattle.lexer.specs.Places.{runEnd}
 use Rattle.lexer.proofs.Runs.{end-out, end-stop, end-more}
 use Rattle.lexer.proofs.kinds.find.Statement.{statement}

@@ -7,7 +7,7 @@ use lib.Seq.{take-length}
 use borrow.Author.Needs.{needs}
 use borrow.Author.Tests.{not-true, not-false}
 use Rattle.lexer.specs.Bytes.{run, trimmed}
-use Rattle.lexer.specs.Answers.{passes}
+use Rattle.lexer.specs.Kinds.{passes}
 use Rattle.lexer.proofs.Trims.{trim-less, trim-stop}
 use Rattle.lexer.proofs.kinds.trim.Statement.{statement}
 use Rattle.lexer.proofs.kinds.trim.Tie as tie

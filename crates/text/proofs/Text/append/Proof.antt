@@ -4,11 +4,11 @@ use mathlib.Core.Path.{_≡_, refl, sym, ap, _∙_}
 use mathlib.Core.List.{List}
 use Prim.Native.Nat.{ℕ, _+_, _≤_, _-_}
 use native.Mathlib.Omega.{arith}
-use lib.ListN.{length, drop}
+use lib.ListN.{length, drop, drop-of-length-le}
 use borrow.Author.Needs.{needs}
 use Rattle.text.specs.declared.Text.{Text}
 use Rattle.text.specs.Texts.{appended}
-use Rattle.text.proofs.Appending.{appended-next, drop-whole}
+use Rattle.text.proofs.Appending.{appended-next}
 use Rattle.text.proofs.Text.append.Statement.{statement}
 use Rattle.text.proofs.Text.append.Tie as tie
 
@@ -45,7 +45,7 @@ loop-again c =
 returns : tie.Need-returns Inv-loop μ-loop
 unfolding appended
 returns c =
-    sym (ap (λ (l : List ℕ). appended (c .before .loop .text) l) (drop-whole (c .before .before .before .args .more .now) (c .before .loop .i) (omega arith)))
+    sym (ap (λ (l : List ℕ). appended (c .before .loop .text) l) (drop-of-length-le (c .before .before .before .args .more .now) {i = c .before .loop .i} (omega arith)))
     ∙ c .before .loop .inv .1
 
 pub append-spec : {M : Type 1} → statement M

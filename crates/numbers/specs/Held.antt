@@ -1,4 +1,4 @@
--- What the crate's functions answer, by the definitions: values are held up to 1000.
+-- A number as code holds it: values up to 1000, which stands for every greater one; and what code asks of digits before it reads them.
 use Prim.Native.Nat.{ℕ, min}
 use mathlib.Core.Bool.{Bool, false}
 use mathlib.Core.List.{List, [], _∷_}
