@@ -1,24 +1,25 @@
 -- The trial's bytes: 2 more than a wire's value, and wire 0's value alone. Laws of the bytes by cases of the list, of the table by computation.
 -- Assumes nothing.
 use mathlib.Core.Path.{_≡_, refl, ap, ap₂, sym, _∙_}
-use mathlib.Core.Bool.{Bool, true, false}
+use mathlib.Core.Bool.{Bool, true, false, _&&_, cond, false≢true}
 use mathlib.Core.List.{List, [], _∷_, _++_, map, map-append}
 use Prim.Native.Nat.{ℕ, zero, suc, _+_, _*_, _/_, _%_, _≤_, _<_}
 use native.Mathlib.Nat.{not-suc-le-zero, le-of-suc-le-suc, add-zero}
 use native.Mathlib.Numerals.{add-one}
 use native.Mathlib.Omega.{arith}
-use borrow.Author.Tests.{lt-ltb, le-ltb, ne-eqb, eqb-true}
+use borrow.Author.Tests.{lt-ltb, le-ltb, ne-eqb, eqb-true, eqb-false}
 use lib.Dec.{eqb, ltb}
-use lib.ListN.{length, getD, take, drop, set, length-map, List·getD-map}
+use lib.ListN.{length, getD, take, drop, set, length-map, drop-of-length-le, List·getD-map}
 use lib.Seq.{take-at, take-length, length-take-le, getD-take, take-suc, drop-cons, append-snoc, set-at, drop-set-lt}
 use Rattle.words.specs.Booleans.{digit, imp}
 use Rattle.words.specs.Sets.{all}
-use Rattle.words.proofs.Truth.{mp, digit-lt}
+use Rattle.words.proofs.Truth.{mp, digit-lt, on}
 use Rattle.gates.specs.Gates.{wire, value, wiresOf}
-use Rattle.evaluator.specs.Values.{held, plain}
 use Rattle.gates.specs.Memory.{gateOf, gatesOf, drives, accepted, bytesOf, bitsOf, bits, over}
+use Rattle.gates.proofs.Judging.{accepted-uneven}
 use Rattle.gates.proofs.InMemory.{accepted-length, bytesOf-bitsOf}
-use Rattle.evaluator.proofs.Running.{Run, value-read, at-each, read-front, front-length, next, values-length}
+use Rattle.two_pass.proofs.Running.{Run, value-read, at-each, read-front, front-length, next, values-length, judged-at, done}
+use Rattle.evaluator.specs.Held.{held, plain}
 
 -- what wire i's byte has beyond its value
 abbrev mark : ℕ → ℕ
@@ -126,6 +127,23 @@ module _ {s : List Bool} {g w₀ : List ℕ} {n : ℕ} {w : List ℕ} {i m : ℕ
       next r room _ h (sym (judged-held k a b ha hb) ∙ lt-ltb _ 10 hu)
       (held-append (r .values) u (omega (arith, values-many)) ∙ ap (λ (x : ℕ). held (r .values) ++ (x ∷ [])) (sym e))
 
+  -- a gate that may not drive its wire makes the whole refused
+  pub refused : m < n + length g / 3 → drives m (getD g i 0) (getD g (i + 1) 0) (getD g (i + 2) 0) ≡ false → false ≡ accepted n g
+  refused h d = sym (judged-at r room h ∙ ap (λ (t : Bool). t && accepted (m + 1) (drop (i + 3) g)) d)
+
+  -- whole gates that all ran were accepted
+  all-good : length g ≤ i → accepted n g ≡ true
+  unfolding accepted
+  all-good h = sym (r .judged) ∙ ap (λ (l : List ℕ). accepted m l) (drop-of-length-le g h)
+
+  -- all gates ran: the words were accepted where they are whole gates, and then the buffer is filled
+  pub ended : n + length g / 3 ≤ m
+      → let F = over (held (wiresOf s (gatesOf g))) w₀ in
+      (eqb (length g % 3) 0 ≡ accepted n g) × (cond (eqb (length g % 3) 0) w [] ≡ cond (eqb (length g % 3) 0) F [])
+  ended h = on (eqb (length g % 3) 0)
+      (λ t. let q : length g ≤ i = omega (arith, r .step, eqb-true (length g % 3) 0 t) in rw t (sym (all-good q), done r room q))
+      (λ t. rw t (sym (accepted-uneven n g (eqb-false (length g % 3) 0 t)), refl))
+
 -- ---- in and out
 
 -- a list written over a buffer, a byte a turn
@@ -197,3 +215,8 @@ stored s g a w₁ v h x w₂ f =
     ∙ ap plain (take-at (held all-values) (drop (length (held all-values)) w₁) (length s + length g / 3) q)
     ∙ plain-held all-values in
     f ∙ ap (λ (l : List ℕ). over l x) t
+
+-- a list that is given only where the test holds
+pub given-so : (t : Bool) (x y : List ℕ) → t ≡ true → cond t x [] ≡ cond t y [] → x ≡ y
+given-so true x y e h = h
+given-so false x y e h = absurd (false≢true e)

@@ -3,15 +3,14 @@ mod values;
 
 ghost use mathlib.Core.Path.{_≡_};
 ghost use mathlib.Core.Bool.{true, cond};
-ghost use mathlib.Core.List.{[], _∷_};
-ghost use Prim.Native.Nat.{_+_, _/_, _≤_, _<_};
+ghost use mathlib.Core.List.{[]};
+ghost use Prim.Native.Nat.{_+_, _/_, _≤_};
 ghost use lib.ListN.{length, take};
 ghost use Rattle.refusals.specs.Checks.{outcome};
-ghost use Rattle.words.specs.Booleans.{digit};
-ghost use Rattle.gates.specs.Gates.{value, wiresOf};
+ghost use Rattle.gates.specs.Gates.{wiresOf};
 ghost use Rattle.gates.specs.Memory as Memory;
-ghost use Rattle.evaluator.specs.Evaluation.{checks, filled};
-ghost use Rattle.evaluator.specs.Values.{table, held, plain};
+ghost use Rattle.two_pass.specs.Evaluation.{checks, filled};
+ghost use Rattle.evaluator.specs.Held.{held, plain};
 use refusals::Outcome;
 use refusals::Refusal;
 
@@ -22,10 +21,10 @@ pub fn evaluate(gates: &[u32], inputs: &[u8], wires: &mut [u8]) -> Outcome
 {
     let end = inputs.len() + gates.len() / 3;
     // Few wires do not repay the trial's array, and more than 204,800 do not fit in it: the giant step's largest circuit has 197,347.
-    if 8192 <= end && end <= 204800 && bits(inputs) {
+    if 8192 <= end && end <= 204800 && gates::bits(inputs) {
         return try_out(gates, inputs, wires);
     }
-    judge_first(gates, inputs, wires)
+    two_pass::evaluate(gates, inputs, wires)
 }
 
 // Tries the gates out in an array of its own.
@@ -120,72 +119,5 @@ fn store_wires(scratch: &[u8], wires: &mut [u8], count: usize)
     while i < count {
         wires[i] = scratch[i] % 2;
         i += 1;
-    }
-}
-
-// Judges all gates, then evaluates in place.
-fn judge_first(gates: &[u32], inputs: &[u8], wires: &mut [u8]) -> Outcome
-    ensures { λ r. ⌜ r ≡ outcome (checks (now (gates .entry)) (now (inputs .entry)) (now (wires .entry))) ⌝ }
-    ensures { λ _. ⌜ now (wires .exit) ≡ filled (now (gates .entry)) (now (inputs .entry)) (now (wires .entry)) ⌝ }
-{
-    let n = inputs.len();
-    if !gates::accepted(gates, n) {
-        return Outcome::Refused(Refusal::Gates);
-    }
-    if wires.len() < n + gates.len() / 3 {
-        return Outcome::Refused(Refusal::Wires);
-    }
-    if !bits(inputs) {
-        return Outcome::Refused(Refusal::Wires);
-    }
-    bytes::copy(inputs, wires);
-    run(gates, wires, n);
-    Outcome::Taken
-}
-
-// Whether each byte is 0 or 1.
-fn bits(bytes: &[u8]) -> bool
-    ensures { λ r. ⌜ r ≡ Memory.bits (now (bytes .entry)) ⌝ }
-{
-    let mut i = 0;
-    while i < bytes.len() {
-        if 1 < bytes[i] {
-            return false;
-        }
-        i += 1;
-    }
-    true
-}
-
-// The value of a gate of this kind on two wires.
-fn gate_value(values: &[u8; 12], kind: u32, a: u8, b: u8) -> u8
-    requires { ⌜ now values ≡ table ⌝ }
-    requires { ⌜ kind < 3 ⌝ }
-    requires { ⌜ (a < 2) × (b < 2) ⌝ }
-    ensures { λ r. ⌜ r ≡ digit (value (Memory.bitsOf (a ∷ (b ∷ []))) (Memory.gateOf kind 0 1)) ⌝ }
-{
-    let at = 2 * (2 * (kind as usize) + (a as usize)) + (b as usize);
-    values[at]
-}
-
-// Runs accepted gates behind the first n wires.
-fn run(gates: &[u32], wires: &mut [u8], n: usize)
-    requires { ⌜ Memory.accepted n (now gates) ≡ true ⌝ }
-    requires { ⌜ n + length (now gates) / 3 ≤ length (now wires) ⌝ }
-    requires { ⌜ Memory.bits (take n (now wires)) ≡ true ⌝ }
-    ensures { λ _. ⌜ now (wires .exit) ≡ Memory.over (Memory.bytesOf (wiresOf (Memory.bitsOf (take n (now (wires .entry)))) (Memory.gatesOf (now (gates .entry))))) (now (wires .entry)) ⌝ }
-{
-    let values = values::PLAIN;
-    let end = n + gates.len() / 3;
-    let mut i = 0;
-    let mut m = n;
-    while m < end {
-        let kind = gates[i];
-        let a = gates[i + 1] as usize;
-        let b = gates[i + 2] as usize;
-        let v = gate_value(&values, kind, wires[a], wires[b]);
-        wires[m] = v;
-        i += 3;
-        m += 1;
     }
 }

@@ -1,9 +1,6 @@
-// Tables of gates' values, which are looked up: jumps on the kind would be mispredicted.
+// The trial's table of gates' values, which is looked up: jumps on the kind would be mispredicted.
 
-// XOR, AND and INV, four each, on wires 00, 01, 10 and 11.
-pub(crate) const PLAIN: [u8; 12] = [0, 1, 1, 0, 0, 0, 0, 1, 1, 1, 0, 0];
-
-// As the trial holds them: for each kind and held second wire, four on the held first wire. Behind INV wire 0 is the second.
+// For each kind and held second wire, four values on the held first wire, as the trial holds them. Behind INV wire 0 is the second.
 pub(crate) const HELD: [u8; 40] = [
     2,
     3,

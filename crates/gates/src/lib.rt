@@ -1,4 +1,4 @@
-// Gates in memory (document 01, "Circuit"): which words are gates.
+// Gates and wires in memory (document 01, "Circuit"): which words are gates, which bytes are wires' values.
 ghost use mathlib.Core.Path.{_≡_};
 ghost use Prim.Native.Nat.{_≤_};
 ghost use Rattle.gates.specs.Memory as Memory;
@@ -12,6 +12,20 @@ pub fn accepted(gates: &[u32], inputs: usize) -> bool
         return judge(gates, 4294967296);
     }
     judge(gates, inputs)
+}
+
+// Whether each byte is 0 or 1.
+pub fn bits(bytes: &[u8]) -> bool
+    ensures { λ r. ⌜ r ≡ Memory.bits (now (bytes .entry)) ⌝ }
+{
+    let mut i = 0;
+    while i < bytes.len() {
+        if 1 < bytes[i] {
+            return false;
+        }
+        i += 1;
+    }
+    true
 }
 
 // A word as an index.

@@ -22,7 +22,7 @@ use Rattle.generator.specs.declared.Generated.the-variants as generated′
 use Rattle.generator.specs.Generation.{generated, written}
 use Rattle.wires.specs.Packing.{packChecks, packed}
 use Rattle.gates.specs.Memory.{accepted}
-use Rattle.evaluator.specs.Evaluation.{checks}
+use Rattle.two_pass.specs.Evaluation.{checks}
 use Rattle.repeats.specs.Application.{turnedBack, inputs, judged, bytesAfter, wiresAfter, applied}
 use Rattle.bristol.specs.declared.Written.the-variants as written′
 use Rattle.bristol.specs.declared.WrittenLines.the-variants as lines′

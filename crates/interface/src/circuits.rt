@@ -4,7 +4,7 @@ use refusals::Outcome;
 ghost use mathlib.Core.Path.{_≡_};
 ghost use lib.ListN.{length};
 ghost use Rattle.refusals.specs.Checks.{outcome};
-ghost use Rattle.evaluator.specs.Evaluation.{checks, filled};
+ghost use Rattle.two_pass.specs.Evaluation.{checks, filled};
 ghost use Rattle.generator.specs.Generation as Generation;
 ghost use Rattle.wires.specs.Packing.{packChecks, packed};
 ghost use Rattle.readback.specs.Reading.{readBack};

@@ -19,10 +19,10 @@ use Rattle.state.specs.WellFormed.{wellFormedState}
 use Rattle.solver.specs.Step.{step}
 use Rattle.gates.specs.Gates.{wiresOf}
 use Rattle.gates.specs.Memory.{wordsOf, accepted, bytesOf, over}
-use Rattle.evaluator.specs.Evaluation.{checks, filled}
+use Rattle.two_pass.specs.Evaluation.{checks, filled}
 use Rattle.gates.proofs.Circuits.{ordered, wires-length}
 use Rattle.gates.proofs.InMemory.{accepted-words, words-length}
-use Rattle.evaluator.proofs.Evaluation.{evaluates}
+use Rattle.two_pass.proofs.Evaluation.{evaluates}
 use Rattle.wires.specs.Layout.{stateBits}
 use Rattle.wires.specs.Packing.{inputBits}
 use Rattle.wires.proofs.Lengths.{both-length, input-length, state-length}

@@ -14,7 +14,7 @@ use Rattle.state.specs.State.{State, ifOpen}
 use Rattle.state.specs.WellFormed.{wellFormedState}
 use Rattle.solver.specs.Step.{step}
 use Rattle.gates.specs.Memory.{accepted, bytesOf}
-use Rattle.evaluator.specs.Evaluation.{checks, filled}
+use Rattle.two_pass.specs.Evaluation.{checks, filled}
 use Rattle.wires.specs.Layout.{stateBits}
 use Rattle.wires.specs.Packing.{inputBits}
 

@@ -23,9 +23,9 @@ use Rattle.state.specs.State.{stateOf}
 use Rattle.gates.specs.Gates.{wiresOf}
 use Rattle.gates.specs.Memory as Memory
 use Rattle.gates.specs.Memory.{accepted, gatesOf, bitsOf, bytesOf, over}
-use Rattle.evaluator.specs.Evaluation.{checks, filled}
+use Rattle.two_pass.specs.Evaluation.{checks, filled}
 use Rattle.gates.proofs.InMemory.{bits-bytes, bitsOf-bytesOf}
-use Rattle.evaluator.proofs.Evaluation as Evaluation
+use Rattle.two_pass.proofs.Evaluation as Evaluation
 use Rattle.wires.specs.Packing.{inputBits, packChecks, packed}
 use Rattle.wires.proofs.Lengths.{input-length}
 use Rattle.wires.proofs.Checks.{packed-front}

@@ -11,7 +11,7 @@ use Rattle.refusals.specs.declared.Refusal.{Refusal}
 use Rattle.dimensions.specs.declared.Dimensions.{Dimensions}
 use Rattle.dimensions.specs.Sizes.{stateWires, inputWires}
 use Rattle.state.specs.declared.Run.{Run}
-use Rattle.evaluator.specs.Evaluation.{checks, filled}
+use Rattle.two_pass.specs.Evaluation.{checks, filled}
 use Rattle.wires.specs.Packing.{packChecks, packed}
 use Rattle.readback.specs.Reading.{readBack}
 use Rattle.netlist.specs.Outputs.{outputsIn}

@@ -26,8 +26,8 @@ same-length c = search needs
 returns : tie.Need-returns
 returns c = search needs
 
-judge-first-requires : tie.Need-judge-first-requires
-judge-first-requires c κs = search needs
+evaluate-requires : tie.Need-evaluate-requires
+evaluate-requires c κs = search needs
 
 same-length-2 : tie.Need-same-length-2
 same-length-2 c = search needs
@@ -44,6 +44,6 @@ evaluate-spec =
     try-out-requires
     same-length
     returns
-    judge-first-requires
+    evaluate-requires
     same-length-2
     returns-2)

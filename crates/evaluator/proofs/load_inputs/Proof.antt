@@ -7,7 +7,7 @@ use Prim.Native.Nat.{_≤_, _-_}
 use native.Mathlib.Omega.{arith}
 use lib.ListN.{length, getD, take, drop, length-set}
 use Rattle.gates.specs.Memory.{bitsOf}
-use Rattle.evaluator.specs.Values.{held}
+use Rattle.evaluator.specs.Held.{held}
 use Rattle.evaluator.proofs.Held.{next-byte, all-bytes, input-bit, input-held, inputs-length, no-inputs, first-input, all-inputs}
 use Rattle.evaluator.proofs.load_inputs.Statement.{statement}
 use Rattle.evaluator.proofs.load_inputs.Tie as tie

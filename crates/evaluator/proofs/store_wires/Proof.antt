@@ -6,7 +6,7 @@ use mathlib.Core.List.{_++_}
 use Prim.Native.Nat.{_≤_, _-_}
 use native.Mathlib.Omega.{arith}
 use lib.ListN.{length, take, drop, length-set}
-use Rattle.evaluator.specs.Values.{plain}
+use Rattle.evaluator.specs.Held.{plain}
 use Rattle.evaluator.proofs.Held.{next-byte, all-bytes, stored-at, stored-length}
 use Rattle.evaluator.proofs.store_wires.Statement.{statement}
 use Rattle.evaluator.proofs.store_wires.Tie as tie

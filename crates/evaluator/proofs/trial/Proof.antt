@@ -8,10 +8,10 @@ use native.Mathlib.Omega.{arith}
 use borrow.Author.Tests.{le-ltb}
 use lib.ListN.{length, getD}
 use Rattle.gates.specs.Memory.{bitsOf}
-use Rattle.evaluator.specs.Values.{held}
+use Rattle.evaluator.specs.Held.{held}
 use Rattle.gates.proofs.Judging.{first-late, second-late}
-use Rattle.evaluator.proofs.Running.{Run, start, whole, fits-next, refused, ended}
-use Rattle.evaluator.proofs.Held.{read-held, judged-held, held-again}
+use Rattle.two_pass.proofs.Running.{Run, start, whole, fits-next}
+use Rattle.evaluator.proofs.Held.{refused, ended, read-held, judged-held, held-again}
 use Rattle.evaluator.proofs.trial.Statement.{statement}
 use Rattle.evaluator.proofs.trial.Tie as tie
 

@@ -7,9 +7,8 @@ use native.Mathlib.Omega.{arith}
 use borrow.Author.Tests.{not-true, not-false}
 use lib.ListN.{length}
 use Rattle.gates.specs.Memory.{accepted}
-use Rattle.evaluator.proofs.Running.{given-so}
-use Rattle.evaluator.proofs.Held.{loaded, stored}
-use Rattle.evaluator.proofs.Evaluation.{no-gates, no-room, taken}
+use Rattle.two_pass.proofs.Evaluation.{no-gates, no-room, taken}
+use Rattle.evaluator.proofs.Held.{loaded, stored, given-so}
 use Rattle.evaluator.proofs.try_in.Statement.{statement}
 use Rattle.evaluator.proofs.try_in.Tie as tie
 

@@ -12,7 +12,7 @@ use Rattle.refusals.specs.Checks.{outcome}
 use Rattle.refusals.specs.declared.Outcome.the-variants.{Taken}
 use Rattle.dimensions.specs.Sizes.{inputWires}
 use Rattle.gates.specs.Memory.{accepted}
-use Rattle.evaluator.specs.Evaluation.{filled}
+use Rattle.two_pass.specs.Evaluation.{filled}
 use Rattle.wires.specs.Packing.{packChecks}
 use Rattle.wires.proofs.Checks.{Passed, passed}
 use Rattle.repeats.specs.Application.{nextRun}

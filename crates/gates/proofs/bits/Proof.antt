@@ -11,9 +11,9 @@ use borrow.Author.Tests.{lt-ltb, le-ltb}
 use lib.Dec.{ltb}
 use lib.ListN.{length, drop, getD, drop-of-length-le}
 use lib.Seq.{drop-cons}
 use Rattle.gates.specs.Memory as Memory
-use Rattle.evaluator.proofs.bits.Statement.{statement}
-use Rattle.evaluator.proofs.bits.Tie as tie
+use Rattle.gates.proofs.bits.Statement.{statement}
+use Rattle.gates.proofs.bits.Tie as tie
 
 bits-at : (s : List ℕ) (i : ℕ) → i < length s → Memory.bits (drop i s) ≡ ltb (getD s i 0) 2 && Memory.bits (drop (i + 1) s)
 unfolding Memory.bits

@@ -1,4 +1,4 @@
--- `judge_first` meets its contract: each return cites the law of what its checks found.
+-- `evaluate` meets its contract: each return cites the law of what its checks found.
 -- Assumes nothing.
 use mathlib.Core.Path.{_≡_, sym, _∙_, ap}
 use mathlib.Core.Bool.{true}
@@ -7,10 +7,10 @@ use borrow.Author.Needs.{needs}
 use borrow.Author.Tests.{not-true, not-false}
 use lib.ListN.{length}
 use Rattle.gates.specs.Memory.{gatesOf, accepted, bits}
-use Rattle.evaluator.proofs.Running.{copied, written}
-use Rattle.evaluator.proofs.Evaluation.{no-gates, no-room, no-bits, taken}
-use Rattle.evaluator.proofs.judge_first.Statement.{statement}
-use Rattle.evaluator.proofs.judge_first.Tie as tie
+use Rattle.two_pass.proofs.InPlace.{copied, written}
+use Rattle.two_pass.proofs.Evaluation.{no-gates, no-room, no-bits, taken}
+use Rattle.two_pass.proofs.evaluate.Statement.{statement}
+use Rattle.two_pass.proofs.evaluate.Tie as tie
 
 accepted-requires : tie.Need-accepted-requires
 accepted-requires c κs = search needs
@@ -70,8 +70,8 @@ returns-4 c =
     let e = written (s .args .inputs .now) (s .args .wires .now) _ (k .copy .ensures .1) (gatesOf g) _ (c .before .before .run .ensures) in
     (t .0, e ∙ t .1)
 
-pub judge-first-spec : {M : Type 1} → statement M
-judge-first-spec =
+pub evaluate-spec : {M : Type 1} → statement M
+evaluate-spec =
     tie.close
     (tie.spec
     accepted-requires

@@ -10,9 +10,10 @@ use Rattle.words.proofs.Truth.{and-l}
 use Rattle.gates.specs.Memory.{drives, bytesOf, bitsOf}
 use Rattle.gates.proofs.Judging.{drives-below}
 use Rattle.gates.proofs.InMemory.{bytesOf-bitsOf}
-use Rattle.evaluator.proofs.Running.{Run, start, whole, fits-next, judged-at, read-bit, again, filled-good}
-use Rattle.evaluator.proofs.run.Statement.{statement}
-use Rattle.evaluator.proofs.run.Tie as tie
+use Rattle.two_pass.proofs.Running.{Run, start, whole, fits-next, judged-at}
+use Rattle.two_pass.proofs.InPlace.{read-bit, again, filled-good}
+use Rattle.two_pass.proofs.run.Statement.{statement}
+use Rattle.two_pass.proofs.run.Tie as tie
 
 abbrev Inv-loop : tie.InvT-loop
 Inv-loop gates wires₀ n values end i₀ m₀ wires i m = Run bytesOf (bitsOf (take n wires₀)) gates wires₀ n wires i m

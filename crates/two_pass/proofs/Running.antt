@@ -1,25 +1,22 @@
--- What the evaluator's loop goes by: the values so far, with the gates that are left, give what the whole gives.
+-- What the loops that run gates go by: the values so far, with the gates that are left, give what the whole gives; a turn adds the value of its gate.
 -- Assumes nothing.
 use mathlib.Core.Path.{_≡_, refl, ap, ap₂, sym, _∙_}
-use mathlib.Core.Bool.{Bool, true, false, not, _&&_, cond, false≢true}
-use mathlib.Core.List.{List, [], _∷_, _++_, map-append}
-use Prim.Native.Nat.{ℕ, zero, suc, _+_, _*_, _/_, _%_, _≤_, _<_}
+use mathlib.Core.Bool.{Bool, true, false, not, _&&_}
+use mathlib.Core.List.{List, [], _∷_, _++_}
+use Prim.Native.Nat.{ℕ, zero, suc, _+_, _*_, _/_, _≤_, _<_}
 use native.Mathlib.Numerals.{add-one}
 use native.Mathlib.Omega.{arith}
-use borrow.Author.Tests.{eqb-true, eqb-false}
 use lib.Dec.{eqb}
-use lib.ListN.{length, getD, take, drop, set, length-set, length-map, drop-of-length-le, take-append-drop, List·getD-map}
-use lib.Seq.{take-length, take-append-seam, drop-append-add, drop-drop, getD-take, take-suc-set, drop-set-lt, length-take-le}
+use lib.ListN.{length, getD, take, drop, set, length-set, length-map, drop-of-length-le, take-append-drop}
+use lib.Seq.{drop-drop, getD-take, take-suc-set, drop-set-lt, length-take-le}
 use Rattle.words.specs.Booleans.{digit, _⊕_}
 use Rattle.words.specs.Sets.{all}
-use Rattle.words.proofs.Truth.{on, digit-lt, digit-bit}
+use Rattle.words.proofs.Truth.{digit-lt, digit-bit}
 use Rattle.words.proofs.Upto.{all-e}
 use Rattle.gates.specs.Gates.{Gate, wire, value, wiresOf}
-use Rattle.evaluator.specs.Values.{table}
 use Rattle.gates.specs.Memory.{gateOf, gatesOf, drives, accepted, bytesOf, bitsOf, over}
-use Rattle.gates.proofs.Judging.{drop-three, accepted-at, accepted-uneven, drives-below}
+use Rattle.gates.proofs.Judging.{drop-three, accepted-at}
 use Rattle.gates.proofs.Circuits.{wires-length}
-use Rattle.gates.proofs.InMemory.{accepted-length}
 
 -- a gate's value from the bytes that it reads
 pub value-read : (w : List Bool) (k a b x y : ℕ) → x ≡ digit (wire w a) → y ≡ digit (wire w b)
@@ -37,15 +34,6 @@ pub at-each : (p : ℕ → ℕ → ℕ → Bool) (n : ℕ) → all (λ k. all (�
 at-each p n e k a b hk ha hb =
     all-e (λ y. p k a y) n (all-e (λ x. all (λ y. p k x y) n) n (all-e (λ j. all (λ x. all (λ y. p j x y) n) n) 3 e k hk) a ha) b hb
 
--- entry 2 × (2k + a) + b is the value of a gate of kind k on wires a and b
-abbrev shows : ℕ → ℕ → ℕ → Bool
-shows k a b = eqb (getD table (2 * (2 * k + a) + b) 0) (digit (value (bitsOf (a ∷ (b ∷ []))) (gateOf k 0 1)))
-
-pub table-at : (k a b : ℕ) → k < 3 → a < 2 → b < 2
-    → getD table (2 * (2 * k + a) + b) 0 ≡ digit (value (bitsOf (a ∷ (b ∷ []))) (gateOf k 0 1))
-unfolding all
-table-at k a b hk ha hb = eqb-true _ _ (at-each shows 2 refl k a b hk ha hb)
-
 -- the gate of the three words at i, and the rest
 wires-at : (g : List ℕ) (i : ℕ) → i + 3 ≤ length g → (w : List Bool)
     → wiresOf w (gatesOf (drop i g))
@@ -53,7 +41,7 @@ wires-at : (g : List ℕ) (i : ℕ) → i + 3 ≤ length g → (w : List Bool)
 unfolding wiresOf gatesOf
 wires-at g i h w = ap (λ (l : List ℕ). wiresOf w (gatesOf l)) (drop-three g i h)
 
--- what the evaluator's loops keep, at word i and wire m: the values so far stand at the front, in the loop's form of bytes, and with the gates that
+-- what a loop keeps, at word i and wire m: the values so far stand at the front, in the loop's form of bytes, and with the gates that
 -- are left they give all that s gives; the gates that are left are judged as all are
 pub record Run (form : List Bool → List ℕ) (s : List Bool) (g w₀ : List ℕ) (n : ℕ) (w : List ℕ) (i m : ℕ) : Type 0 where
   pub judged : accepted m (drop i g) ≡ accepted n g
@@ -99,15 +87,6 @@ module _ {form : List Bool → List ℕ} {s : List Bool} {g w₀ : List ℕ} {n 
       → accepted n g ≡ drives m (getD g i 0) (getD g (i + 1) 0) (getD g (i + 2) 0) && accepted (m + 1) (drop (i + 3) g)
   judged-at h = sym (r .judged) ∙ accepted-at g i (whole h) m
 
-  -- a gate that may not drive its wire makes the whole refused
-  pub refused : m < n + length g / 3 → drives m (getD g i 0) (getD g (i + 1) 0) (getD g (i + 2) 0) ≡ false → false ≡ accepted n g
-  refused h d = sym (judged-at h ∙ ap (λ (t : Bool). t && accepted (m + 1) (drop (i + 3) g)) d)
-
-  -- whole gates that all ran were accepted
-  pub all-good : length g ≤ i → accepted n g ≡ true
-  unfolding accepted
-  all-good h = sym (r .judged) ∙ ap (λ (l : List ℕ). accepted m l) (drop-of-length-le g h)
-
   -- a gate that may drive its wire, and the byte of its value at that wire
   pub next : (v : ℕ) → m < n + length g / 3
       → let k = getD g i 0 in
@@ -140,65 +119,6 @@ module _ {form : List Bool → List ℕ} {s : List Bool} {g w₀ : List ℕ} {n 
       ∙ ap₂ (λ (x y : List ℕ). x ++ y) (r .front) (r .rest ∙ ap (λ (k : ℕ). drop k w₀) front-length)
       ∙ ap (λ (l : List Bool). over (form l) w₀) e
 
-  -- all gates of accepted words ran
-  pub filled-good : accepted n g ≡ true → n + length g / 3 ≤ m → w ≡ over (form (wiresOf s (gatesOf g))) w₀
-  filled-good e h = done (omega (arith, r .step, accepted-length n g e))
-
-  -- all gates ran: the words were accepted where they are whole gates, and then the buffer is filled
-  pub ended : n + length g / 3 ≤ m
-      → let F = over (form (wiresOf s (gatesOf g))) w₀ in
-      (eqb (length g % 3) 0 ≡ accepted n g) × (cond (eqb (length g % 3) 0) w [] ≡ cond (eqb (length g % 3) 0) F [])
-  ended h = on (eqb (length g % 3) 0)
-      (λ t. let q : length g ≤ i = omega (arith, r .step, eqb-true (length g % 3) 0 t) in rw t (sym (all-good q), done q))
-      (λ t. rw t (sym (accepted-uneven n g (eqb-false (length g % 3) 0 t)), refl))
-
--- bytes as they are
-module _ {s : List Bool} {g w₀ : List ℕ} {n : ℕ} {w : List ℕ} {i m : ℕ} (r : Run bytesOf s g w₀ n w i m) (room : n + length g / 3 ≤ length w₀) where
-  read : (a : ℕ) → a < m → getD w a 0 ≡ digit (wire (r .values) a)
-  read a h = read-front r room a h ∙ List·getD-map digit (r .values) a false
-
-  pub read-bit : (a : ℕ) → a < m → getD w a 0 < 2
-  read-bit a h = omega (arith, read a h, digit-lt (wire (r .values) a))
-
-  pub again : (v : ℕ) → m < n + length g / 3 → drives m (getD g i 0) (getD g (i + 1) 0) (getD g (i + 2) 0) ≡ true
-      → v ≡ digit (value (bitsOf (getD w (getD g (i + 1) 0) 0 ∷ (getD w (getD g (i + 2) 0) 0 ∷ []))) (gateOf (getD g i 0) 0 1))
-      → Run bytesOf s g w₀ n (set w m v) (i + 3) (m + 1)
-  again v h d e =
-      let k = getD g i 0 in
-      let a = getD g (i + 1) 0 in
-      let b = getD g (i + 2) 0 in
-      let below = drives-below m k a b d in
-      let u : Bool = value (r .values) (gateOf k a b) in
-      let e′ : v ≡ digit u = e ∙ ap digit (value-read (r .values) k a b _ _ (read a (below .1)) (read b (below .2))) in
-      next r room v h d (map-append digit (r .values) (u ∷ []) ∙ ap (λ (x : ℕ). bytesOf (r .values) ++ (x ∷ [])) (sym e′))
-
 -- a value for each input and each gate
 pub values-length : (s : List ℕ) (gs : List Gate) → length (wiresOf (bitsOf s) gs) ≡ length s + length gs
 values-length s gs = wires-length (bitsOf s) gs ∙ ap (λ (k : ℕ). k + length gs) (length-map s (λ x. eqb x 1))
-
--- a buffer to whose front the inputs were copied
-module _ (s w w₁ : List ℕ) (e : w₁ ≡ take (length s) s ++ drop (length s) w) where
-  inputs-first : w₁ ≡ s ++ drop (length s) w
-  inputs-first = e ∙ ap (λ (l : List ℕ). l ++ drop (length s) w) (take-length s)
-
-  pub copied : take (length s) w₁ ≡ s
-  copied = ap (λ (l : List ℕ). take (length s) l) inputs-first ∙ take-append-seam s (drop (length s) w)
-
-  -- what the gates' values are written over is what stood there before
-  pub written : (gs : List Gate) (w₂ : List ℕ) → w₂ ≡ over (bytesOf (wiresOf (bitsOf (take (length s) w₁)) gs)) w₁
-      → w₂ ≡ over (bytesOf (wiresOf (bitsOf s) gs)) w
-  written gs w₂ f =
-      let F = bytesOf (wiresOf (bitsOf s) gs) in
-      let q : length F ≡ length s + length gs = length-map (wiresOf (bitsOf s) gs) digit ∙ values-length s gs in
-      f
-      ∙ ap (λ (l : List ℕ). over (bytesOf (wiresOf (bitsOf l) gs)) w₁) copied
-      ∙ ap (λ (l : List ℕ). F ++ l)
-      (ap₂ (λ (k : ℕ) (l : List ℕ). drop k l) q inputs-first
-      ∙ drop-append-add s (drop (length s) w) (length gs)
-      ∙ drop-drop (length gs) (length s) w
-      ∙ ap (λ (k : ℕ). drop k w) (sym q))
-
--- a list that is given only where the test holds
-pub given-so : (t : Bool) (x y : List ℕ) → t ≡ true → cond t x [] ≡ cond t y [] → x ≡ y
-given-so true x y e h = h
-given-so false x y e h = absurd (false≢true e)

@@ -1,12 +1,8 @@
--- The evaluator's table of values and the bytes of its trial; only the crate's own functions cite this.
+-- The bytes of a trial; only the crate's own functions cite this.
 use mathlib.Core.Bool.{Bool}
 use mathlib.Core.List.{List, [], _∷_, map}
 use Prim.Native.Nat.{ℕ, _+_, _%_}
 use Rattle.words.specs.Booleans.{digit}
-
--- the bytes that XOR, AND and INV give, on wires 00, 01, 10 and 11
-abbrev pub table : List ℕ
-table = 0 ∷ (1 ∷ (1 ∷ (0 ∷ (0 ∷ (0 ∷ (0 ∷ (1 ∷ (1 ∷ (1 ∷ (0 ∷ (0 ∷ [])))))))))))
 
 -- wires' values as the trial holds them: wire 0 as its byte, any other as 2 more
 abbrev pub held : List Bool → List ℕ

@@ -1,9 +1,9 @@
 -- `gate_value` meets its contract: the table's entry is the value, at each kind and each pair of wires.
 -- Assumes nothing.
 use borrow.Author.Needs.{needs}
-use Rattle.evaluator.proofs.Running.{table-at}
-use Rattle.evaluator.proofs.gate_value.Statement.{statement}
-use Rattle.evaluator.proofs.gate_value.Tie as tie
+use Rattle.two_pass.proofs.InPlace.{table-at}
+use Rattle.two_pass.proofs.gate_value.Statement.{statement}
+use Rattle.two_pass.proofs.gate_value.Tie as tie
 
 mul-at : tie.Need-mul-at
 mul-at c = search needs

@@ -13,7 +13,7 @@ use Rattle.refusals.specs.declared.Outcome.the-variants.{Taken, Refused}
 use Rattle.refusals.specs.Checks.{outcome}
 use Rattle.gates.specs.Gates.{Gate, wiresOf}
 use Rattle.gates.specs.Memory.{wordsOf, gatesOf, accepted, bytesOf, bitsOf, bits, over}
-use Rattle.evaluator.specs.Evaluation.{checks, filled}
+use Rattle.two_pass.specs.Evaluation.{checks, filled}
 use Rattle.gates.proofs.Circuits.{ordered}
 use Rattle.gates.proofs.InMemory.{words-length, gates-words, accepted-words, bits-bytes, bitsOf-bytesOf}
 
