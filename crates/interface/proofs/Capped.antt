@@ -16,7 +16,7 @@ use Rattle.refusals.proofs.Outcomes.{check-passed, checks-taken}
 use Rattle.dimensions.specs.declared.Dimensions.{Dimensions}
 use Rattle.dimensions.specs.Sizes.{outside, sizeChecks}
 use Rattle.dimensions.proofs.Limits.{most}
-use Rattle.lent.specs.Lent.{dimensions}
+use Rattle.codes.specs.Codes.{dimensions}
 
 -- ---- a limit
 

@@ -28,7 +28,8 @@ use Rattle.generator.specs.declared.Generated.the-variants as generated′
 use Rattle.generator.specs.Generation.{generated, written, Carried}
 use Rattle.repeats.specs.declared.Applied.{Applied}
 use Rattle.repeats.specs.Application.{turnedBack, bytesAfter, wiresAfter, applied}
-use Rattle.lent.specs.Lent.{dimensions, frontIf}
+use Rattle.codes.specs.Codes.{dimensions}
+use Rattle.lent.specs.Lent.{frontIf}
 use Rattle.interface.specs.Lent.{sizeNumbers, stepIn, applyIn}
 use Rattle.interface.proofs.Refused.{accept-refused, step-refused, solve-refused, check-refused, pack-refused, generate-refused, gates-refused, apply-refused, bytes-refused, wires-refused, line-refused, line-kept, lines-refused, lines-kept}
 use Rattle.interface.proofs.Capped.{capped, taken-held, same}

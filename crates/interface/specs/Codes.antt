@@ -15,7 +15,7 @@ use Rattle.bristol.specs.declared.WrittenLines.{WrittenLines}
 use Rattle.bristol.specs.declared.WrittenLines.the-variants as lines
 use Rattle.lines.specs.declared.Budget.{Budget}
 use Rattle.lines.specs.declared.Budget.the-variants as budget
-use Rattle.lent.specs.Codes.{verdictNumber, modelWord, verdictFrom}
+use Rattle.codes.specs.Codes.{verdictNumber, modelWord, verdictFrom}
 
 -- ---- the budgeted run: count, verdict, model
 

@@ -11,8 +11,9 @@ ghost use Rattle.readback.specs.Reading.{readBack};
 ghost use Rattle.repeats.specs.Application.{bytesAfter, wiresAfter};
 ghost use Rattle.stored.specs.Words.{runIn};
 ghost use Rattle.refusals.specs.Numbers.{codeOf};
+ghost use Rattle.codes.specs.Codes.{dimensions};
 ghost use Rattle.interface.specs.Codes.{generatedCode, generatedNumbers};
-ghost use Rattle.lent.specs.Lent.{dimensions, front, storedIf};
+ghost use Rattle.lent.specs.Lent.{front, storedIf};
 ghost use Rattle.interface.specs.Lent.{applyIn, applyStored, applyMarked, backChecks};
 
 // Writes the circuit, which carries out the giant step, over the front of the words, and how many gates it has; 1, 2 or 7 where it is turned back, and then nothing is written.
@@ -29,7 +30,7 @@ pub extern "C" fn forkhemit_generate(
     ensures { λ _. ⌜ now (count .exit) ≡ front (generatedNumbers (Generation.generated (dimensions n «left_rows» «right_rows») (now (gates .entry)))) (now (count .entry)) ⌝ }
     ensures { λ _. ⌜ Generation.Carried (dimensions n «left_rows» «right_rows») (Generation.generated (dimensions n «left_rows» «right_rows») (now (gates .entry))) (now (gates .exit)) ⌝ }
 {
-    let d = lent::dimensions(n, left_rows, right_rows);
+    let d = codes::dimensions(n, left_rows, right_rows);
     match generator::generate(d, gates) {
         Generated::Of(k) => {
             let numbers = [k as u64];
@@ -54,8 +55,8 @@ pub extern "C" fn forkhemit_pack(
     ensures { λ r. ⌜ r ≡ codeOf (outcome (packChecks (dimensions n «left_rows» «right_rows») (now (left .entry)) (now (right .entry)) (runIn (now (run .entry))) (length (now (bytes .entry))))) ⌝ }
     ensures { λ _. ⌜ now (bytes .exit) ≡ packed (dimensions n «left_rows» «right_rows») (now (left .entry)) (now (right .entry)) (runIn (now (run .entry))) (now (bytes .entry)) ⌝ }
 {
-    let d = lent::dimensions(n, left_rows, right_rows);
-    lent::code(wires::pack(d, left, right, stored::load(run), bytes))
+    let d = codes::dimensions(n, left_rows, right_rows);
+    codes::code(wires::pack(d, left, right, stored::load(run), bytes))
 }
 
 // Fills the front of the wires with the inputs and then each gate's value; 9 or 10 where it is turned back, and then no byte changes.
@@ -64,7 +65,7 @@ pub extern "C" fn forkhemit_evaluate(gates: &[u32], inputs: &[u8], wires: &mut [
     ensures { λ r. ⌜ r ≡ codeOf (outcome (checks (now (gates .entry)) (now (inputs .entry)) (now (wires .entry)))) ⌝ }
     ensures { λ _. ⌜ now (wires .exit) ≡ filled (now (gates .entry)) (now (inputs .entry)) (now (wires .entry)) ⌝ }
 {
-    lent::code(evaluator::evaluate(gates, inputs, wires))
+    codes::code(evaluator::evaluate(gates, inputs, wires))
 }
 
 // The run of n variables that the front of the bytes holds; 1, 10 or 12 where it is turned back, and then no word changes.
@@ -73,14 +74,14 @@ pub extern "C" fn forkhemit_read_back(n: u64, bytes: &[u8], run: &mut [u32]) -> 
     ensures { λ r. ⌜ r ≡ codeOf (outcome (backChecks n (now (bytes .entry)) (now (run .entry)))) ⌝ }
     ensures { λ _. ⌜ now (run .exit) ≡ storedIf (outcome (backChecks n (now (bytes .entry)) (now (run .entry)))) (readBack n (now (bytes .entry)) .run) (now (run .entry)) ⌝ }
 {
-    let read = readback::read_back(lent::byte(n), bytes);
+    let read = readback::read_back(codes::byte(n), bytes);
     let outcome = read.outcome;
     let next = read.run;
     match outcome {
         Outcome::Taken => {}
         Outcome::Refused(refusal) => return refusals::number(refusal),
     }
-    lent::code(stored::store(next, run))
+    codes::code(stored::store(next, run))
 }
 
 // One repeat: rows and run are packed, the gates evaluated, and the next run takes the place of the last; the mark says whether it is closed.
@@ -104,12 +105,12 @@ pub extern "C" fn forkhemit_apply(
     ensures { λ _. ⌜ now (wires .exit) ≡ wiresAfter (dimensions n «left_rows» «right_rows») (now (left .entry)) (now (right .entry)) (now (gates .entry)) (runIn (now (run .entry))) (now (bytes .entry)) (now (wires .entry)) ⌝ }
     ensures { λ _. ⌜ now (mark .exit) ≡ applyMarked (applyIn (dimensions n «left_rows» «right_rows») (now (left .entry)) (now (right .entry)) (now (gates .entry)) (now (run .entry)) (now (bytes .entry)) (now (wires .entry))) (now (mark .entry)) ⌝ }
 {
-    let d = lent::dimensions(n, left_rows, right_rows);
+    let d = codes::dimensions(n, left_rows, right_rows);
     let applied = repeats::apply(d, left, right, gates, stored::load(run), bytes, wires);
     let outcome = applied.outcome;
     let next = applied.run;
     let numbers = [applied.mark as u64];
     lent::put_if(outcome, &numbers, mark);
     lent::store_if(outcome, next, run);
-    lent::code(outcome)
+    codes::code(outcome)
 }

@@ -3,8 +3,9 @@ ghost use mathlib.Core.Path.{_≡_};
 ghost use Rattle.refusals.specs.Checks.{outcome};
 ghost use Rattle.dimensions.specs.Sizes.{sizeChecks};
 ghost use Rattle.tables.specs.Acceptance.{tableChecks};
+ghost use Rattle.lent.specs.Lent.{frontIf};
 ghost use Rattle.refusals.specs.Numbers.{codeOf};
-ghost use Rattle.lent.specs.Lent.{dimensions, frontIf};
+ghost use Rattle.codes.specs.Codes.{dimensions};
 ghost use Rattle.interface.specs.Lent.{sizeNumbers, pairIn, pairOutcome, leftRead, rightRead, sizesRead};
 
 // The gate ceiling, the words that the generator wants, input wires and state wires; 1 or 2 where it is turned back.
@@ -13,7 +14,7 @@ pub extern "C" fn forkhemit_sizes(n: u64, left_rows: u64, right_rows: u64, sizes
     ensures { λ r. ⌜ r ≡ codeOf (outcome (sizeChecks n «left_rows» «right_rows»)) ⌝ }
     ensures { λ _. ⌜ now (sizes .exit) ≡ frontIf (outcome (sizeChecks n «left_rows» «right_rows»)) (sizeNumbers (dimensions n «left_rows» «right_rows»)) (now (sizes .entry)) ⌝ }
 {
-    let d = lent::dimensions(n, left_rows, right_rows);
+    let d = codes::dimensions(n, left_rows, right_rows);
     let outcome = d.check();
     let ceiling = d.ceiling();
     let inputs = d.input_wires();
@@ -25,7 +26,7 @@ pub extern "C" fn forkhemit_sizes(n: u64, left_rows: u64, right_rows: u64, sizes
         states as u64,
     ];
     lent::put_if(outcome, &numbers, sizes);
-    lent::code(outcome)
+    codes::code(outcome)
 }
 
 // Reads two texts into tables, with n and the row counts; 1, 2, 5, 6 or 4 where it is turned back.
@@ -50,7 +51,7 @@ pub extern "C" fn forkhemit_read_pair(
     lent::put_rows(outcome, left_words, pair.left_rows, left);
     lent::put_rows(outcome, right_words, pair.right_rows, right);
     lent::put_if(outcome, &numbers, sizes);
-    lent::code(outcome)
+    codes::code(outcome)
 }
 
 // Whether two tables are accepted: 1, 2, 4 or 3 if not.
@@ -64,6 +65,6 @@ pub extern "C" fn forkhemit_accept(
 ) -> u8
     ensures { λ r. ⌜ r ≡ codeOf (outcome (tableChecks (dimensions n «left_rows» «right_rows») (now (left .entry)) (now (right .entry)))) ⌝ }
 {
-    let d = lent::dimensions(n, left_rows, right_rows);
-    lent::code(tables::accept(d, left, right))
+    let d = codes::dimensions(n, left_rows, right_rows);
+    codes::code(tables::accept(d, left, right))
 }

@@ -10,8 +10,9 @@ ghost use Rattle.solver.specs.Entries.{solved};
 ghost use Rattle.state.specs.State.{fresh, runOf};
 ghost use Rattle.stored.specs.Words.{runIn};
 ghost use Rattle.refusals.specs.Numbers.{codeOf};
+ghost use Rattle.codes.specs.Codes.{dimensions};
 ghost use Rattle.interface.specs.Codes.{solvedCode, solvedNumbers, modelCode, modelNumbers};
-ghost use Rattle.lent.specs.Lent.{dimensions, front, storedIf};
+ghost use Rattle.lent.specs.Lent.{front, storedIf};
 ghost use Rattle.interface.specs.Lent.{stepIn, stepStored, freshChecks};
 
 // The fresh run of n variables; 1 or 12 where it is turned back, and then no word changes.
@@ -26,7 +27,7 @@ pub extern "C" fn forkhemit_fresh(n: u64, run: &mut [u32]) -> u8
     if 32 < n {
         return refusals::number(Refusal::Variables);
     }
-    lent::code(stored::store(Run::fresh(n as u8), run))
+    codes::code(stored::store(Run::fresh(n as u8), run))
 }
 
 // One giant step of the run in the lent words; 1, 2, 4, 3, 12 or 13 where it is turned back, and then no word changes.
@@ -42,12 +43,12 @@ pub extern "C" fn forkhemit_step(
     ensures { λ r. ⌜ r ≡ codeOf (stepIn (dimensions n «left_rows» «right_rows») (now (left .entry)) (now (right .entry)) (now (run .entry)) .outcome) ⌝ }
     ensures { λ _. ⌜ now (run .exit) ≡ stepStored (stepIn (dimensions n «left_rows» «right_rows») (now (left .entry)) (now (right .entry)) (now (run .entry))) (now (run .entry)) ⌝ }
 {
-    let d = lent::dimensions(n, left_rows, right_rows);
+    let d = codes::dimensions(n, left_rows, right_rows);
     let stepped = solver::step(d, left, right, stored::load(run));
     let outcome = stepped.outcome;
     let next = stepped.run;
     lent::store_if(outcome, next, run);
-    lent::code(outcome)
+    codes::code(outcome)
 }
 
 // The answer of a fresh run under a budget: count, verdict, model; 1, 2, 4 or 3 where it is turned back, and then no number is written.
@@ -64,14 +65,14 @@ pub extern "C" fn forkhemit_solve(
     ensures { λ r. ⌜ r ≡ solvedCode (solved (dimensions n «left_rows» «right_rows») (now (left .entry)) (now (right .entry)) budget) ⌝ }
     ensures { λ _. ⌜ now (answer .exit) ≡ front (solvedNumbers (solved (dimensions n «left_rows» «right_rows») (now (left .entry)) (now (right .entry)) budget)) (now (answer .entry)) ⌝ }
 {
-    let d = lent::dimensions(n, left_rows, right_rows);
+    let d = codes::dimensions(n, left_rows, right_rows);
     match solver::solve(d, left, right, budget) {
         Solved::Of(given) => {
             let verdict = given.verdict;
             let numbers = [
                 given.count,
-                lent::verdict_number(verdict),
-                lent::model_word(verdict),
+                codes::verdict_number(verdict),
+                codes::model_word(verdict),
             ];
             lent::put(&numbers, answer);
             return 0;

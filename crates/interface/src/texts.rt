@@ -10,8 +10,9 @@ ghost use Rattle.bristol.specs.Writing as Writing;
 ghost use Rattle.answers.specs.Printed.{answerText};
 ghost use Rattle.lines.specs.Numbers.{budgetOf};
 ghost use Rattle.refusals.specs.Numbers.{codeOf};
+ghost use Rattle.codes.specs.Codes.{dimensions};
 ghost use Rattle.interface.specs.Codes.{lineCode, lineNumbers, linesCode, linesNumbers, budgetCode, budgetNumbers, answerFrom};
-ghost use Rattle.lent.specs.Lent.{dimensions, front, textOutcome};
+ghost use Rattle.lent.specs.Lent.{front, textOutcome};
 ghost use Rattle.interface.specs.Lent.{textWritten, lengthWritten};
 
 // Writes the line of a number, from 0, over the front of the bytes, and its length, 0 past the last line; 1, 2, 9 or 11 where it is turned back.
@@ -29,7 +30,7 @@ pub extern "C" fn forkhemit_write_line(
     ensures { λ _. ⌜ now (bytes .exit) ≡ Writing.filled (dimensions n «left_rows» «right_rows») (now (gates .entry)) line (now (bytes .entry)) ⌝ }
     ensures { λ _. ⌜ now (length .exit) ≡ front (lineNumbers (Writing.written (dimensions n «left_rows» «right_rows») (now (gates .entry)) line (now (bytes .entry)))) (now (length .entry)) ⌝ }
 {
-    let d = lent::dimensions(n, left_rows, right_rows);
+    let d = codes::dimensions(n, left_rows, right_rows);
     match bristol::write_line(d, gates, line as usize, bytes) {
         Written::Line(k) => {
             let numbers = [k as u64];
@@ -60,7 +61,7 @@ pub extern "C" fn forkhemit_write_lines(
     ensures { λ _. ⌜ now (bytes .exit) ≡ Writing.filledLines (dimensions n «left_rows» «right_rows») (now (gates .entry)) line (now (bytes .entry)) ⌝ }
     ensures { λ _. ⌜ now (written .exit) ≡ front (linesNumbers (Writing.writtenLines (dimensions n «left_rows» «right_rows») (now (gates .entry)) line (now (bytes .entry)))) (now (written .entry)) ⌝ }
 {
-    let d = lent::dimensions(n, left_rows, right_rows);
+    let d = codes::dimensions(n, left_rows, right_rows);
     match bristol::write_lines(d, gates, line as usize, bytes) {
         WrittenLines::Lines(count, size) => {
             let numbers = [count as u64, size as u64];
@@ -103,7 +104,7 @@ pub extern "C" fn forkhemit_answer(
 {
     let answer = Answer {
         count,
-        verdict: lent::verdict_from(verdict, model),
+        verdict: codes::verdict_from(verdict, model),
     };
-    lent::put_text(answers::answer_text(lent::byte(n), answer), bytes, length)
+    lent::put_text(answers::answer_text(codes::byte(n), answer), bytes, length)
 }

@@ -1,23 +1,18 @@
 -- Values written over the front of a buffer one by one: what is left to write gives what the whole gives. Past the buffer's end a store changes nothing.
 -- Assumes nothing.
 use mathlib.Core.Path.{_≡_, refl, sym, ap, _∙_}
-use mathlib.Core.Bool.{Bool, true, false}
-use mathlib.Core.List.{List, [], _∷_}
+use mathlib.Core.Bool.{true, false}
+use mathlib.Core.List.{List, [], _∷_, _++_}
 use Prim.Native.Nat.{ℕ, suc, _+_, _≤_, _<_, min}
 use native.Mathlib.Omega.{arith}
+use native.Mathlib.Nat.{zero-add}
 use native.Mathlib.Numerals.{add-one}
-use lib.ListN.{length, getD, take, drop, set, drop-of-length-le, length-take}
-use lib.Seq.{sets, drop-cons, set-out, getD-take}
-use mir.Val.{boolByte}
-use Rattle.words.specs.Booleans.{digit}
-use Rattle.words.proofs.Truth.{on}
 use lib.Dec.{leb}
+use lib.ListN.{length, getD, take, drop, set, drop-of-length-le, length-take}
+use lib.Seq.{sets, sets-eq, drop-cons, set-out, take-all, take-length}
 use borrow.Author.Tests.{leb-true, leb-false}
-
--- a Boolean as a number
-pub bool-digit : (b : Bool) → boolByte b ≡ digit b
-bool-digit true = refl
-bool-digit false = refl
+use Rattle.words.proofs.Truth.{on}
+use Rattle.lent.specs.Lent.{front}
 
 -- the buffer with what is left to write, from value i on
 unfoldable pub withRest : List ℕ → List ℕ → ℕ → List ℕ
@@ -39,12 +34,22 @@ module _ (values lent : List ℕ) (i : ℕ) where
       (λ e. rw (drop-of-length-le values (leb-true (length values) i e)))
       (λ e. sets-out (drop i values) lent i (omega (arith, leb-false (length values) i e)))
 
--- the same for the first values of a list
-module _ (values lent : List ℕ) (count i : ℕ) where
-  pub front-turn-of : i < count → i < length values → withRest (take count values) (set lent i (getD values i 0)) (i + 1) ≡ withRest (take count values) lent i
-  front-turn-of h k =
-      ap (λ (v : ℕ). withRest (take count values) (set lent i v) (i + 1)) (sym (getD-take count values i 0 h))
-      ∙ front-turn (take count values) lent i (omega (arith, length-take count values))
+-- ---- the first values of a list
 
-  pub front-end-of : min (min count (length values)) (length lent) ≤ i → withRest (take count values) lent i ≡ lent
-  front-end-of h = front-end (take count values) lent i (omega (arith, length-take count values))
+module _ (values : List ℕ) (count n : ℕ) (e : n ≡ min count (length values)) where
+  -- they are no more than all
+  pub first-values : take n values ≡ take count values
+  first-values =
+      on (leb (length values) count)
+      (λ t. let h = leb-true (length values) count t in take-all n values (omega arith) ∙ sym (take-all count values h))
+      (λ t. let h : n ≡ count = omega (arith, leb-false (length values) count t) in ap (λ (k : ℕ). take k values) h)
+
+  -- and copied, where they fit, they are those written over the front
+  pub front-copied : (lent : List ℕ) → count ≤ length lent
+      → let first = take n values in take (length first) first ++ drop (length first) lent ≡ front (take count values) lent
+  front-copied lent h =
+      let first = take n values in
+      ap (λ (l : List ℕ). l ++ drop (length first) lent) (take-length first)
+      ∙ ap (λ (k : ℕ). first ++ drop k lent) (sym (zero-add (length first)))
+      ∙ sym (sets-eq first lent 0 (omega (arith, e, length-take n values)))
+      ∙ ap (λ (l : List ℕ). front l lent) first-values

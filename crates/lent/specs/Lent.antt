@@ -1,4 +1,4 @@
--- Numbers from hosts, and values over the front of the buffers that they lend.
+-- Values over the front of the buffers that hosts lend.
 use Prim.Native.Nat.{ℕ, _*_}
 use mathlib.Core.Bool.{_||_}
 use mathlib.Core.List.{List, [], _∷_}
@@ -10,13 +10,8 @@ use Rattle.refusals.specs.declared.Outcome.{Outcome}
 use Rattle.refusals.specs.declared.Outcome.the-variants.{Refused}
 use Rattle.refusals.specs.declared.Refusal.the-variants.{RowBuffer, LineBuffer}
 use Rattle.dimacs.specs.declared.Pair.{Pair}
-use Rattle.dimensions.specs.declared.Dimensions.{Dimensions}
 use Rattle.state.specs.declared.Run.{Run}
 use Rattle.stored.specs.Words.{stored}
-
--- three numbers as dimensions, whatever they are: every entry judges them first
-abbrev pub dimensions : ℕ → ℕ → ℕ → Dimensions
-dimensions n left right = record { n = n; left = left; right = right }
 
 -- values over the front of a buffer, as many as it has room for
 abbrev pub front : List ℕ → List ℕ → List ℕ

@@ -1,17 +1,23 @@
 -- `forkhemit_apply` meets its contract: the application to the run in the words, the next run and its mark stored where it is taken.
 -- Assumes nothing.
-use mathlib.Core.Path.{ap, _∙_}
+use mathlib.Core.Path.{_≡_, refl, ap, _∙_}
+use mathlib.Core.Bool.{Bool, true, false}
 use mathlib.Core.List.{[], _∷_}
 use Prim.Native.Nat.{ℕ}
+use mir.Val.{boolByte}
 use Rattle.words.specs.Booleans.{digit}
 use Rattle.repeats.specs.declared.Applied.{Applied}
 use Rattle.refusals.specs.Numbers.{codeOf}
 use Rattle.lent.specs.Lent.{frontIf, storedIf}
-use Rattle.lent.proofs.Fronts.{bool-digit}
 use Rattle.interface.proofs.Entries.{apply-is, bytes-are, wires-are}
 use borrow.Author.Needs.{needs}
 use Rattle.interface.proofs.circuits.forkhemit_apply.Statement.{statement}
 use Rattle.interface.proofs.circuits.forkhemit_apply.Tie as tie
+
+-- the mark as a number
+bool-digit : (b : Bool) → boolByte b ≡ digit b
+bool-digit true = refl
+bool-digit false = refl
 
 dimensions-requires : tie.Need-dimensions-requires
 dimensions-requires c κs = search needs

@@ -5,9 +5,9 @@ use Prim.Native.Nat.{ℕ}
 use lib.Bits.{and-mask, mask-lt}
 use borrow.Author.Tests.{ne-eqb}
 use Rattle.verdicts.specs.declared.Verdict.the-variants.{Satisfiable}
-use Rattle.lent.specs.Codes.{verdictFrom}
-use Rattle.lent.proofs.verdict_from.Statement.{statement}
-use Rattle.lent.proofs.verdict_from.Tie as tie
+use Rattle.codes.specs.Codes.{verdictFrom}
+use Rattle.codes.proofs.verdict_from.Statement.{statement}
+use Rattle.codes.proofs.verdict_from.Tie as tie
 
 cast-t5 : tie.Need-cast-t5
 cast-t5 c = record { fits = mask-lt (c .before .args .model) 32 }

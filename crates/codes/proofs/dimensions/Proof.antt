@@ -1,8 +1,8 @@
 -- `dimensions` meets its contract: each field is its number, held at 255.
 -- Assumes nothing.
 use borrow.Author.Needs.{needs}
-use Rattle.lent.proofs.dimensions.Statement.{statement}
-use Rattle.lent.proofs.dimensions.Tie as tie
+use Rattle.codes.proofs.dimensions.Statement.{statement}
+use Rattle.codes.proofs.dimensions.Tie as tie
 
 byte-requires : tie.Need-byte-requires
 byte-requires c κs = search needs

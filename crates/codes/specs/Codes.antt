@@ -1,9 +1,14 @@
--- A verdict as numbers, and from numbers.
+-- Dimensions and a verdict from numbers, and a verdict as numbers.
 use Prim.Native.Nat.{ℕ, _%_, _^_}
 use mathlib.Core.Bool.{cond}
 use lib.Dec.{eqb}
+use Rattle.dimensions.specs.declared.Dimensions.{Dimensions}
 use Rattle.verdicts.specs.declared.Verdict.{Verdict}
 use Rattle.verdicts.specs.declared.Verdict.the-variants.{Satisfiable, Unsatisfiable, Unknown}
+
+-- three numbers as dimensions, whatever they are: every entry judges them first
+abbrev pub dimensions : ℕ → ℕ → ℕ → Dimensions
+dimensions n left right = record { n = n; left = left; right = right }
 
 -- the number of the standing that the verdict follows from
 abbrev pub verdictNumber : Verdict → ℕ

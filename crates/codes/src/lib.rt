@@ -1,0 +1,73 @@
+// Results as numbers, and dimensions and verdicts from numbers.
+use dimensions::Dimensions;
+use refusals::Outcome;
+use verdicts::Verdict;
+ghost use mathlib.Core.Path.{_≡_};
+ghost use Prim.Native.Nat.{min};
+ghost use Rattle.codes.specs.Codes as Codes;
+ghost use Rattle.refusals.specs.Numbers.{codeOf};
+ghost use Rattle.codes.specs.Codes.{modelWord, verdictFrom};
+
+// A number as a byte. What no byte holds becomes 255, which no limit allows either.
+pub fn byte(x: u64) -> u8
+    ensures { λ r. ⌜ r ≡ min x 255 ⌝ }
+{
+    if x < 255 {
+        return x as u8;
+    }
+    255
+}
+
+// Three numbers as dimensions.
+pub fn dimensions(n: u64, left: u64, right: u64) -> Dimensions
+    ensures { λ r. ⌜ r ≡ Codes.dimensions (min n 255) (min left 255) (min right 255) ⌝ }
+{
+    Dimensions {
+        n: byte(n),
+        left: byte(left),
+        right: byte(right),
+    }
+}
+
+// 0 where the call was taken, else the refusal's number.
+pub fn code(outcome: Outcome) -> u8
+    ensures { λ r. ⌜ r ≡ codeOf outcome ⌝ }
+{
+    match outcome {
+        Outcome::Taken => 0,
+        Outcome::Refused(refusal) => refusals::number(refusal),
+    }
+}
+
+// The number of a verdict.
+pub fn verdict_number(verdict: Verdict) -> u64
+    ensures { λ r. ⌜ r ≡ Codes.verdictNumber verdict ⌝ }
+{
+    match verdict {
+        Verdict::Unknown => 0,
+        Verdict::Satisfiable(_) => 1,
+        Verdict::Unsatisfiable => 2,
+    }
+}
+
+// The model of a verdict as a word; 0 without one.
+pub fn model_word(verdict: Verdict) -> u64
+    ensures { λ r. ⌜ r ≡ modelWord verdict ⌝ }
+{
+    match verdict {
+        Verdict::Unknown => 0,
+        Verdict::Satisfiable(model) => model as u64,
+        Verdict::Unsatisfiable => 0,
+    }
+}
+
+// The verdict of a number, with a model as a word.
+pub fn verdict_from(number: u64, model: u64) -> Verdict
+    ensures { λ r. ⌜ r ≡ verdictFrom number model ⌝ }
+{
+    match number {
+        1 => Verdict::Satisfiable((model & 0xffff_ffff) as u32),
+        2 => Verdict::Unsatisfiable,
+        _ => Verdict::Unknown,
+    }
+}
