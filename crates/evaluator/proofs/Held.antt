@@ -1,16 +1,16 @@
--- The trial's bytes: 2 more than a wire's value, and wire 0's value alone. Laws of the bytes by cases of the list, of the table by computation.
+-- The trial's bytes, 2 more than a wire's value but wire 0's value alone: their laws by cases of the list, the table's by computation, and a turn of `Run` by both.
 -- Assumes nothing.
 use mathlib.Core.Path.{_≡_, refl, ap, ap₂, sym, _∙_}
 use mathlib.Core.Bool.{Bool, true, false, _&&_, cond, false≢true}
 use mathlib.Core.List.{List, [], _∷_, _++_, map, map-append}
 use Prim.Native.Nat.{ℕ, zero, suc, _+_, _*_, _/_, _%_, _≤_, _<_}
-use native.Mathlib.Nat.{not-suc-le-zero, le-of-suc-le-suc, add-zero}
+use native.Mathlib.Nat.{zero-add, not-suc-le-zero, le-of-suc-le-suc, add-zero}
 use native.Mathlib.Numerals.{add-one}
 use native.Mathlib.Omega.{arith}
 use borrow.Author.Tests.{lt-ltb, le-ltb, ne-eqb, eqb-true, eqb-false}
 use lib.Dec.{eqb, ltb}
 use lib.ListN.{length, getD, take, drop, set, length-map, drop-of-length-le, List·getD-map}
-use lib.Seq.{take-at, take-length, length-take-le, getD-take, take-suc, drop-cons, append-snoc, set-at, drop-set-lt}
+use lib.Seq.{take-at, take-length, length-take-le, getD-take, paste-suc, drop-set-lt}
 use Rattle.words.specs.Booleans.{digit, imp}
 use Rattle.words.specs.Sets.{all}
 use Rattle.words.proofs.Truth.{mp, digit-lt, on}
@@ -38,7 +38,7 @@ parity false (suc i) = refl
 
 -- ---- the bytes
 
-pub held-length : (v : List Bool) → length (held v) ≡ length v
+held-length : (v : List Bool) → length (held v) ≡ length v
 held-length [] = refl
 held-length (x ∷ v) = ap suc (length-map v (λ y. digit y + 2))
 
@@ -132,16 +132,16 @@ module _ {s : List Bool} {g w₀ : List ℕ} {n : ℕ} {w : List ℕ} {i m : ℕ
   refused h d = sym (judged-at r room h ∙ ap (λ (t : Bool). t && accepted (m + 1) (drop (i + 3) g)) d)
 
   -- whole gates that all ran were accepted
-  all-good : length g ≤ i → accepted n g ≡ true
+  all-accepted : length g ≤ i → accepted n g ≡ true
   unfolding accepted
-  all-good h = sym (r .judged) ∙ ap (λ (l : List ℕ). accepted m l) (drop-of-length-le g h)
+  all-accepted h = sym (r .judged) ∙ ap (λ (l : List ℕ). accepted m l) (drop-of-length-le g h)
 
   -- all gates ran: the words were accepted where they are whole gates, and then the buffer is filled
   pub ended : n + length g / 3 ≤ m
       → let F = over (held (wiresOf s (gatesOf g))) w₀ in
       (eqb (length g % 3) 0 ≡ accepted n g) × (cond (eqb (length g % 3) 0) w [] ≡ cond (eqb (length g % 3) 0) F [])
   ended h = on (eqb (length g % 3) 0)
-      (λ t. let q : length g ≤ i = omega (arith, r .step, eqb-true (length g % 3) 0 t) in rw t (sym (all-good q), done r room q))
+      (λ t. let q : length g ≤ i = omega (arith, r .step, eqb-true (length g % 3) 0 t) in rw t (sym (all-accepted q), done r room q))
       (λ t. rw t (sym (accepted-uneven n g (eqb-false (length g % 3) 0 t)), refl))
 
 -- ---- in and out
@@ -150,10 +150,8 @@ module _ {s : List Bool} {g w₀ : List ℕ} {n : ℕ} {w : List ℕ} {i m : ℕ
 pub next-byte : (d l w : List ℕ) (i v : ℕ) → w ≡ take i l ++ drop i d → v ≡ getD l i 0 → i < length d → i < length l
     → set w i v ≡ take (i + 1) l ++ drop (i + 1) d
 next-byte d l w i v e f hd hl =
-    ap₂ (λ (x : List ℕ) (y : ℕ). set x i y) (e ∙ ap (λ (x : List ℕ). take i l ++ x) (drop-cons d i 0 hd)) f
-    ∙ set-at (take i l) (getD d i 0) (drop (suc i) d) (getD l i 0) i (length-take-le i l (omega arith))
-    ∙ sym (append-snoc (take i l) (getD l i 0) (drop (suc i) d))
-    ∙ ap (λ (x : List ℕ). x ++ drop (suc i) d) (sym (take-suc l i 0 hl))
+    ap₂ (λ (x : List ℕ) (y : ℕ). set x i y) e f
+    ∙ rw (zero-add i, zero-add (suc i)) at (paste-suc d 0 l i 0 (omega arith) hl)
     ∙ ap (λ (k : ℕ). take k l ++ drop k d) (sym (add-one i))
 
 pub all-bytes : (d l w : List ℕ) (i : ℕ) → w ≡ take i l ++ drop i d → length l ≡ i → w ≡ over l d

@@ -1,4 +1,4 @@
--- Laws of the wires' values. Each by induction on the gates; what a gate reads is not changed by the wires behind it.
+-- Laws of the wires' values, each by induction on the gates: what a gate reads is not changed by the wires behind it.
 -- Assumes nothing.
 use mathlib.Core.Path.{_≡_, refl, ap, ap₂, sym, _∙_}
 use mathlib.Core.Bool.{Bool, true, false, not, _&&_, and-assoc}
@@ -9,7 +9,6 @@ use native.Mathlib.Omega.{arith}
 use borrow.Author.Tests.{ltb-true}
 use lib.Dec.{ltb}
 use lib.ListN.{length, length-append, List·getD-append}
-use lib.Seq.{getD-append-seam}
 use Rattle.words.specs.Booleans.{_⊕_}
 use Rattle.words.proofs.Truth.{and-l, and-r}
 use Rattle.gates.specs.Gates.{Gate, wire, value, wiresOf}
@@ -36,11 +35,6 @@ ordered-append m (g ∷ xs) ys =
 
 -- ---- the wires' values
 
-pub wires-append : (w : List Bool) (xs ys : List Gate) → wiresOf w (xs ++ ys) ≡ wiresOf (wiresOf w xs) ys
-unfolding wiresOf
-wires-append w [] ys = refl
-wires-append w (g ∷ xs) ys = wires-append (w ++ (value w g ∷ [])) xs ys
-
 -- as many wires as inputs and gates
 pub wires-length : (w : List Bool) (gs : List Gate) → length (wiresOf w gs) ≡ length w + length gs
 unfolding wiresOf
@@ -54,12 +48,6 @@ wires-keep w [] i h = refl
 wires-keep w (g ∷ gs) i h =
     wires-keep (w ++ (value w g ∷ [])) gs i (omega (arith, length-append w (value w g ∷ []))) ∙ List·getD-append w (value w g ∷ []) false i h
 
--- appended gates change no earlier wire
-pub wires-append-keep : (w : List Bool) (xs ys : List Gate) (i : ℕ) → i < length w + length xs
-    → wire (wiresOf w (xs ++ ys)) i ≡ wire (wiresOf w xs) i
-wires-append-keep w xs ys i h =
-    ap (λ (u : List Bool). wire u i) (wires-append w xs ys) ∙ wires-keep (wiresOf w xs) ys i (omega (arith, wires-length w xs))
-
 -- nor the value of a gate that reads the wires before them
 pub value-keep : (w : List Bool) (gs : List Gate) (g : Gate) → reads (length w) g ≡ true → value (wiresOf w gs) g ≡ value w g
 value-keep w gs (XOR a b) r =
@@ -67,19 +55,3 @@ value-keep w gs (XOR a b) r =
 value-keep w gs (AND a b) r =
     ap₂ (λ (x y : Bool). x && y) (wires-keep w gs a (ltb-true _ _ (and-l _ _ r))) (wires-keep w gs b (ltb-true _ _ (and-r (ltb a (length w)) _ r)))
 value-keep w gs (INV a) r = ap not (wires-keep w gs a (ltb-true _ _ r))
-
--- a gate's wire is the gate's value on the circuit's wires
-pub wire-gate : (w : List Bool) (before : List Gate) (g : Gate) (after : List Gate) → reads (length w + length before) g ≡ true
-    → wire (wiresOf w (before ++ (g ∷ after))) (length w + length before) ≡ value (wiresOf w (before ++ (g ∷ after))) g
-unfolding wiresOf
-wire-gate w before g after r =
-    let u : List Bool = wiresOf w before in
-    let e : length u ≡ length w + length before = wires-length w before in
-    let r′ : reads (length u) g ≡ true = ap (λ (k : ℕ). reads k g) e ∙ r in
-    let l : length u < length (u ++ (value u g ∷ [])) = omega (arith, length-append u (value u g ∷ [])) in
-    let s : wire (wiresOf u (g ∷ after)) (length u) ≡ value (wiresOf u (g ∷ after)) g =
-    wires-keep (u ++ (value u g ∷ [])) after (length u) l ∙ getD-append-seam u (value u g) [] false ∙ sym (value-keep u (g ∷ after) g r′) in
-    ap (λ (v : List Bool). wire v (length w + length before)) (wires-append w before (g ∷ after))
-    ∙ ap (λ (k : ℕ). wire (wiresOf u (g ∷ after)) k) (sym e)
-    ∙ s
-    ∙ ap (λ (v : List Bool). value v g) (sym (wires-append w before (g ∷ after)))

@@ -1,10 +1,10 @@
--- Gates and their words, wires and their bytes: there and back. By induction on the list, a gate or a byte at a time.
+-- Gates and their words, wires and their bytes, there and back: by induction on the list, a gate or a byte at a time.
 -- Assumes nothing.
 use mathlib.Core.Path.{_≡_, refl, ap, ap₂, sym, _∙_}
 use mathlib.Core.Bool.{Bool, true, false, _&&_, false≢true, and-comm}
 use mathlib.Core.List.{List, [], _∷_, _++_, append-assoc}
 use Prim.Native.Nat.{ℕ, zero, suc, _+_, _*_, _<_}
-use native.Mathlib.Nat.{add-zero, not-suc-le-zero, le-of-suc-le-suc}
+use native.Mathlib.Nat.{not-suc-le-zero, le-of-suc-le-suc}
 use native.Mathlib.Omega.{arith}
 use borrow.Author.Tests.{ltb-true, eqb-true}
 use lib.Dec.{eqb, ltb}
@@ -80,19 +80,6 @@ accepted-ordered m ws e =
 pub accepted-length : (m : ℕ) (ws : List ℕ) → accepted m ws ≡ true → length ws ≡ 3 * length (gatesOf ws)
 accepted-length m ws e = ap length (sym (words-gates m ws e)) ∙ words-length (gatesOf ws)
 
--- words behind accepted ones are judged behind the wires of those
-pub accepted-append : (m : ℕ) (xs ys : List ℕ) → accepted m xs ≡ true
-    → accepted m (xs ++ ys) ≡ accepted (m + length (gatesOf xs)) ys
-unfolding accepted gatesOf
-accepted-append m [] ys e = ap (λ (k : ℕ). accepted k ys) (sym (add-zero m))
-accepted-append m (k ∷ []) ys e = absurd (false≢true e)
-accepted-append m (k ∷ (a ∷ [])) ys e = absurd (false≢true e)
-accepted-append m (k ∷ (a ∷ (b ∷ xs))) ys e =
-    let n : suc m + length (gatesOf xs) ≡ m + suc (length (gatesOf xs)) = omega arith in
-    ap (λ (t : Bool). t && accepted (suc m) (xs ++ ys)) (and-l (drives m k a b) _ e)
-    ∙ accepted-append (suc m) xs ys (and-r (drives m k a b) _ e)
-    ∙ ap (λ (j : ℕ). accepted j ys) n
-
 -- ---- wires and bytes
 
 pub bits-bytes : (w : List Bool) → bits (bytesOf w) ≡ true
@@ -106,7 +93,7 @@ bitsOf-bytesOf [] = refl
 bitsOf-bytesOf (true ∷ w) = ap (λ (l : List Bool). true ∷ l) (bitsOf-bytesOf w)
 bitsOf-bytesOf (false ∷ w) = ap (λ (l : List Bool). false ∷ l) (bitsOf-bytesOf w)
 
-pub digit-eqb : (x : ℕ) → x < 2 → digit (eqb x 1) ≡ x
+digit-eqb : (x : ℕ) → x < 2 → digit (eqb x 1) ≡ x
 digit-eqb zero h = refl
 digit-eqb (suc zero) h = refl
 digit-eqb (suc (suc x)) h = absurd (not-suc-le-zero (le-of-suc-le-suc (le-of-suc-le-suc h)))

@@ -1,36 +1,32 @@
--- Room for rows and for a text: each test decides its refusal.
+-- Room for rows and for a text: each test decides its refusal, since the definitions compute by the tests.
 -- Assumes nothing.
 use mathlib.Core.Path.{_≡_}
-use mathlib.Core.Bool.{Bool, true, false, _||_}
-use mathlib.Core.List.{List, [], _∷_}
-use Prim.Native.Nat.{ℕ, _≤_, _<_}
+use mathlib.Core.List.{List}
+use Prim.Native.Nat.{ℕ, _*_, _≤_, _<_}
 use lib.ListN.{length}
 use borrow.Author.Tests.{lt-ltb, le-ltb}
-use Rattle.refusals.specs.Checks.{check, outcome, given}
 use Rattle.refusals.specs.declared.Refusal.{Refusal}
 use Rattle.refusals.specs.declared.Refusal.the-variants.{RowBuffer, LineBuffer}
-use Rattle.refusals.specs.declared.Outcome.{Outcome}
 use Rattle.refusals.specs.declared.Outcome.the-variants.{Taken, Refused}
-use Rattle.lent.specs.Lent.{textOutcome}
+use Rattle.dimacs.specs.declared.Pair.{Pair}
+use Rattle.lent.specs.Lent.{textOutcome, pairRoom}
 
 -- ---- rows
 
-module _ (o : Outcome) (a b : Bool) where
-  -- what the texts are refused with, then 4
-  abbrev pub roomed : Outcome
-  roomed = given o (outcome (check (a || b) RowBuffer ∷ [])) Refused
+module _ (pair : Pair) (left right : ℕ) where
+  pub texts-refused : (q : Refusal) → pair .outcome ≡ Refused q → Refused q ≡ pairRoom pair left right
+  texts-refused q o = rw o
 
-  pub texts-refused : (q : Refusal) → o ≡ Refused q → Refused q ≡ roomed
-  texts-refused q h = rw h
+  module _ (o : pair .outcome ≡ Taken) where
+    pub left-short : left < 2 * pair .«left_rows» → Refused RowBuffer ≡ pairRoom pair left right
+    left-short l = rw (o, lt-ltb left (2 * pair .«left_rows») l)
 
-  pub left-short : o ≡ Taken → a ≡ true → Refused RowBuffer ≡ roomed
-  left-short h k = rw (h, k)
+    module _ (l : 2 * pair .«left_rows» ≤ left) where
+      pub right-short : right < 2 * pair .«right_rows» → Refused RowBuffer ≡ pairRoom pair left right
+      right-short r = rw (o, le-ltb left (2 * pair .«left_rows») l, lt-ltb right (2 * pair .«right_rows») r)
 
-  pub right-short : o ≡ Taken → a ≡ false → b ≡ true → Refused RowBuffer ≡ roomed
-  right-short h k l = rw (h, k, l)
-
-  pub both-fit : o ≡ Taken → a ≡ false → b ≡ false → Taken ≡ roomed
-  both-fit h k l = rw (h, k, l)
+      pub both-fit : 2 * pair .«right_rows» ≤ right → Taken ≡ pairRoom pair left right
+      both-fit r = rw (o, le-ltb left (2 * pair .«left_rows») l, le-ltb right (2 * pair .«right_rows») r)
 
 -- ---- a text
 

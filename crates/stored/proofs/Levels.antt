@@ -1,4 +1,4 @@
--- Laws of the loops over the levels: what is left to read or to store gives what the whole gives. One turn takes three words apart.
+-- Laws of the loops over the levels: what is left to read or to store gives what the whole gives, and a turn takes three words apart.
 -- Assumes nothing.
 use mathlib.Core.Path.{_≡_, sym, ap, _∙_}
 use mathlib.Core.List.{List, [], _∷_, _++_, append-assoc, append-nil}
@@ -40,7 +40,7 @@ module _ (levels : List Level) where
 -- ---- reading
 
 -- the level at a place
-abbrev pub levelAt : List ℕ → ℕ → Level
+abbrev levelAt : List ℕ → ℕ → Level
 levelAt words at = record { t = getD words at 0; f = getD words (at + 1) 0; chosen = getD words (at + 2) 0 }
 
 -- the levels read so far, and those left

@@ -11,7 +11,7 @@ use Rattle.state.specs.declared.Level.{Level}
 use Rattle.state.specs.declared.Run.{Run}
 use Rattle.stored.specs.Words.{numberOf, levelWords, wordsOf, stored}
 
-pub level-words-length : (levels : List Level) → length (levelWords levels) ≡ 3 * length levels
+level-words-length : (levels : List Level) → length (levelWords levels) ≡ 3 * length levels
 unfolding levelWords
 level-words-length [] = refl
 level-words-length (l ∷ ls) = omega (arith, level-words-length ls)
@@ -25,7 +25,7 @@ module _ (run : Run) (words : List ℕ) where
   unfolding stored
   stored-not h = rw (lt-ltb (length words) 101 h)
 
-  pub stored-sets : length (run .levels) ≡ 32 → 101 ≤ length words → sets words 0 (wordsOf run) ≡ stored run words
+  stored-sets : length (run .levels) ≡ 32 → 101 ≤ length words → sets words 0 (wordsOf run) ≡ stored run words
   unfolding stored
   stored-sets e h =
       let size : length (wordsOf run) ≡ 101 = words-length run e in

@@ -52,8 +52,8 @@ module _ {s : List Bool} {g w₀ : List ℕ} {n : ℕ} {w : List ℕ} {i m : ℕ
       next r room v h d (map-append digit (r .values) (u ∷ []) ∙ ap (λ (x : ℕ). bytesOf (r .values) ++ (x ∷ [])) (sym e′))
 
   -- all gates of accepted words ran
-  pub filled-good : accepted n g ≡ true → n + length g / 3 ≤ m → w ≡ over (bytesOf (wiresOf s (gatesOf g))) w₀
-  filled-good e h = done r room (omega (arith, r .step, accepted-length n g e))
+  pub all-ran : accepted n g ≡ true → n + length g / 3 ≤ m → w ≡ over (bytesOf (wiresOf s (gatesOf g))) w₀
+  all-ran e h = done r room (omega (arith, r .step, accepted-length n g e))
 
 -- ---- the inputs, copied first
 

@@ -1,7 +1,7 @@
 -- What the loops that run gates go by: the values so far, with the gates that are left, give what the whole gives; a turn adds the value of its gate.
 -- Assumes nothing.
 use mathlib.Core.Path.{_≡_, refl, ap, ap₂, sym, _∙_}
-use mathlib.Core.Bool.{Bool, true, false, not, _&&_}
+use mathlib.Core.Bool.{Bool, true, not, _&&_}
 use mathlib.Core.List.{List, [], _∷_, _++_}
 use Prim.Native.Nat.{ℕ, zero, suc, _+_, _*_, _/_, _≤_, _<_}
 use native.Mathlib.Numerals.{add-one}
@@ -14,7 +14,7 @@ use Rattle.words.specs.Sets.{all}
 use Rattle.words.proofs.Truth.{digit-lt, digit-bit}
 use Rattle.words.proofs.Upto.{all-e}
 use Rattle.gates.specs.Gates.{Gate, wire, value, wiresOf}
-use Rattle.gates.specs.Memory.{gateOf, gatesOf, drives, accepted, bytesOf, bitsOf, over}
+use Rattle.gates.specs.Memory.{gateOf, gatesOf, drives, accepted, bitsOf, over}
 use Rattle.gates.proofs.Judging.{drop-three, accepted-at}
 use Rattle.gates.proofs.Circuits.{wires-length}
 
@@ -70,7 +70,7 @@ module _ {form : List Bool → List ℕ} {s : List Bool} {g w₀ : List ℕ} {n 
   pub whole : m < n + length g / 3 → i + 3 ≤ length g
   whole h = omega (arith, r .step)
 
-  pub fits : m ≤ length w
+  fits : m ≤ length w
   fits = omega (arith, r .step, r .upto, r .size)
 
   pub fits-next : m < n + length g / 3 → m < length w

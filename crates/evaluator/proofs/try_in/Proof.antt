@@ -34,10 +34,10 @@ returns c =
     no-gates (a .gates .now) (a .inputs .now) (a .wires .now) (sym (t .ensures .0) ∙ not-true (t .result) (c .if1 .taken))
 
 -- the gates were taken
-good : (c : tie.Else1)
+accepts : (c : tie.Else1)
     → let a = c .before .before .before .before .before .before .before .before .before .before .before .before .before .args in
     accepted (length (a .inputs .now)) (a .gates .now) ≡ true
-good c = let t = c .before .before .before .trial in sym (t .ensures .0) ∙ not-false (t .result) (c .if1 .left)
+accepts c = let t = c .before .before .before .trial in sym (t .ensures .0) ∙ not-false (t .result) (c .if1 .left)
 
 same-length-2 : tie.Need-same-length-2
 same-length-2 c = search needs
@@ -45,7 +45,7 @@ same-length-2 c = search needs
 returns-2 : tie.Need-returns-2
 returns-2 c =
     let a = c .before .before .before .before .before .before .before .before .before .before .before .before .before .before .args in
-    no-room (a .gates .now) (a .inputs .now) (a .wires .now) (good (c .before)) (omega (arith, c .if2 .taken))
+    no-room (a .gates .now) (a .inputs .now) (a .wires .now) (accepts (c .before)) (omega (arith, c .if2 .taken))
 
 store-wires-requires : tie.Need-store-wires-requires
 store-wires-requires c κs =
@@ -67,9 +67,9 @@ returns-3 c =
     let s = e .before .before .before .before .before .before .before .before .before .before .before .before .before in
     let a = s .args in
     let t = e .before .before .before .trial in
-    let k = taken (a .gates .now) (a .inputs .now) (a .wires .now) (good e) (omega (arith, o .if2 .left)) (s .pre .1) in
+    let k = taken (a .gates .now) (a .inputs .now) (a .wires .now) (accepts e) (omega (arith, o .if2 .left)) (s .pre .1) in
     let v = given-so (t .result) _ _ (not-false (t .result) (e .if1 .left)) (t .ensures .1) in
-    let w = stored (a .inputs .now) (a .gates .now) (good e) _ _ v (a .wires .now) _ (c .before .before .store-wires .ensures) in
+    let w = stored (a .inputs .now) (a .gates .now) (accepts e) _ _ v (a .wires .now) _ (c .before .before .store-wires .ensures) in
     (k .0, w ∙ k .1)
 
 pub try-in-spec : {M : Type 1} → statement M

@@ -1,5 +1,5 @@
--- `get_levels` meets its contract. The loop's invariant: the levels read so far, with those left, are those of the whole.
--- The measure is how many levels are left. Assumes nothing.
+-- `get_levels` meets its contract: the levels read so far, with those left, are at each turn those of the whole; the measure is how many are left.
+-- Assumes nothing.
 use mathlib.Core.Path.{_≡_, refl, sym, _∙_}
 use native.Mathlib.Omega.{arith}
 use Prim.Native.Nat.{_≤_, _-_}

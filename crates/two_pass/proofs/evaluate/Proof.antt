@@ -21,8 +21,8 @@ returns c =
     no-gates (s .args .gates .now) (s .args .inputs .now) (s .args .wires .now) (sym (c .before .accepted .ensures) ∙ not-true _ (c .if1 .taken))
 
 -- the gates were taken
-good : (c : tie.Else1) → let s = c .before .before .before .before .before in accepted (length (s .args .inputs .now)) (s .args .gates .now) ≡ true
-good c = sym (c .before .accepted .ensures) ∙ not-false _ (c .if1 .left)
+accepts : (c : tie.Else1) → let s = c .before .before .before .before .before in accepted (length (s .args .inputs .now)) (s .args .gates .now) ≡ true
+accepts c = sym (c .before .accepted .ensures) ∙ not-false _ (c .if1 .left)
 
 add-if2 : tie.Need-add-if2
 add-if2 c = search needs
@@ -30,7 +30,7 @@ add-if2 c = search needs
 returns-2 : tie.Need-returns-2
 returns-2 c =
     let s = c .before .before .before .before .before .before in
-    no-room (s .args .gates .now) (s .args .inputs .now) (s .args .wires .now) (good (c .before)) (omega arith)
+    no-room (s .args .gates .now) (s .args .inputs .now) (s .args .wires .now) (accepts (c .before)) (omega arith)
 
 bits-requires : tie.Need-bits-requires
 bits-requires c κs = search needs
@@ -38,12 +38,12 @@ bits-requires c κs = search needs
 returns-3 : tie.Need-returns-3
 returns-3 c =
     let s = c .before .before .before .before .before .before .before .before in
-    no-bits (s .args .gates .now) (s .args .inputs .now) (s .args .wires .now) (good (c .before .before .before)) (omega arith)
+    no-bits (s .args .gates .now) (s .args .inputs .now) (s .args .wires .now) (accepts (c .before .before .before)) (omega arith)
     (sym (c .before .bits .ensures) ∙ not-true _ (c .if3 .taken))
 
 -- the inputs are bits
-bitty : (c : tie.Else3) → let s = c .before .before .before .before .before .before .before .before in bits (s .args .inputs .now) ≡ true
-bitty c = sym (c .before .bits .ensures) ∙ not-false _ (c .if3 .left)
+are-bits : (c : tie.Else3) → let s = c .before .before .before .before .before .before .before .before in bits (s .args .inputs .now) ≡ true
+are-bits c = sym (c .before .bits .ensures) ∙ not-false _ (c .if3 .left)
 
 copy-requires : tie.Need-copy-requires
 copy-requires c κs = search needs
@@ -55,7 +55,7 @@ run-requires c κs =
     let s = q .before .before .before .before .before .before .before .before in
     let l : length (k .copy .last .1 .0) ≡ length (s .args .wires .now) = k .copy .kept .1 .0 in
     let e = copied (s .args .inputs .now) (s .args .wires .now) _ (k .copy .ensures .1) in
-    (good (q .before .before .before), (omega arith, ap bits e ∙ bitty q))
+    (accepts (q .before .before .before), (omega arith, ap bits e ∙ are-bits q))
 
 same-length : tie.Need-same-length
 same-length c = search needs
@@ -66,7 +66,7 @@ returns-4 c =
     let q = k .before .before in
     let s = q .before .before .before .before .before .before .before .before in
     let g = s .args .gates .now in
-    let t = taken g (s .args .inputs .now) (s .args .wires .now) (good (q .before .before .before)) (omega (arith, q .before .before .if2 .left)) (bitty q) in
+    let t = taken g (s .args .inputs .now) (s .args .wires .now) (accepts (q .before .before .before)) (omega (arith, q .before .before .if2 .left)) (are-bits q) in
     let e = written (s .args .inputs .now) (s .args .wires .now) _ (k .copy .ensures .1) (gatesOf g) _ (c .before .before .run .ensures) in
     (t .0, e ∙ t .1)
 

@@ -11,7 +11,7 @@ use Rattle.gates.specs.Memory.{drives, bytesOf, bitsOf}
 use Rattle.gates.proofs.Judging.{drives-below}
 use Rattle.gates.proofs.InMemory.{bytesOf-bitsOf}
 use Rattle.two_pass.proofs.Running.{Run, start, whole, fits-next, judged-at}
-use Rattle.two_pass.proofs.InPlace.{read-bit, again, filled-good}
+use Rattle.two_pass.proofs.InPlace.{read-bit, again, all-ran}
 use Rattle.two_pass.proofs.run.Statement.{statement}
 use Rattle.two_pass.proofs.run.Tie as tie
 
@@ -22,11 +22,11 @@ abbrev μ-loop : tie.MeasureT-loop
 μ-loop gates wires₀ n values end i₀ m₀ wires i m = end - m
 
 -- the gate of a turn may drive its wire
-drove : (c : tie.In-loop Inv-loop μ-loop)
+may-drive : (c : tie.In-loop Inv-loop μ-loop)
     → let g = c .before .before .before .before .args .gates .now in
     let l = c .before .loop in
     drives (l .m) (getD g (l .i) 0) (getD g (l .i + 1) 0) (getD g (l .i + 2) 0) ≡ true
-drove c =
+may-drive c =
     let p = c .before .before .before .before .pre in
     and-l _ _ (sym (judged-at (c .before .loop .inv) (p .1 .0) (omega arith)) ∙ p .0)
 
@@ -40,7 +40,7 @@ turn c =
     let s = c .before .before .before .before in
     let g = s .args .gates .now in
     let l = c .before .loop in
-    let b = drives-below (l .m) (getD g (l .i) 0) (getD g (l .i + 1) 0) (getD g (l .i + 2) 0) (drove c) in (
+    let b = drives-below (l .m) (getD g (l .i) 0) (getD g (l .i + 1) 0) (getD g (l .i + 2) 0) (may-drive c) in (
       whole (l .inv) (s .pre .1 .0) (omega arith),
       b .0,
       b .1,
@@ -110,7 +110,7 @@ loop-again : tie.Need-loop-again Inv-loop μ-loop
 loop-again c =
     let h = c .before .before .before .before .before .before .before in
     let l = h .before in
-    again (l .loop .inv) (l .before .before .before .pre .1 .0) (c .gate-value .result) (omega (arith, h .loop-test .taken)) (drove h) (c .gate-value .ensures)
+    again (l .loop .inv) (l .before .before .before .pre .1 .0) (c .gate-value .result) (omega (arith, h .loop-test .taken)) (may-drive h) (c .gate-value .ensures)
 
 same-length : tie.Need-same-length Inv-loop μ-loop
 same-length c = c .before .loop .inv .size
@@ -119,7 +119,7 @@ returns : tie.Need-returns Inv-loop μ-loop
 returns c =
     let l = c .before in
     let p = l .before .before .before .pre in
-    filled-good (l .loop .inv) (p .1 .0) (p .0) (omega (arith, c .loop-test .left))
+    all-ran (l .loop .inv) (p .1 .0) (p .0) (omega (arith, c .loop-test .left))
 
 pub run-spec : {M : Type 1} → statement M
 run-spec =
