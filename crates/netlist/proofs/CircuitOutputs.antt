@@ -15,7 +15,7 @@ use Rattle.gates.specs.Gates.{wire, wiresOf}
 use Rattle.gates.proofs.Circuits.{ordered, wires-length}
 use Rattle.wires.specs.Layout.{rowsBits, stateBits}
 use Rattle.wires.specs.Bits.{bitsIn, inOrder}
-use Rattle.wires.specs.Unpacking.{stateAt}
+use Rattle.wires.specs.Bits.{stateAt}
 use Rattle.wires.proofs.Series.{upto-more}
 use Rattle.wires.proofs.Addresses.{Same, positive-at, negative-at, rows-past, state-at, state-row}
 use Rattle.netlist.specs.declared.Addresses.{Addresses}

@@ -3,7 +3,7 @@
 use native.Mathlib.Omega.{arith}
 use lib.ListN.{length-take}
 use Rattle.text.proofs.Appending.{text-within}
-use Rattle.answers.specs.Answers.{refusedLine}
+use Rattle.answers.specs.Printed.{refusedLine}
 use borrow.Author.Needs.{needs}
 use Rattle.circuit.proofs.print_refusal.Statement.{statement}
 use Rattle.circuit.proofs.print_refusal.Tie as tie
