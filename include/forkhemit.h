@@ -1,8 +1,8 @@
 /*
  * Forkhemit for hosts in C and C++: two stations' clause tables, the giant step, its circuit and the texts.
- * Every function is proved to meet its contract, which stands in crates/interface/src. `make lib` writes the archive to link,
- * target/lib/libforkhemit.a, for x86-64 Linux; it needs C's memcpy and memset and nothing else. docs/GUIDE.md has the calls in the order
- * in which a host makes them, examples/host a host in C and one in Rust.
+ * Every function is proved to meet its contract, which stands in crates/host_runs, host_circuits and host_texts. `make lib` writes the
+ * archive to link, target/lib/libforkhemit.a, for x86-64 Linux; it needs C's memcpy and memset and nothing else. docs/GUIDE.md has the
+ * calls in the order in which a host makes them, examples/host a host in C and one in Rust.
  *
  * Rules for every call
  * - A buffer is lent as a pointer and then its length, counted in elements. Give a pointer that is not null and is aligned for its

@@ -1,6 +1,6 @@
 //! Times the proved evaluator beside its own gate loop in Rust without checks, beside other forms of that loop, and beside two passes
 //! that judge too, on circuits of 200,000 gates.
-//! Linked with the library that `rt staticlib interface` writes; see the Makefile.
+//! Linked with the library that `make lib` writes.
 
 use std::time::{Duration, Instant};
 

@@ -1,15 +1,20 @@
--- Room for rows and for a text: each test decides its refusal, since the definitions compute by the tests.
+-- Room for rows, for a text and for a run: each test decides its refusal, since the definitions compute by the tests.
 -- Assumes nothing.
-use mathlib.Core.Path.{_≡_}
-use mathlib.Core.List.{List}
+use mathlib.Core.Path.{_≡_, refl}
+use mathlib.Core.Bool.{Bool, true, false, cond}
+use mathlib.Core.List.{List, [], _∷_, _++_}
 use Prim.Native.Nat.{ℕ, _*_, _≤_, _<_}
-use lib.ListN.{length}
+use lib.Dec.{ltb}
+use lib.ListN.{length, drop}
 use borrow.Author.Tests.{lt-ltb, le-ltb}
+use Rattle.refusals.specs.Checks.{outcome, given}
 use Rattle.refusals.specs.declared.Refusal.{Refusal}
-use Rattle.refusals.specs.declared.Refusal.the-variants.{RowBuffer, LineBuffer}
+use Rattle.refusals.specs.declared.Refusal.the-variants.{RowBuffer, LineBuffer, State}
 use Rattle.refusals.specs.declared.Outcome.the-variants.{Taken, Refused}
 use Rattle.dimacs.specs.declared.Pair.{Pair}
-use Rattle.lent.specs.Lent.{textOutcome, pairRoom}
+use Rattle.state.specs.declared.Run.{Run}
+use Rattle.stored.specs.Words.{wordsOf, stored}
+use Rattle.lent.specs.Lent.{textOutcome, pairRoom, storedIf, roomCheck}
 
 -- ---- rows
 
@@ -36,3 +41,14 @@ module _ (size : ℕ) (lent : List ℕ) where
 
   pub text-fits : size ≤ length lent → textOutcome size lent ≡ Taken
   text-fits h = rw (le-ltb (length lent) size h)
+
+-- ---- a run
+
+-- a run that has no room is not stored
+pub stored-room : (run : Run) (words : List ℕ) → stored run words ≡ storedIf (outcome (roomCheck words ∷ [])) run words
+unfolding stored
+stored-room run words = go (ltb (length words) 101)
+  where
+    go : (b : Bool) → cond b words (wordsOf run ++ drop 101 words) ≡ given (cond b (Refused State) Taken) (cond b words (wordsOf run ++ drop 101 words)) (λ r. words)
+    go true = refl
+    go false = refl

@@ -1,0 +1,39 @@
+-- `forkhemit_pack` meets its contract: it is packing of the run in the words, with the outcome as a number.
+-- Assumes nothing.
+use mathlib.Core.Path.{ap, _∙_}
+use lib.ListN.{length}
+use Rattle.lent.specs.Codes.{codeOf}
+use Rattle.host_circuits.proofs.HostNumbers.{check-is, packed-is}
+use borrow.Author.Needs.{needs}
+use Rattle.host_circuits.proofs.forkhemit_pack.Statement.{statement}
+use Rattle.host_circuits.proofs.forkhemit_pack.Tie as tie
+
+dimensions-requires : tie.Need-dimensions-requires
+dimensions-requires c κs = search needs
+
+load-requires : tie.Need-load-requires
+load-requires c κs = search needs
+
+pack-requires : tie.Need-pack-requires
+pack-requires c κs = search needs
+
+code-requires : tie.Need-code-requires
+code-requires c κs = search needs
+
+same-length : tie.Need-same-length
+same-length c = search needs
+
+returns : tie.Need-returns
+returns c = let s = c .before .before .before .before .before .before .before .before .before .before .before in
+    let a = s .args in
+    let dims = c .before .before .before .before .before .before .dimensions .ensures in
+    let held = c .before .before .before .before .before .load .ensures in
+    let pack = c .before .before .before .pack .ensures in (
+      c .code .ensures ∙ ap codeOf (check-is (a .n) (a .left-rows) (a .right-rows) _ dims (a .left .now) (a .right .now) (a .run .now) _ held (length (a .bytes .now)) _ (pack .0)),
+      packed-is (a .n) (a .left-rows) (a .right-rows) _ dims (a .left .now) (a .right .now) (a .run .now) _ held (a .bytes .now) _ (pack .1),
+    )
+
+pub forkhemit-pack-spec : {M : Type 1} → statement M
+forkhemit-pack-spec =
+    tie.close
+    (tie.spec dimensions-requires load-requires pack-requires code-requires same-length returns)

@@ -1,4 +1,0 @@
-pub mod Refused
-pub mod Capped
-pub mod Entries
-pub mod Rooms
