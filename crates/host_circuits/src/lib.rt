@@ -3,7 +3,6 @@
 // It returns 0 where the call is taken, else the refusal's number, and then it writes nothing (but see `forkhemit_apply`).
 use generator::Generated;
 use refusals::Outcome;
-use repeats::Applied;
 ghost use mathlib.Core.Path.{_≡_};
 ghost use lib.ListN.{length};
 ghost use Rattle.refusals.specs.Checks.{outcome};
@@ -39,21 +38,6 @@ pub extern "C" fn forkhemit_sizes(n: u64, left_rows: u64, right_rows: u64, sizes
     lent::code(outcome)
 }
 
-// Writes how many gates were generated; a refusal's number.
-fn put_count(generated: Generated, count: &mut [u64]) -> u8
-    ensures { λ r. ⌜ r ≡ generatedCode generated ⌝ }
-    ensures { λ _. ⌜ now (count .exit) ≡ front (generatedNumbers generated) (now (count .entry)) ⌝ }
-{
-    match generated {
-        Generated::Of(k) => {
-            let numbers = [k as u64];
-            lent::put(&numbers, count);
-            return 0;
-        }
-        Generated::Refused(refusal) => return refusals::number(refusal),
-    }
-}
-
 // Writes the circuit, which carries out the giant step, over the front of the words, and how many gates it has; 1, 2 or 7 where it is turned back, and then nothing is written.
 #[no_mangle]
 pub extern "C" fn forkhemit_generate(
@@ -69,7 +53,14 @@ pub extern "C" fn forkhemit_generate(
     ensures { λ _. ⌜ Generation.Carried (dimensions n «left_rows» «right_rows») (Generation.generated (dimensions n «left_rows» «right_rows») (now (gates .entry))) (now (gates .exit)) ⌝ }
 {
     let d = lent::dimensions(n, left_rows, right_rows);
-    put_count(generator::generate(d, gates), count)
+    match generator::generate(d, gates) {
+        Generated::Of(k) => {
+            let numbers = [k as u64];
+            lent::put(&numbers, count);
+            return 0;
+        }
+        Generated::Refused(refusal) => return refusals::number(refusal),
+    }
 }
 
 // Packs left rows, right rows and run over the front of the bytes; 1, 2, 4, 3, 10, 12 or 13 where it is turned back, and then no byte changes.
@@ -115,20 +106,6 @@ pub extern "C" fn forkhemit_read_back(n: u64, bytes: &[u8], run: &mut [u32]) -> 
     lent::code(stored::store(next, run))
 }
 
-// Writes mark and next run where the application is taken.
-fn put_applied(applied: Applied, run: &mut [u32], mark: &mut [u64]) -> u8
-    ensures { λ r. ⌜ r ≡ codeOf (applied .outcome) ⌝ }
-    ensures { λ _. ⌜ now (run .exit) ≡ applyStored applied (now (run .entry)) ⌝ }
-    ensures { λ _. ⌜ now (mark .exit) ≡ applyMarked applied (now (mark .entry)) ⌝ }
-{
-    let outcome = applied.outcome;
-    let next = applied.run;
-    let numbers = [applied.mark as u64];
-    lent::put_if(outcome, &numbers, mark);
-    lent::store_if(outcome, next, run);
-    lent::code(outcome)
-}
-
 // One repeat: rows and run are packed, the gates evaluated, and the next run takes the place of the last; the mark says whether it is closed.
 // 1, 2, 4, 3, 10, 12, 13 or 9 where it is turned back, and then run and mark stay.
 #[no_mangle]
@@ -152,5 +129,10 @@ pub extern "C" fn forkhemit_apply(
 {
     let d = lent::dimensions(n, left_rows, right_rows);
     let applied = repeats::apply(d, left, right, gates, stored::load(run), bytes, wires);
-    put_applied(applied, run, mark)
+    let outcome = applied.outcome;
+    let next = applied.run;
+    let numbers = [applied.mark as u64];
+    lent::put_if(outcome, &numbers, mark);
+    lent::store_if(outcome, next, run);
+    lent::code(outcome)
 }

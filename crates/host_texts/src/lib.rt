@@ -56,26 +56,6 @@ pub extern "C" fn forkhemit_read_budget(line: &[u8], budget: &mut [u64]) -> u8
     }
 }
 
-// Writes the length of a line, 0 past the last; a refusal's number.
-fn put_length(written: Written, length: &mut [u64]) -> u8
-    ensures { λ r. ⌜ r ≡ lineCode written ⌝ }
-    ensures { λ _. ⌜ now (length .exit) ≡ front (lineNumbers written) (now (length .entry)) ⌝ }
-{
-    match written {
-        Written::Line(k) => {
-            let numbers = [k as u64];
-            lent::put(&numbers, length);
-            return 0;
-        }
-        Written::Past => {
-            let numbers = [0u64];
-            lent::put(&numbers, length);
-            return 0;
-        }
-        Written::Refused(refusal) => return refusals::number(refusal),
-    }
-}
-
 // Writes the line of a number, from 0, over the front of the bytes, and its length, 0 past the last line; 1, 2, 9 or 11 where it is turned back.
 #[no_mangle]
 pub extern "C" fn forkhemit_write_line(
@@ -92,21 +72,18 @@ pub extern "C" fn forkhemit_write_line(
     ensures { λ _. ⌜ now (length .exit) ≡ front (lineNumbers (Writing.written (dimensions n «left_rows» «right_rows») (now (gates .entry)) line (now (bytes .entry)))) (now (length .entry)) ⌝ }
 {
     let d = lent::dimensions(n, left_rows, right_rows);
-    put_length(bristol::write_line(d, gates, line as usize, bytes), length)
-}
-
-// Writes how many lines there are, and their bytes; a refusal's number.
-fn put_lengths(lines: WrittenLines, written: &mut [u64]) -> u8
-    ensures { λ r. ⌜ r ≡ linesCode lines ⌝ }
-    ensures { λ _. ⌜ now (written .exit) ≡ front (linesNumbers lines) (now (written .entry)) ⌝ }
-{
-    match lines {
-        WrittenLines::Lines(count, size) => {
-            let numbers = [count as u64, size as u64];
-            lent::put(&numbers, written);
+    match bristol::write_line(d, gates, line as usize, bytes) {
+        Written::Line(k) => {
+            let numbers = [k as u64];
+            lent::put(&numbers, length);
             return 0;
         }
-        WrittenLines::Refused(refusal) => return refusals::number(refusal),
+        Written::Past => {
+            let numbers = [0u64];
+            lent::put(&numbers, length);
+            return 0;
+        }
+        Written::Refused(refusal) => return refusals::number(refusal),
     }
 }
 
@@ -126,10 +103,14 @@ pub extern "C" fn forkhemit_write_lines(
     ensures { λ _. ⌜ now (written .exit) ≡ front (linesNumbers (Writing.writtenLines (dimensions n «left_rows» «right_rows») (now (gates .entry)) line (now (bytes .entry)))) (now (written .entry)) ⌝ }
 {
     let d = lent::dimensions(n, left_rows, right_rows);
-    put_lengths(
-        bristol::write_lines(d, gates, line as usize, bytes),
-        written,
-    )
+    match bristol::write_lines(d, gates, line as usize, bytes) {
+        WrittenLines::Lines(count, size) => {
+            let numbers = [count as u64, size as u64];
+            lent::put(&numbers, written);
+            return 0;
+        }
+        WrittenLines::Refused(refusal) => return refusals::number(refusal),
+    }
 }
 
 // Writes the answer as the pair program prints it, and its length; 11 where it is longer than the bytes. A model's first n variables are printed, 32 at most.

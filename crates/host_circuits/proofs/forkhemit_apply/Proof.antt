@@ -1,9 +1,13 @@
 -- `forkhemit_apply` meets its contract: the application to the run in the words, the next run and its mark stored where it is taken.
 -- Assumes nothing.
 use mathlib.Core.Path.{ap, _∙_}
+use mathlib.Core.List.{[], _∷_}
+use Prim.Native.Nat.{ℕ}
+use Rattle.words.specs.Booleans.{digit}
 use Rattle.repeats.specs.declared.Applied.{Applied}
 use Rattle.lent.specs.Codes.{codeOf}
-use Rattle.host_circuits.specs.Circuits.{applyStored, applyMarked}
+use Rattle.lent.specs.Lent.{frontIf, storedIf}
+use Rattle.lent.proofs.Fronts.{bool-digit}
 use Rattle.host_circuits.proofs.HostNumbers.{apply-is, bytes-are, wires-are}
 use borrow.Author.Needs.{needs}
 use Rattle.host_circuits.proofs.forkhemit_apply.Statement.{statement}
@@ -18,8 +22,20 @@ load-requires c κs = search needs
 apply-requires : tie.Need-apply-requires
 apply-requires c κs = search needs
 
-put-applied-requires : tie.Need-put-applied-requires
-put-applied-requires c κs = search needs
+cast-t23 : tie.Need-cast-t23
+cast-t23 c = search needs
+
+slice-aggregate-put-if : tie.Need-slice-aggregate-put-if
+slice-aggregate-put-if c = search needs
+
+put-if-requires : tie.Need-put-if-requires
+put-if-requires c κs = search needs
+
+store-if-requires : tie.Need-store-if-requires
+store-if-requires c κs = search needs
+
+code-requires : tie.Need-code-requires
+code-requires c κs = search needs
 
 same-length : tie.Need-same-length
 same-length c = search needs
@@ -34,20 +50,20 @@ same-length-4 : tie.Need-same-length-4
 same-length-4 c = search needs
 
 returns : tie.Need-returns
-returns c = let a = c .before .before .before .before .before .before .before .before .before .before .before .before .before .before .before .before .before .before .before .before .before .before .before .before .args in
-    let dims = c .before .before .before .before .before .before .before .before .before .before .before .before .before .before .before .before .dimensions .ensures in
-    let held = c .before .before .before .before .before .before .before .before .before .before .before .before .before .before .load .ensures in
-    let at = c .before .before .before .before .before .before .before .before .before .before .before .apply .ensures in
-    let e = apply-is (a .n) (a .left-rows) (a .right-rows) _ dims (a .left .now) (a .right .now) (a .run .now) _ held (a .gates .now) (a .bytes .now) (a .wires .now) _ (at .0) in
-    let put = c .before .before .before .before .put-applied .ensures in (
-      put .0 ∙ ap (λ (x : Applied). codeOf (x .outcome)) e,
+returns c = let s = c .before .before .before .before .before .before .before .before .before .before .before .before .before .before .before .before .before .before .before .before .before .before .before .before .before .before .before .before .before in
+    let a = s .args in
+    let at = c .before .before .before .before .before .before .before .before .before .before .before .before .before .before .before .before in
+    let dims = at .before .before .before .before .before .dimensions .ensures in
+    let held = at .before .before .before .load .ensures in
+    let e = apply-is (a .n) (a .left-rows) (a .right-rows) _ dims (a .left .now) (a .right .now) (a .run .now) _ held (a .gates .now) (a .bytes .now) (a .wires .now) _ (at .apply .ensures .0) in (
+      c .code .ensures ∙ ap (λ (x : Applied). codeOf (x .outcome)) e,
       (
-        put .1 .0 ∙ ap (λ (x : Applied). applyStored x (a .run .now)) e,
+        c .before .before .before .store-if .ensures ∙ ap (λ (x : Applied). storedIf (x .outcome) (x .run) (a .run .now)) e,
         (
-          bytes-are (a .n) (a .left-rows) (a .right-rows) _ dims (a .left .now) (a .right .now) (a .run .now) _ held (a .gates .now) (a .bytes .now) (a .wires .now) _ (at .1 .0),
+          bytes-are (a .n) (a .left-rows) (a .right-rows) _ dims (a .left .now) (a .right .now) (a .run .now) _ held (a .gates .now) (a .bytes .now) (a .wires .now) _ (at .apply .ensures .1 .0),
           (
-            wires-are (a .n) (a .left-rows) (a .right-rows) _ dims (a .left .now) (a .right .now) (a .run .now) _ held (a .gates .now) (a .bytes .now) (a .wires .now) _ (at .1 .1),
-            put .1 .1 ∙ ap (λ (x : Applied). applyMarked x (a .mark .now)) e,
+            wires-are (a .n) (a .left-rows) (a .right-rows) _ dims (a .left .now) (a .right .now) (a .run .now) _ held (a .gates .now) (a .bytes .now) (a .wires .now) _ (at .apply .ensures .1 .1),
+            c .before .before .before .before .before .before .before .put-if .ensures ∙ ap (λ (k : ℕ). frontIf (at .apply .result .outcome) (k ∷ []) (a .mark .now)) (bool-digit (at .apply .result .mark)) ∙ ap (λ (x : Applied). frontIf (x .outcome) (digit (x .mark) ∷ []) (a .mark .now)) e,
           ),
         ),
       ),
@@ -60,7 +76,11 @@ forkhemit-apply-spec =
     dimensions-requires
     load-requires
     apply-requires
-    put-applied-requires
+    cast-t23
+    slice-aggregate-put-if
+    put-if-requires
+    store-if-requires
+    code-requires
     same-length
     same-length-2
     same-length-3

@@ -1,9 +1,9 @@
 -- `forkhemit_generate` meets its contract: the words are the generator's, and the count is written where it gives one.
 -- Assumes nothing.
-use mathlib.Core.Path.{ap, _∙_}
+use mathlib.Core.Path.{sym, ap, _∙_}
 use Rattle.generator.specs.declared.Generated.{Generated}
-use Rattle.lent.specs.Lent.{front}
 use Rattle.host_circuits.specs.Circuits.{generatedCode, generatedNumbers}
+use Rattle.lent.specs.Lent.{front}
 use Rattle.host_circuits.proofs.HostNumbers.{generate-is, gates-are, carried-is}
 use borrow.Author.Needs.{needs}
 use Rattle.host_circuits.proofs.forkhemit_generate.Statement.{statement}
@@ -15,8 +15,14 @@ dimensions-requires c κs = search needs
 generate-requires : tie.Need-generate-requires
 generate-requires c κs = search needs
 
-put-count-requires : tie.Need-put-count-requires
-put-count-requires c κs = search needs
+enum-known-k : tie.Need-enum-known-k
+enum-known-k c = search needs
+
+slice-aggregate-put : tie.Need-slice-aggregate-put
+slice-aggregate-put c = search needs
+
+put-requires : tie.Need-put-requires
+put-requires c κs = search needs
 
 same-length : tie.Need-same-length
 same-length c = search needs
@@ -25,16 +31,43 @@ same-length-2 : tie.Need-same-length-2
 same-length-2 c = search needs
 
 returns : tie.Need-returns
-returns c = let a = c .before .before .before .before .before .before .before .before .before .before .before .args in
-    let dims = c .before .before .before .before .before .before .before .before .dimensions .ensures in
-    let g = c .before .before .before .before .before .before .generate .ensures in
+returns c = let s = c .before .before .before .before .before .before .before .before .before .before .before .before .before .before .before in
+    let a = s .args in
+    let dims = c .before .before .before .before .before .before .before .before .before .before .before .before .dimensions .ensures in
+    let g = c .before .before .before .before .before .before .before .before .before .before .generate .ensures in
     let e = generate-is (a .n) (a .left-rows) (a .right-rows) _ dims (a .gates .now) _ (g .0) in
-    let put = c .before .before .put-count .ensures in (
-      put .0 ∙ ap generatedCode e,
+    let told = c .before .before .before .before .before .before .k .given .1 in (
+      sym (ap generatedCode (sym e ∙ told)),
       (
         gates-are (a .n) (a .left-rows) (a .right-rows) _ dims (a .gates .now) _ (g .1 .0),
         (
-          put .1 ∙ ap (λ (x : Generated). front (generatedNumbers x) (a .count .now)) e,
+          c .before .before .put .ensures ∙ ap (λ (x : Generated). front (generatedNumbers x) (a .count .now)) (sym told ∙ e),
+          carried-is (a .n) (a .left-rows) (a .right-rows) _ dims (a .gates .now) _ _ (g .0) (g .1 .1),
+        ),
+      ),
+    )
+
+enum-known-refusal : tie.Need-enum-known-refusal
+enum-known-refusal c = search needs
+
+number-requires : tie.Need-number-requires
+number-requires c κs = search needs
+
+same-length-3 : tie.Need-same-length-3
+same-length-3 c = search needs
+
+returns-2 : tie.Need-returns-2
+returns-2 c = let s = c .before .before .before .before .before .before .before .before .before .before .before in
+    let a = s .args in
+    let dims = c .before .before .before .before .before .before .before .before .dimensions .ensures in
+    let g = c .before .before .before .before .before .before .generate .ensures in
+    let e = generate-is (a .n) (a .left-rows) (a .right-rows) _ dims (a .gates .now) _ (g .0) in
+    let told = c .before .before .refusal .given .1 in (
+      c .number .ensures ∙ sym (ap generatedCode (sym e ∙ told)),
+      (
+        gates-are (a .n) (a .left-rows) (a .right-rows) _ dims (a .gates .now) _ (g .1 .0),
+        (
+          ap (λ (x : Generated). front (generatedNumbers x) (a .count .now)) (sym told ∙ e),
           carried-is (a .n) (a .left-rows) (a .right-rows) _ dims (a .gates .now) _ _ (g .0) (g .1 .1),
         ),
       ),
@@ -46,7 +79,13 @@ forkhemit-generate-spec =
     (tie.spec
     dimensions-requires
     generate-requires
-    put-count-requires
+    enum-known-k
+    slice-aggregate-put
+    put-requires
     same-length
     same-length-2
-    returns)
+    returns
+    enum-known-refusal
+    number-requires
+    same-length-3
+    returns-2)
