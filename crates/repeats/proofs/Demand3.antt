@@ -10,6 +10,8 @@ use lib.ListN.{length, getD}
 use borrow.Author.Tests.{eq-eqb, ne-eqb, ltb-true, ltb-false}
 use Rattle.words.specs.Sets.{any}
 use Rattle.words.proofs.Truth.{on}
+use Rattle.words.proofs.Last.{any-false}
+use Rattle.words.proofs.Upto.{any-i}
 use Rattle.dimensions.specs.declared.Dimensions.{Dimensions}
 use Rattle.tables.specs.declared.Row.{Row}
 use Rattle.tables.specs.Rows.{rowsOf}
@@ -42,15 +44,10 @@ abbrev anyMark : List Bool → Bool
 anyMark marks = any (λ i. getD marks i false) (length marks)
 
 no-mark : (f : ℕ → Bool) (k : ℕ) → ((i : ℕ) → i < k → f i ≡ false) → anyMark (upto f k) ≡ false
-unfolding upto any
-no-mark f zero h = refl
-no-mark f (suc k) h = rw (h 0 (omega arith)) (no-mark (λ i. f (suc i)) k (λ i b. h (suc i) (omega arith)))
+no-mark f k h = rw (length-upto f k) (any-false (λ i. getD (upto f k) i false) k (λ i b. upto-at f k i b ∙ h i b))
 
 some-mark : (f : ℕ → Bool) (k i : ℕ) → i < k → f i ≡ true → anyMark (upto f k) ≡ true
-unfolding upto any
-some-mark f zero i b e = absurd (omega arith)
-some-mark f (suc k) zero b e = rw e
-some-mark f (suc k) (suc i) b e = rw (some-mark (λ j. f (suc j)) k i (omega arith) e) (or-true (f 0))
+some-mark f k i b e = rw (length-upto f k) (any-i (λ j. getD (upto f k) j false) k i b (upto-at f k i b ∙ e))
 
 -- the marks that an answer has: the last one says whether it is known
 abbrev known : Verdict → Bool

@@ -59,7 +59,7 @@ module _ (d : Dimensions) (left right gates : List ℕ) (run : Run) (bytes wires
     abbrev bits : List Bool
     bits = inputBits d left right (stateOf run)
 
-    pub inputs-are : inputs d left right run bytes ≡ bytesOf bits
+    inputs-are : inputs d left right run bytes ≡ bytesOf bits
     inputs-are = packed-front d left right run bytes e
 
     inputs-length : length (inputs d left right run bytes) ≡ inputWires d

@@ -1,4 +1,4 @@
--- `forkhemit_apply` meets its contract: the application to the run in the words, the next run and its mark stored where it is taken.
+-- `forkhemit_apply` meets its contract: the application by the numbers as bytes is that by the numbers; it is to the run in the words, and next run and mark are stored where it is taken.
 -- Assumes nothing.
 use mathlib.Core.Path.{ap, _∙_}
 use mathlib.Core.List.{[], _∷_}

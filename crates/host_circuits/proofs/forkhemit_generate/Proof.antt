@@ -1,4 +1,4 @@
--- `forkhemit_generate` meets its contract: the words are the generator's, and the count is written where it gives one.
+-- `forkhemit_generate` meets its contract: words and count by the numbers as bytes are those by the numbers, and the count is written where the generator gives one.
 -- Assumes nothing.
 use mathlib.Core.Path.{sym, ap, _∙_}
 use Rattle.generator.specs.declared.Generated.{Generated}

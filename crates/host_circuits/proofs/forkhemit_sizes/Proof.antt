@@ -1,4 +1,4 @@
--- `forkhemit_sizes` meets its contract: the numbers are those of the dimensions, written where they are within the limits.
+-- `forkhemit_sizes` meets its contract: the numbers as bytes give what the numbers give, written where they are within the limits; three times the ceiling is no overflow.
 -- Assumes nothing.
 use mathlib.Core.Path.{ap, _∙_}
 use mathlib.Core.List.{[], _∷_}

@@ -1,4 +1,4 @@
--- `forkhemit_accept` meets its contract: it is acceptance, with the outcome as a number.
+-- `forkhemit_accept` meets its contract: acceptance of the numbers as bytes is that of the numbers, and its outcome is given as a number.
 -- Assumes nothing.
 use mathlib.Core.Path.{ap, _∙_}
 use Rattle.lent.specs.Codes.{codeOf}

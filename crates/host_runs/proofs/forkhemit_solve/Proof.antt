@@ -1,4 +1,4 @@
--- `forkhemit_solve` meets its contract: the answer's numbers are written where the run gives one.
+-- `forkhemit_solve` meets its contract: the run by the numbers as bytes is that by the numbers, and the answer's numbers are written where it gives one.
 -- Assumes nothing.
 use mathlib.Core.Path.{sym, ap, _∙_}
 use mathlib.Core.List.{[], _∷_}

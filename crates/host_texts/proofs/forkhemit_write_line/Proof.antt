@@ -1,4 +1,4 @@
--- `forkhemit_write_line` meets its contract: the bytes are the line writer's, and the length is written where it gives one.
+-- `forkhemit_write_line` meets its contract: line and bytes by the numbers as bytes are those by the numbers, and the length is written where the writer gives one.
 -- Assumes nothing.
 use mathlib.Core.Path.{sym, ap, _∙_}
 use Rattle.bristol.specs.declared.Written.{Written}
