@@ -27,8 +27,9 @@ use Rattle.generator.specs.Generation.{generated, written, Carried}
 use Rattle.repeats.specs.declared.Applied.{Applied}
 use Rattle.repeats.specs.Application.{turnedBack, judged, bytesAfter, wiresAfter, applied}
 use Rattle.repeats.proofs.Judging.{refuse-packing}
-use Rattle.lent.specs.Lent.{dimensions, frontIf}
-use Rattle.lent.proofs.AsBytes.{asBytes, taken-same, on-numbers}
+use Rattle.lent.specs.Lent.{frontIf}
+use Rattle.codes.specs.Codes.{dimensions}
+use Rattle.codes.proofs.AsBytes.{asBytes, taken-same, on-numbers}
 use Rattle.host_circuits.specs.Circuits.{sizeNumbers, applyIn}
 
 -- ---- refused sizes

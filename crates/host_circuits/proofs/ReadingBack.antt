@@ -14,11 +14,11 @@ use Rattle.refusals.specs.declared.Outcome.the-variants.{Taken, Refused}
 use Rattle.refusals.proofs.Outcomes.{refused-taken, outcome-taken, outcome-refused}
 use Rattle.dimensions.specs.Sizes.{outside}
 use Rattle.state.specs.State.{fresh, runOf}
-use Rattle.wires.specs.declared.Read.{Read}
-use Rattle.wires.specs.Unpacking.{runIn}
-use Rattle.wires.specs.Reading.{readChecks, readBack}
+use Rattle.readback.specs.declared.Read.{Read}
+use Rattle.readback.specs.Unpacking.{runIn}
+use Rattle.readback.specs.Reading.{readChecks, readBack}
 use Rattle.lent.specs.Lent.{roomCheck}
-use Rattle.lent.proofs.AsBytes.{outside-byte, inside-byte}
+use Rattle.codes.proofs.AsBytes.{outside-byte, inside-byte}
 use Rattle.host_circuits.specs.Circuits.{backChecks}
 
 read-outcome : (n : ℕ) (bytes : List ℕ) → readBack n bytes .outcome ≡ outcome (readChecks n bytes)

@@ -9,7 +9,7 @@ use Rattle.dimensions.specs.declared.Dimensions.{Dimensions}
 use Rattle.generator.specs.declared.Generated.{Generated}
 use Rattle.generator.specs.declared.Generated.the-variants as generated
 use Rattle.stored.specs.Words.{runIn}
-use Rattle.wires.specs.Reading.{readChecks}
+use Rattle.readback.specs.Reading.{readChecks}
 use Rattle.repeats.specs.declared.Applied.{Applied}
 use Rattle.repeats.specs.Application.{applied}
 use Rattle.lent.specs.Lent.{frontIf, storedIf, roomCheck}

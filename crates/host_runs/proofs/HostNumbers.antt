@@ -18,10 +18,10 @@ use Rattle.state.specs.WellFormed.{stateChecks}
 use Rattle.solver.specs.declared.Stepped.{Stepped}
 use Rattle.solver.specs.declared.Solved.{Solved}
 use Rattle.solver.specs.declared.Solved.the-variants as solved′
-use Rattle.solver.specs.Answers.{stepped, solved}
+use Rattle.solver.specs.Entries.{stepped, solved}
 use Rattle.stored.specs.Words.{runIn}
-use Rattle.lent.specs.Lent.{dimensions}
-use Rattle.lent.proofs.AsBytes.{asBytes, on-numbers}
+use Rattle.codes.specs.Codes.{dimensions}
+use Rattle.codes.proofs.AsBytes.{asBytes, on-numbers}
 use Rattle.host_runs.specs.Runs.{stepIn}
 
 -- ---- refused sizes

@@ -6,14 +6,14 @@ use Rattle.refusals.specs.Checks.{Check, check}
 use Rattle.refusals.specs.declared.Refusal.the-variants.{Variables}
 use Rattle.dimensions.specs.Sizes.{outside}
 use Rattle.dimensions.specs.declared.Dimensions.{Dimensions}
-use Rattle.solver.specs.declared.Modelled.{Modelled}
-use Rattle.solver.specs.declared.Modelled.the-variants as modelled
+use Rattle.verdicts.specs.declared.Modelled.{Modelled}
+use Rattle.verdicts.specs.declared.Modelled.the-variants as modelled
 use Rattle.solver.specs.declared.Solved.{Solved}
 use Rattle.solver.specs.declared.Solved.the-variants as solved
 use Rattle.solver.specs.declared.Stepped.{Stepped}
-use Rattle.solver.specs.Answers.{stepped}
+use Rattle.solver.specs.Entries.{stepped}
 use Rattle.stored.specs.Words.{runIn}
-use Rattle.lent.specs.Codes.{verdictNumber, modelWord}
+use Rattle.codes.specs.Codes.{verdictNumber, modelWord}
 use Rattle.lent.specs.Lent.{storedIf, roomCheck}
 
 -- the fresh run: 1, 12

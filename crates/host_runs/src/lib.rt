@@ -2,17 +2,19 @@
 // Each function is a thin call of a proved entry. A slice passes as a pointer and then a length.
 // It returns 0 where the call is taken, else the refusal's number, and then it writes nothing.
 use refusals::Refusal;
-use solver::Modelled;
 use solver::Solved;
 use state::Run;
+use verdicts::Modelled;
 ghost use mathlib.Core.Path.{_≡_};
 ghost use Rattle.refusals.specs.Checks.{outcome};
 ghost use Rattle.tables.specs.Acceptance.{tableChecks};
-ghost use Rattle.solver.specs.Answers.{solved, modelOf};
+ghost use Rattle.solver.specs.Entries.{solved};
+ghost use Rattle.verdicts.specs.Verdicts.{modelOf};
 ghost use Rattle.state.specs.State.{fresh, runOf};
 ghost use Rattle.stored.specs.Words.{runIn};
-ghost use Rattle.lent.specs.Codes.{codeOf};
-ghost use Rattle.lent.specs.Lent.{dimensions, front, storedIf};
+ghost use Rattle.refusals.specs.Numbers.{codeOf};
+ghost use Rattle.lent.specs.Lent.{front, storedIf};
+ghost use Rattle.codes.specs.Codes.{dimensions};
 ghost use Rattle.host_runs.specs.Runs.{freshChecks, stepIn, stepStored, solvedCode, solvedNumbers, modelCode, modelNumbers};
 
 // Whether two tables are accepted: 1, 2, 4 or 3 if not.
@@ -26,8 +28,8 @@ pub extern "C" fn forkhemit_accept(
 ) -> u8
     ensures { λ r. ⌜ r ≡ codeOf (outcome (tableChecks (dimensions n «left_rows» «right_rows») (now (left .entry)) (now (right .entry)))) ⌝ }
 {
-    let d = lent::dimensions(n, left_rows, right_rows);
-    lent::code(tables::accept(d, left, right))
+    let d = codes::dimensions(n, left_rows, right_rows);
+    codes::code(tables::accept(d, left, right))
 }
 
 // The fresh run of n variables; 1 or 12 where it is turned back, and then no word changes.
@@ -42,7 +44,7 @@ pub extern "C" fn forkhemit_fresh(n: u64, run: &mut [u32]) -> u8
     if 32 < n {
         return refusals::number(Refusal::Variables);
     }
-    lent::code(stored::store(Run::fresh(n as u8), run))
+    codes::code(stored::store(Run::fresh(n as u8), run))
 }
 
 // One giant step of the run in the lent words; 1, 2, 4, 3, 12 or 13 where it is turned back, and then no word changes.
@@ -58,12 +60,12 @@ pub extern "C" fn forkhemit_step(
     ensures { λ r. ⌜ r ≡ codeOf (stepIn (dimensions n «left_rows» «right_rows») (now (left .entry)) (now (right .entry)) (now (run .entry)) .outcome) ⌝ }
     ensures { λ _. ⌜ now (run .exit) ≡ stepStored (stepIn (dimensions n «left_rows» «right_rows») (now (left .entry)) (now (right .entry)) (now (run .entry))) (now (run .entry)) ⌝ }
 {
-    let d = lent::dimensions(n, left_rows, right_rows);
+    let d = codes::dimensions(n, left_rows, right_rows);
     let stepped = solver::step(d, left, right, stored::load(run));
     let outcome = stepped.outcome;
     let next = stepped.run;
     lent::store_if(outcome, next, run);
-    lent::code(outcome)
+    codes::code(outcome)
 }
 
 // The answer of a fresh run under a budget: count, verdict, model; 1, 2, 4 or 3 where it is turned back, and then no number is written.
@@ -80,14 +82,14 @@ pub extern "C" fn forkhemit_solve(
     ensures { λ r. ⌜ r ≡ solvedCode (solved (dimensions n «left_rows» «right_rows») (now (left .entry)) (now (right .entry)) budget) ⌝ }
     ensures { λ _. ⌜ now (answer .exit) ≡ front (solvedNumbers (solved (dimensions n «left_rows» «right_rows») (now (left .entry)) (now (right .entry)) budget)) (now (answer .entry)) ⌝ }
 {
-    let d = lent::dimensions(n, left_rows, right_rows);
+    let d = codes::dimensions(n, left_rows, right_rows);
     match solver::solve(d, left, right, budget) {
         Solved::Of(given) => {
             let verdict = given.verdict;
             let numbers = [
                 given.count,
-                lent::verdict_number(verdict),
-                lent::model_word(verdict),
+                codes::verdict_number(verdict),
+                codes::model_word(verdict),
             ];
             lent::put(&numbers, answer);
             return 0;
@@ -102,7 +104,7 @@ pub extern "C" fn forkhemit_model(run: &[u32], model: &mut [u64]) -> u8
     ensures { λ r. ⌜ r ≡ modelCode (modelOf (runIn (now (run .entry)))) ⌝ }
     ensures { λ _. ⌜ now (model .exit) ≡ front (modelNumbers (modelOf (runIn (now (run .entry))))) (now (model .entry)) ⌝ }
 {
-    match solver::model(stored::load(run)) {
+    match verdicts::model(stored::load(run)) {
         Modelled::Model(word) => {
             let numbers = [word as u64];
             lent::put(&numbers, model);

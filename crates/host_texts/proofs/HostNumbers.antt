@@ -19,8 +19,8 @@ use Rattle.bristol.specs.declared.Written.the-variants as written′
 use Rattle.bristol.specs.declared.WrittenLines.{WrittenLines}
 use Rattle.bristol.specs.declared.WrittenLines.the-variants as lines′
 use Rattle.bristol.specs.Writing.{checks, lineAt, written, filled, writtenLines, filledLines}
-use Rattle.lent.specs.Lent.{dimensions}
-use Rattle.lent.proofs.AsBytes.{asBytes, on-numbers}
+use Rattle.codes.specs.Codes.{dimensions}
+use Rattle.codes.proofs.AsBytes.{asBytes, on-numbers}
 
 module _ (words : List ℕ) (line : ℕ) (lent : List ℕ) where
   -- ---- refused sizes

@@ -14,7 +14,7 @@ use Rattle.bristol.specs.declared.Written.{Written}
 use Rattle.bristol.specs.declared.Written.the-variants as written
 use Rattle.bristol.specs.declared.WrittenLines.{WrittenLines}
 use Rattle.bristol.specs.declared.WrittenLines.the-variants as lines
-use Rattle.lent.specs.Codes.{verdictFrom}
+use Rattle.codes.specs.Codes.{verdictFrom}
 use Rattle.lent.specs.Lent.{frontIf, textOutcome, pairRoom}
 
 -- ---- two texts

@@ -9,10 +9,11 @@ ghost use mathlib.Core.Path.{_≡_};
 ghost use Prim.Native.Nat.{min};
 ghost use lib.ListN as ListN;
 ghost use Rattle.bristol.specs.Writing as Writing;
-ghost use Rattle.answers.specs.Answers.{answerText};
+ghost use Rattle.answers.specs.Printed.{answerText};
 ghost use Rattle.lines.specs.Numbers.{budgetOf};
-ghost use Rattle.lent.specs.Codes.{codeOf};
-ghost use Rattle.lent.specs.Lent.{dimensions, front, textOutcome};
+ghost use Rattle.refusals.specs.Numbers.{codeOf};
+ghost use Rattle.lent.specs.Lent.{front, textOutcome};
+ghost use Rattle.codes.specs.Codes.{dimensions};
 ghost use Rattle.host_texts.specs.Texts.{pairIn, pairOutcome, leftRead, rightRead, sizesRead, budgetCode, budgetNumbers, lineCode, lineNumbers, linesCode, linesNumbers, answerFrom, textWritten, lengthWritten};
 
 // Reads two texts into tables, with n and the row counts; 1, 2, 5, 6 or 4 where it is turned back.
@@ -37,7 +38,7 @@ pub extern "C" fn forkhemit_read_pair(
     lent::put_rows(outcome, left_words, pair.left_rows, left);
     lent::put_rows(outcome, right_words, pair.right_rows, right);
     lent::put_if(outcome, &numbers, sizes);
-    lent::code(outcome)
+    codes::code(outcome)
 }
 
 // The budget of a line, digits and LF, at most 100 bytes; 8 where it is turned back, and then no number is written.
@@ -71,7 +72,7 @@ pub extern "C" fn forkhemit_write_line(
     ensures { λ _. ⌜ now (bytes .exit) ≡ Writing.filled (dimensions n «left_rows» «right_rows») (now (gates .entry)) line (now (bytes .entry)) ⌝ }
     ensures { λ _. ⌜ now (length .exit) ≡ front (lineNumbers (Writing.written (dimensions n «left_rows» «right_rows») (now (gates .entry)) line (now (bytes .entry)))) (now (length .entry)) ⌝ }
 {
-    let d = lent::dimensions(n, left_rows, right_rows);
+    let d = codes::dimensions(n, left_rows, right_rows);
     match bristol::write_line(d, gates, line as usize, bytes) {
         Written::Line(k) => {
             let numbers = [k as u64];
@@ -102,7 +103,7 @@ pub extern "C" fn forkhemit_write_lines(
     ensures { λ _. ⌜ now (bytes .exit) ≡ Writing.filledLines (dimensions n «left_rows» «right_rows») (now (gates .entry)) line (now (bytes .entry)) ⌝ }
     ensures { λ _. ⌜ now (written .exit) ≡ front (linesNumbers (Writing.writtenLines (dimensions n «left_rows» «right_rows») (now (gates .entry)) line (now (bytes .entry)))) (now (written .entry)) ⌝ }
 {
-    let d = lent::dimensions(n, left_rows, right_rows);
+    let d = codes::dimensions(n, left_rows, right_rows);
     match bristol::write_lines(d, gates, line as usize, bytes) {
         WrittenLines::Lines(count, size) => {
             let numbers = [count as u64, size as u64];
@@ -129,7 +130,7 @@ pub extern "C" fn forkhemit_answer(
 {
     let answer = Answer {
         count,
-        verdict: lent::verdict_from(verdict, model),
+        verdict: codes::verdict_from(verdict, model),
     };
-    lent::put_text(answers::answer_text(lent::byte(n), answer), bytes, length)
+    lent::put_text(answers::answer_text(codes::byte(n), answer), bytes, length)
 }

@@ -1,17 +1,23 @@
 -- `forkhemit_apply` meets its contract: the application by the numbers as bytes is that by the numbers; it is to the run in the words, and next run and mark are stored where it is taken.
 -- Assumes nothing.
-use mathlib.Core.Path.{ap, _∙_}
+use mathlib.Core.Path.{_≡_, refl, ap, _∙_}
+use mathlib.Core.Bool.{Bool, true, false}
 use mathlib.Core.List.{[], _∷_}
 use Prim.Native.Nat.{ℕ}
+use mir.Val.{boolByte}
 use Rattle.words.specs.Booleans.{digit}
 use Rattle.repeats.specs.declared.Applied.{Applied}
-use Rattle.lent.specs.Codes.{codeOf}
+use Rattle.refusals.specs.Numbers.{codeOf}
 use Rattle.lent.specs.Lent.{frontIf, storedIf}
-use Rattle.lent.proofs.Fronts.{bool-digit}
 use Rattle.host_circuits.proofs.HostNumbers.{apply-is, bytes-are, wires-are}
 use borrow.Author.Needs.{needs}
 use Rattle.host_circuits.proofs.forkhemit_apply.Statement.{statement}
 use Rattle.host_circuits.proofs.forkhemit_apply.Tie as tie
+
+-- the mark as a number
+bool-digit : (b : Bool) → boolByte b ≡ digit b
+bool-digit true = refl
+bool-digit false = refl
 
 dimensions-requires : tie.Need-dimensions-requires
 dimensions-requires c κs = search needs

@@ -1,7 +1,7 @@
 -- `forkhemit_evaluate` meets its contract: it is the evaluator's, with the outcome as a number.
 -- Assumes nothing.
 use mathlib.Core.Path.{ap, _∙_}
-use Rattle.lent.specs.Codes.{codeOf}
+use Rattle.refusals.specs.Numbers.{codeOf}
 use borrow.Author.Needs.{needs}
 use Rattle.host_circuits.proofs.forkhemit_evaluate.Statement.{statement}
 use Rattle.host_circuits.proofs.forkhemit_evaluate.Tie as tie

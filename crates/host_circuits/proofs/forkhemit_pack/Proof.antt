@@ -2,7 +2,7 @@
 -- Assumes nothing.
 use mathlib.Core.Path.{ap, _∙_}
 use lib.ListN.{length}
-use Rattle.lent.specs.Codes.{codeOf}
+use Rattle.refusals.specs.Numbers.{codeOf}
 use Rattle.host_circuits.proofs.HostNumbers.{check-is, packed-is}
 use borrow.Author.Needs.{needs}
 use Rattle.host_circuits.proofs.forkhemit_pack.Statement.{statement}

@@ -4,8 +4,8 @@ use mathlib.Core.Path.{sym, ap, _∙_}
 use Rattle.refusals.specs.declared.Outcome.{Outcome}
 use Rattle.state.specs.declared.Run.{Run}
 use Rattle.stored.specs.Words.{stored}
-use Rattle.wires.specs.Reading.{readBack}
-use Rattle.lent.specs.Codes.{codeOf}
+use Rattle.readback.specs.Reading.{readBack}
+use Rattle.refusals.specs.Numbers.{codeOf}
 use Rattle.lent.specs.Lent.{storedIf}
 use Rattle.lent.proofs.Rooms.{stored-room}
 use Rattle.host_circuits.proofs.ReadingBack.{back-refused, back-decided, back-run}

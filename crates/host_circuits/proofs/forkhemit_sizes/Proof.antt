@@ -4,7 +4,7 @@ use mathlib.Core.Path.{ap, _∙_}
 use mathlib.Core.List.{[], _∷_}
 use Prim.Native.Nat.{_*_}
 use native.Mathlib.Omega.{arith}
-use Rattle.lent.specs.Codes.{codeOf}
+use Rattle.refusals.specs.Numbers.{codeOf}
 use Rattle.lent.specs.Lent.{frontIf}
 use Rattle.host_circuits.proofs.HostNumbers.{size-is, sizes-are, ceiling-low}
 use borrow.Author.Needs.{needs}

@@ -1,7 +1,7 @@
 -- `forkhemit_accept` meets its contract: acceptance of the numbers as bytes is that of the numbers, and its outcome is given as a number.
 -- Assumes nothing.
 use mathlib.Core.Path.{ap, _∙_}
-use Rattle.lent.specs.Codes.{codeOf}
+use Rattle.refusals.specs.Numbers.{codeOf}
 use Rattle.host_runs.proofs.HostNumbers.{accept-is}
 use borrow.Author.Needs.{needs}
 use Rattle.host_runs.proofs.forkhemit_accept.Statement.{statement}

@@ -12,9 +12,9 @@ use Rattle.dimensions.specs.Sizes.{outside}
 use Rattle.state.specs.declared.Run.{Run}
 use Rattle.state.specs.State.{fresh, runOf}
 use Rattle.stored.specs.Words.{stored}
-use Rattle.lent.specs.Codes.{codeOf}
+use Rattle.refusals.specs.Numbers.{codeOf}
 use Rattle.lent.specs.Lent.{storedIf, roomCheck}
-use Rattle.lent.proofs.AsBytes.{below, above, inside}
+use Rattle.codes.proofs.AsBytes.{below, above, inside}
 use Rattle.lent.proofs.Rooms.{stored-room}
 use Rattle.host_runs.specs.Runs.{freshChecks}
 use borrow.Author.Needs.{needs}

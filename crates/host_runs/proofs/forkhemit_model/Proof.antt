@@ -1,8 +1,8 @@
 -- `forkhemit_model` meets its contract: the model of the run in the words, written where there is one.
 -- Assumes nothing.
 use mathlib.Core.Path.{sym, ap, _∙_}
-use Rattle.solver.specs.declared.Modelled.{Modelled}
-use Rattle.solver.specs.Answers.{modelOf}
+use Rattle.verdicts.specs.declared.Modelled.{Modelled}
+use Rattle.verdicts.specs.Verdicts.{modelOf}
 use Rattle.host_runs.specs.Runs.{modelCode, modelNumbers}
 use Rattle.lent.specs.Lent.{front}
 use borrow.Author.Needs.{needs}

@@ -2,7 +2,7 @@
 -- Assumes nothing.
 use mathlib.Core.Path.{ap, _∙_}
 use Rattle.solver.specs.declared.Stepped.{Stepped}
-use Rattle.lent.specs.Codes.{codeOf}
+use Rattle.refusals.specs.Numbers.{codeOf}
 use Rattle.lent.specs.Lent.{storedIf}
 use Rattle.host_runs.proofs.HostNumbers.{step-is}
 use borrow.Author.Needs.{needs}

@@ -7,9 +7,9 @@ use native.Mathlib.Omega.{arith}
 use lib.ListN.{length, take}
 use Rattle.text.specs.declared.Text.{Text}
 use Rattle.text.specs.Texts.{textOf}
-use Rattle.solver.specs.declared.Verdict.{Verdict}
-use Rattle.answers.specs.Answers.{answerText}
-use Rattle.lent.specs.Codes.{codeOf}
+use Rattle.verdicts.specs.declared.Verdict.{Verdict}
+use Rattle.answers.specs.Printed.{answerText}
+use Rattle.refusals.specs.Numbers.{codeOf}
 use Rattle.host_texts.specs.Texts.{answerFrom}
 use Rattle.lent.specs.Lent.{frontIf, textOutcome}
 use Rattle.text.proofs.Appending.{text-back}

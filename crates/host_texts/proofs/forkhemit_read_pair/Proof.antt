@@ -5,7 +5,7 @@ use Prim.Native.Nat.{_*_}
 use lib.ListN.{take}
 use Rattle.dimacs.specs.declared.Pair.{Pair}
 use Rattle.refusals.specs.declared.Outcome.{Outcome}
-use Rattle.lent.specs.Codes.{codeOf}
+use Rattle.refusals.specs.Numbers.{codeOf}
 use Rattle.lent.specs.Lent.{frontIf}
 use Rattle.host_texts.specs.Texts.{pairOutcome, pairNumbers}
 use borrow.Author.Needs.{needs}
