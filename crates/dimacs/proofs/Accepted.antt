@@ -16,6 +16,7 @@ use Rattle.refusals.specs.declared.Refusal.{Refusal}
 use Rattle.refusals.specs.declared.Refusal.the-variants as R
 use Rattle.refusals.specs.declared.Outcome.{Outcome}
 use Rattle.refusals.specs.declared.Outcome.the-variants.{Taken, Refused}
+use Rattle.refusals.proofs.Outcomes.{refused-taken}
 use Rattle.header.specs.Header.{headerOf}
 use Rattle.header.proofs.Limits.{header-either}
 use Rattle.clauses.specs.Rows.{wordsOf}
@@ -58,7 +59,7 @@ abbrev Fine : Table → Type 0
 Fine t = t .outcome ≡ Taken → Within (t .n) (t .rows) (t .words)
 
 refused-fine : (r : Refusal) → Fine (refused r)
-refused-fine r e = absurd (let z : _≡_ {A = ℕ} 0 1 = cc in omega arith)
+refused-fine r e = absurd (refused-taken e)
 
 body-fine : (n m : ℕ) (ts : List Piece) → (1 ≤ n) × (n ≤ 32) → (1 ≤ m) × (m ≤ 128) → Fine (bodyOf n m (clauses n ts))
 body-fine n m ts hn hm =
@@ -90,7 +91,7 @@ accepted-text text =
 
 module _ (a b : Table) (taken : pairOf a b .outcome ≡ Taken) where
   not-refused : (x : Refusal) → pairOf a b ≡ refusedPair x → ⊥
-  not-refused x e = let q : Refused x ≡ Taken = sym (ap (λ (p : Pair). p .outcome) e) ∙ taken in let z : _≡_ {A = ℕ} 0 1 = cc in omega arith
+  not-refused x e = refused-taken (sym (ap (λ (p : Pair). p .outcome) e) ∙ taken)
 
   -- both texts are accepted and agree in n
   both-taken : (a .outcome ≡ Taken) × (b .outcome ≡ Taken) × (a .n ≡ b .n)
