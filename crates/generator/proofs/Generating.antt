@@ -22,9 +22,10 @@ use Rattle.dimensions.specs.Sizes.{outside, sizeChecks, ceiling}
 use Rattle.gates.specs.Memory.{wordsOf, over}
 use Rattle.gates.proofs.InMemory.{words-length}
 use Rattle.generator.specs.declared.Generated.the-variants.{Of, Refused}
-use Rattle.netlist.specs.declared.Addresses.{Addresses}
+use Rattle.sections.specs.declared.Addresses.{Addresses}
+use Rattle.sections.specs.Addressing.{addresses}
 use Rattle.netlist.specs.Outputs.{CarriesOut}
-use Rattle.netlist.specs.Netlist.{addresses, circuit, gatesFor, gatesOn}
+use Rattle.netlist.specs.Netlist.{circuit, gatesFor, gatesOn}
 use Rattle.generator.specs.Generation.{generatorChecks, generated, written, Carried}
 use Rattle.netlist.proofs.EveryState.{gates-carry-out}
 use Rattle.netlist.proofs.Counts.{circuit-length, gates-length}

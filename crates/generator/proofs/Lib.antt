@@ -1,5 +1,6 @@
 pub mod Steps
 pub mod Placing
+pub mod Parts
+pub mod Circuit
 pub mod Room
-pub mod Groups
 pub mod Generating

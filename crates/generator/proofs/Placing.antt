@@ -3,22 +3,23 @@
 use mathlib.Core.Path.{_≡_, refl, ap, ap₂, sym, _∙_}
 use mathlib.Core.Bool.{true, _&&_, cond}
 use mathlib.Core.List.{List, [], _∷_, _++_}
-use Prim.Native.Nat.{ℕ, zero, suc, _+_, _*_, _/_, _≤_, _<_}
+use Prim.Native.Nat.{ℕ, zero, suc, _+_, _*_, _/_, _%_, _≤_, _<_}
 use native.Mathlib.Nat.{not-suc-le-zero, le-of-suc-le-suc, mul-le-mul, mul-le-mul-left}
 use native.Mathlib.Numerals.{add-one, add-two, add-three}
 use native.Mathlib.Omega.{arith}
-use lib.Dec.{eqb}
-use lib.ListN.{length, getD, drop, set, length-set, length-drop, drop-of-length-le}
-use lib.Seq.{sets}
+use borrow.Author.Tests.{ltb-true}
+use lib.Dec.{eqb, ltb}
+use lib.ListN.{length, getD, drop, set, length-set, drop-of-length-le}
+use lib.Seq.{drop-cons, sets}
 use Rattle.words.proofs.Truth.{and-l, and-r}
 use Rattle.words.proofs.Stores.{sets-append}
 use Rattle.gates.specs.Gates.{Gate}
-use Rattle.gates.specs.Memory.{gateWords, wordsOf, gateOf, gatesOf, drives, accepted}
-use Rattle.gates.proofs.InMemory.{words-append, words-length, accepted-length}
-use Rattle.gates.proofs.Judging.{drop-three, accepted-at, drives-below}
+use Rattle.gates.specs.Memory.{gateWords, wordsOf, gateOf}
+use Rattle.gates.proofs.InMemory.{words-append, words-length}
 use Rattle.netlist.specs.Templates.{sum}
 use Rattle.netlist.specs.Arrays.{operand, placed, cell, rows, along, none, cells, line, array}
 use Rattle.netlist.proofs.Sizes.{rows-length, cell-length, cells-length, line-length}
+use Rattle.generator.specs.Storing.{gatesIn, tidy}
 
 -- the words of a placed gate
 placed-words : (s : List ℕ) (b k x y : ℕ) → k < 3
@@ -28,54 +29,50 @@ placed-words s b (suc zero) x y h = refl
 placed-words s b (suc (suc zero)) x y h = refl
 placed-words s b (suc (suc (suc k))) x y h = absurd (not-suc-le-zero (le-of-suc-le-suc (le-of-suc-le-suc (le-of-suc-le-suc h))))
 
-pub record Placing (w₀ : List ℕ) (t s : List ℕ) (base p₀ : ℕ) (w : List ℕ) (p i : ℕ) : Type 0 where
-  pub good : accepted (8 + i / 3) (drop i t) ≡ true
-  pub same : sets w p (wordsOf (cell s base (gatesOf (drop i t)))) ≡ sets w₀ p₀ (wordsOf (cell s base (gatesOf t)))
+pub record Placing (w₀ t s : List ℕ) (base p₀ : ℕ) (w : List ℕ) (p i : ℕ) : Type 0 where
+  pub good : tidy (drop i t) ≡ true
+  pub same : sets w p (wordsOf (cell s base (gatesIn (drop i t)))) ≡ sets w₀ p₀ (wordsOf (cell s base (gatesIn t)))
   pub size : length w ≡ length w₀
-  pub step : p ≡ p₀ + i
+  pub step : p ≡ p₀ + 3 * i
   pub upto : i ≤ length t
 
-pub start : (w t s : List ℕ) (base p : ℕ) → accepted 8 t ≡ true → Placing w t s base p w p 0
+pub start : (w t s : List ℕ) (base p : ℕ) → tidy t ≡ true → Placing w t s base p w p 0
 start w t s base p e = record { good = e; same = refl; size = refl; step = omega arith; upto = omega arith }
 
-module _ (w₀ t s : List ℕ) (base p₀ : ℕ) (w : List ℕ) (p i : ℕ) (r : Placing w₀ t s base p₀ w p i) where
-  whole : i < length t → i + 3 ≤ length t
-  whole h = omega (arith, accepted-length (8 + i / 3) (drop i t) (r .good), length-drop i t)
+module _ (w₀ t s : List ℕ) (base p₀ : ℕ) (w : List ℕ) (p i : ℕ) (r : Placing w₀ t s base p₀ w p i) (h : i < length t) where
+  abbrev g : ℕ
+  g = getD t i 0
 
-  judged : (h : i < length t) → drives (8 + i / 3) (getD t i 0) (getD t (i + 1) 0) (getD t (i + 2) 0) && accepted (8 + i / 3 + 1) (drop (i + 3) t) ≡ true
-  judged h = sym (accepted-at t i (whole h) (8 + i / 3)) ∙ r .good
+  judged : ltb (g / 10000) 3 && tidy (drop (suc i) t) ≡ true
+  judged = sym (ap tidy (drop-cons t i 0 h)) ∙ r .good
 
-  -- a whole gate is left, and its operands are slots or earlier gates of the template
-  pub turn : i < length t → (i + 3 ≤ length t) × (getD t i 0 < 3) × (getD t (i + 1) 0 < 8 + i / 3) × (getD t (i + 2) 0 < 8 + i / 3)
-  turn h =
-      let d = drives-below (8 + i / 3) (getD t i 0) (getD t (i + 1) 0) (getD t (i + 2) 0) (and-l _ _ (judged h)) in
-      (whole h, d .0, d .1, d .2)
+  cell-words :
+      wordsOf (cell s base (gatesIn (drop i t)))
+      ≡ g / 10000 ∷ operand s base (g / 100 % 100) ∷ cond (eqb (g / 10000) 2) 0 (operand s base (g % 100)) ∷ wordsOf (cell s base (gatesIn (drop (suc i) t)))
+  unfolding wordsOf
+  cell-words =
+      ap (λ (l : List ℕ). wordsOf (cell s base (gatesIn l))) (drop-cons t i 0 h)
+      ∙ ap (λ (l : List ℕ). l ++ wordsOf (cell s base (gatesIn (drop (suc i) t))))
+      (placed-words s base (g / 10000) (g / 100 % 100) (g % 100) (ltb-true _ _ (and-l (ltb (g / 10000) 3) (tidy (drop (suc i) t)) judged)))
 
-  cell-words : i < length t
-      → wordsOf (cell s base (gatesOf (drop i t)))
-      ≡ getD t i 0 ∷ operand s base (getD t (i + 1) 0) ∷ cond (eqb (getD t i 0) 2) 0 (operand s base (getD t (i + 2) 0)) ∷ wordsOf (cell s base (gatesOf (drop (i + 3) t)))
-  unfolding wordsOf gatesOf
-  cell-words h =
-      ap (λ (l : List ℕ). wordsOf (cell s base (gatesOf l))) (drop-three t i (whole h))
-      ∙ ap (λ (l : List ℕ). l ++ wordsOf (cell s base (gatesOf (drop (i + 3) t)))) (placed-words s base (getD t i 0) (getD t (i + 1) 0) (getD t (i + 2) 0) (turn h .1))
-
-  pub again : (a b : ℕ) → i < length t → a ≡ operand s base (getD t (i + 1) 0) → b ≡ cond (eqb (getD t i 0) 2) 0 (operand s base (getD t (i + 2) 0))
-      → Placing w₀ t s base p₀ (set (set (set w p (getD t i 0)) (p + 1) a) (p + 2) b) (p + 3) (i + 3)
-  again a b h ea eb =
-      let e : 8 + i / 3 + 1 ≡ 8 + (i + 3) / 3 = omega arith in
+  pub again : (a b : ℕ) → a ≡ operand s base (g / 100 % 100) → b ≡ cond (eqb (g / 10000) 2) 0 (operand s base (g % 100))
+      → Placing w₀ t s base p₀ (set (set (set w p (g / 10000)) (p + 1) a) (p + 2) b) (p + 3) (i + 1)
+  again a b ea eb =
       record {
-        good = ap (λ (k : ℕ). accepted k (drop (i + 3) t)) (sym e) ∙ and-r (drives (8 + i / 3) (getD t i 0) (getD t (i + 1) 0) (getD t (i + 2) 0)) _ (judged h);
+        good = rw (add-one i) (and-r (ltb (g / 10000) 3) (tidy (drop (suc i) t)) judged);
         same =
-            rw (add-one p, add-two p, add-three p, ea, eb)
-            (sym (ap (λ (l : List ℕ). sets w p l) (cell-words h)) ∙ r .same);
+            rw (add-one i, add-one p, add-two p, add-three p, ea, eb)
+            (sym (ap (λ (l : List ℕ). sets w p l) cell-words) ∙ r .same);
         size = simp length-set (r .size);
         step = omega (arith, r .step);
-        upto = whole h;
+        upto = omega arith;
       }
 
-  pub done : length t ≤ i → w ≡ sets w₀ p₀ (wordsOf (cell s base (gatesOf t)))
-  unfolding wordsOf gatesOf
-  done h = rw (drop-of-length-le t h) at (r .same)
+-- where the template ends
+pub done : (w₀ t s : List ℕ) (base p₀ : ℕ) (w : List ℕ) (p i : ℕ) → Placing w₀ t s base p₀ w p i → length t ≤ i
+    → w ≡ sets w₀ p₀ (wordsOf (cell s base (gatesIn t)))
+unfolding wordsOf
+done w₀ t s base p₀ w p i r h = rw (drop-of-length-le t h) at (r .same)
 
 -- gates behind gates: q is where the second ones are stored
 pub followed-by : (A B : List Gate) (w₀ w w′ : List ℕ) (p q : ℕ) → w ≡ sets w₀ p (wordsOf A) → q ≡ p + 3 * length A

@@ -1,26 +1,46 @@
--- What the generator's own functions ask of addresses and words, and what they store.
+-- What the generator's own functions ask of templates, sections and words, and what they store.
 use mathlib.Core.Path.{_≡_}
-use mathlib.Core.List.{List}
-use Prim.Native.Nat.{ℕ, _*_, _-_, _≤_}
-use lib.ListN.{length}
+use mathlib.Core.Bool.{Bool, true, _&&_}
+use mathlib.Core.List.{List, [], _∷_, _++_, map}
+use Prim.Native.Nat.{ℕ, _+_, _*_, _-_, _/_, _%_, _≤_}
+use lib.Dec.{ltb}
+use lib.ListN.{take, drop}
 use lib.Seq.{sets}
 use Rattle.gates.specs.Gates.{Gate}
-use Rattle.gates.specs.Memory.{wordsOf}
-use Rattle.netlist.specs.declared.Addresses.{Addresses}
-use Rattle.netlist.specs.Netlist.{addresses}
+use Rattle.gates.specs.Memory.{wordsOf, gateOf}
+use Rattle.dimensions.specs.declared.Dimensions.{Dimensions}
+use Rattle.sections.specs.declared.Section.{Section}
+use Rattle.sections.specs.Addressing.{addressesOn}
+use Rattle.sections.specs.Sections.{sectionAt}
+use Rattle.netlist.specs.Templates.{sum, variable, literal, row, weight, pick, lowest, rule, select, level, assignment, depth, standing}
+use Rattle.netlist.specs.Arrays.{Below, inArray}
 
--- the addresses of n variables and m rows, and words with room for every gate
-pub record Ready (a : Addresses) (words : List ℕ) : Type 0 where
-  pub laid : a ≡ addresses (a .n) (a .m)
-  pub room : 3 * (a .wires - a .inputs) ≤ length words
+-- the gates of a template in memory, a number a gate: its kind, then two decimal digits for each operand
+abbrev pub gatesIn : List ℕ → List Gate
+gatesIn t = map (λ g. gateOf (g / 10000) (g / 100 % 100) (g % 100)) t
 
--- sums and products of the addresses fit a word
-abbrev pub Small : Addresses → Type 0
-Small a =
-    (a .n ≤ 32) × (a .m ≤ 256) × (a .state ≤ 262144) × (a .standing ≤ 262144) × (a .inputs ≤ 262144) × (a .literals ≤ 262144)
-    × (a .scan ≤ 262144) × (a .weights ≤ 262144) × (a .picks ≤ 262144) × (a .lowest ≤ 262144) × (a .rule ≤ 262144) × (a .selects ≤ 262144)
-    × (a .levels ≤ 262144) × (a .block ≤ 8192) × (a .assignments ≤ 262144) × (a .depths ≤ 262144) × (a .outputs ≤ 262144) × (a .wires ≤ 262144)
+-- whether its kinds are below 3
+abbrev pub tidy : List ℕ → Bool
+tidy [] = true
+tidy (g ∷ t) = ltb (g / 10000) 3 && tidy t
 
--- the words with some gates stored, the first of which drives wire b
-abbrev pub stored : Addresses → List ℕ → ℕ → List Gate → List ℕ
-stored a words b gates = sets words (3 * (b - a .inputs)) (wordsOf gates)
+-- all templates, one behind the other
+abbrev pub templates : List Gate
+templates =
+    sum ++ (variable ++ (literal ++ (row ++ (weight ++ (pick ++ (lowest ++ (rule ++ (select ++ (level ++ (assignment ++ (depth ++ standing)))))))))))
+
+-- a section's gates
+abbrev pub gatesOf : Section → List Gate
+gatesOf s = inArray (take (s .size) (drop (s .template) templates)) s
+
+-- the gates of section k of the circuit of some dimensions
+abbrev pub gatesAt : Dimensions → ℕ → List Gate
+gatesAt d k = gatesOf (sectionAt (addressesOn d) k)
+
+-- sums over a section's numbers fit a word, and so many words, with room behind so many inputs
+pub record Fits (inputs : ℕ) (s : Section) (len : ℕ) : Type 0 where
+  pub named : (s .template + s .size ≤ 75) × (s .size ≤ 16)
+  pub counts : (s .zeros ≤ 4) × (s .lines ≤ 256) × (s .cells ≤ 256)
+  pub begins : (inputs ≤ s .base) × (s .base ≤ 1048576)
+  pub below : Below 16777216 (s .slots) × Below 65536 (s .outer) × Below 65536 (s .inner)
+  pub room : 3 * (s .base - inputs) + 3 * ((s .zeros + s .size * s .cells) * s .lines) ≤ len

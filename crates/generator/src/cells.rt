@@ -1,14 +1,17 @@
 // Cells: constant templates of gates, placed by address. A template's operand below 8 is a slot, 8 + k the cell's own gate k.
 use crate::templates;
+use sections::Section;
 ghost use mathlib.Core.Path.{_≡_};
 ghost use mathlib.Core.Bool.{true, cond};
 ghost use Prim.Native.Nat.{_+_, _*_, _-_, _≤_};
 ghost use lib.Dec.{eqb};
 ghost use lib.ListN.{length};
 ghost use lib.Seq.{sets};
-ghost use Rattle.gates.specs.Memory.{wordsOf, gatesOf, accepted};
+ghost use Rattle.gates.specs.Memory.{wordsOf};
 ghost use Rattle.netlist.specs.Arrays as Arrays;
-ghost use Rattle.netlist.specs.Arrays.{cell, Below};
+ghost use Rattle.netlist.specs.Arrays.{cell, inArray, Below};
+ghost use Rattle.generator.specs.Storing as Storing;
+ghost use Rattle.generator.specs.Storing.{gatesIn, tidy, Fits};
 
 // A word as an index.
 fn wide(x: u32) -> usize
@@ -43,28 +46,29 @@ fn second(kind: u32, x: u32, base: u32, slots: [u32; 8]) -> u32
 }
 
 // Writes a template's gates, the first of which drives wire `base`.
-pub(crate) fn place(words: &mut [u32], inputs: u32, base: u32, template: &[u32], slots: [u32; 8])
-    requires { ⌜ accepted 8 (now template) ≡ true ⌝ }
-    requires { ⌜ (inputs ≤ base) × (base + length (now template) ≤ 4294967287) ⌝ }
-    requires { ⌜ 3 * (base - inputs) + length (now template) ≤ length (now words) ⌝ }
-    ensures { λ _. ⌜ now (words .exit) ≡ sets (now (words .entry)) (3 * (base - inputs)) (wordsOf (cell slots base (gatesOf (now (template .entry))))) ⌝ }
+fn place(words: &mut [u32], inputs: u32, base: u32, template: &[u32], slots: [u32; 8])
+    requires { ⌜ tidy (now template) ≡ true ⌝ }
+    requires { ⌜ (inputs ≤ base) × (base ≤ 33554432) ⌝ }
+    requires { ⌜ 3 * (base - inputs) + 3 * length (now template) ≤ length (now words) ⌝ }
+    ensures { λ _. ⌜ now (words .exit) ≡ sets (now (words .entry)) (3 * (base - inputs)) (wordsOf (cell slots base (gatesIn (now (template .entry))))) ⌝ }
 {
     let mut p = 3 * wide(base - inputs);
     let mut i = 0;
     while i < template.len() {
-        let k = template[i];
-        let a = operand(template[i + 1], base, slots);
-        let b = second(k, template[i + 2], base, slots);
+        let g = template[i];
+        let k = g / 10000;
+        let a = operand(g / 100 % 100, base, slots);
+        let b = second(k, g % 100, base, slots);
         words[p] = k;
         words[p + 1] = a;
         words[p + 2] = b;
-        i += 3;
+        i += 1;
         p += 3;
     }
 }
 
 // The slots after i steps.
-pub(crate) fn along(slots: [u32; 8], steps: [u32; 8], i: u32) -> [u32; 8]
+fn along(slots: [u32; 8], steps: [u32; 8], i: u32) -> [u32; 8]
     requires { ⌜ (Below 33554432 slots) × (Below 65536 steps) × (i ≤ 256) ⌝ }
     ensures { λ r. ⌜ r ≡ Arrays.along slots steps i ⌝ }
 {
@@ -78,22 +82,22 @@ pub(crate) fn along(slots: [u32; 8], steps: [u32; 8], i: u32) -> [u32; 8]
 }
 
 // n cells, each with its slots a step on.
-pub(crate) fn cells(
+fn cells(
     words: &mut [u32],
     inputs: u32,
     base: u32,
     template: &[u32],
-    size: u32,
     n: u32,
     slots: [u32; 8],
     steps: [u32; 8],
 )
-    requires { ⌜ (accepted 8 (now template) ≡ true) × (size ≡ length (gatesOf (now template))) × (size ≤ 16) ⌝ }
+    requires { ⌜ (tidy (now template) ≡ true) × (length (now template) ≤ 16) ⌝ }
     requires { ⌜ (n ≤ 256) × (inputs ≤ base) × (base ≤ 16777216) ⌝ }
     requires { ⌜ (Below 33554432 slots) × (Below 65536 steps) ⌝ }
-    requires { ⌜ 3 * (base - inputs) + 3 * (size * n) ≤ length (now words) ⌝ }
-    ensures { λ _. ⌜ now (words .exit) ≡ sets (now (words .entry)) (3 * (base - inputs)) (wordsOf (Arrays.cells (gatesOf (now (template .entry))) slots steps base n)) ⌝ }
+    requires { ⌜ 3 * (base - inputs) + 3 * (length (now template) * n) ≤ length (now words) ⌝ }
+    ensures { λ _. ⌜ now (words .exit) ≡ sets (now (words .entry)) (3 * (base - inputs)) (wordsOf (Arrays.cells (gatesIn (now (template .entry))) slots steps base n)) ⌝ }
 {
+    let size = template.len() as u32;
     let mut at = base;
     let mut i = 0;
     while i < n {
@@ -105,63 +109,54 @@ pub(crate) fn cells(
 }
 
 // Gates that are 0, then n cells.
-pub(crate) fn line(
+fn line(
     words: &mut [u32],
     inputs: u32,
     base: u32,
     zeros: u32,
     template: &[u32],
-    size: u32,
     n: u32,
     slots: [u32; 8],
     steps: [u32; 8],
 )
-    requires { ⌜ (accepted 8 (now template) ≡ true) × (size ≡ length (gatesOf (now template))) × (size ≤ 16) ⌝ }
+    requires { ⌜ (tidy (now template) ≡ true) × (length (now template) ≤ 16) ⌝ }
     requires { ⌜ (zeros ≤ 4) × (n ≤ 256) × (inputs ≤ base) × (base ≤ 8388608) ⌝ }
     requires { ⌜ (Below 33554432 slots) × (Below 65536 steps) ⌝ }
-    requires { ⌜ 3 * (base - inputs) + 3 * (zeros + size * n) ≤ length (now words) ⌝ }
-    ensures { λ _. ⌜ now (words .exit) ≡ sets (now (words .entry)) (3 * (base - inputs)) (wordsOf (Arrays.line zeros (gatesOf (now (template .entry))) slots steps base n)) ⌝ }
+    requires { ⌜ 3 * (base - inputs) + 3 * (zeros + length (now template) * n) ≤ length (now words) ⌝ }
+    ensures { λ _. ⌜ now (words .exit) ≡ sets (now (words .entry)) (3 * (base - inputs)) (wordsOf (Arrays.line zeros (gatesIn (now (template .entry))) slots steps base n)) ⌝ }
 {
-    cells(
-        words,
-        inputs,
-        base,
-        &templates::SUM,
-        1,
-        zeros,
-        [0; 8],
-        [0; 8],
-    );
-    cells(words, inputs, base + zeros, template, size, n, slots, steps);
+    cells(words, inputs, base, &templates::SUM, zeros, [0; 8], [0; 8]);
+    cells(words, inputs, base + zeros, template, n, slots, steps);
 }
 
-// m lines, each with its slots a step on.
-pub(crate) fn array(
-    words: &mut [u32],
-    inputs: u32,
-    base: u32,
-    zeros: u32,
-    template: &[u32],
-    size: u32,
-    m: u32,
-    n: u32,
-    slots: [u32; 8],
-    outer: [u32; 8],
-    inner: [u32; 8],
-)
-    requires { ⌜ (accepted 8 (now template) ≡ true) × (size ≡ length (gatesOf (now template))) × (size ≤ 16) ⌝ }
-    requires { ⌜ (zeros ≤ 4) × (m ≤ 256) × (n ≤ 256) × (inputs ≤ base) × (base ≤ 1048576) ⌝ }
-    requires { ⌜ (Below 16777216 slots) × (Below 65536 outer) × (Below 65536 inner) ⌝ }
-    requires { ⌜ 3 * (base - inputs) + 3 * ((zeros + size * n) * m) ≤ length (now words) ⌝ }
-    ensures { λ _. ⌜ now (words .exit) ≡ sets (now (words .entry)) (3 * (base - inputs)) (wordsOf (Arrays.array zeros (gatesOf (now (template .entry))) slots outer inner base m n)) ⌝ }
+// A section's lines, each with its slots a step on.
+fn array(words: &mut [u32], inputs: u32, template: &[u32], s: Section)
+    requires { ⌜ (tidy (now template) ≡ true) × (length (now template) ≡ s .size) ⌝ }
+    requires { ⌜ Fits inputs s (length (now words)) ⌝ }
+    ensures { λ _. ⌜ now (words .exit) ≡ sets (now (words .entry)) (3 * (s .base - inputs)) (wordsOf (inArray (gatesIn (now (template .entry))) s)) ⌝ }
 {
-    let row = zeros + size * n;
-    let mut at = base;
+    let zeros = s.zeros;
+    let n = s.cells;
+    let m = s.lines;
+    let slots = s.slots;
+    let outer = s.outer;
+    let inner = s.inner;
+    let row = zeros + s.size * n;
+    let mut at = s.base;
     let mut j = 0;
     while j < m {
         let here = along(slots, outer, j);
-        line(words, inputs, at, zeros, template, size, n, here, inner);
+        line(words, inputs, at, zeros, template, n, here, inner);
         at += row;
         j += 1;
     }
+}
+
+// A section, whose template ends before gate `end` of all templates.
+pub(crate) fn section(words: &mut [u32], inputs: u32, first: usize, end: usize, s: Section)
+    requires { ⌜ (first ≡ s .template) × (end ≡ s .template + s .size) ⌝ }
+    requires { ⌜ Fits inputs s (length (now words)) ⌝ }
+    ensures { λ _. ⌜ now (words .exit) ≡ sets (now (words .entry)) (3 * (s .base - inputs)) (wordsOf (Storing.gatesOf s)) ⌝ }
+{
+    array(words, inputs, &templates::TEMPLATES[first..end], s);
 }

@@ -1,22 +1,22 @@
 // The generator of the giant step's circuit (document 01, "Circuit"). Turned back: 1, 2, 7.
-mod addresses;
 mod cells;
-mod changing;
-mod choosing;
-mod judging;
-mod outputs;
 mod templates;
 
 use dimensions::Dimensions;
 use refusals::Outcome;
 use refusals::Refusal;
+use sections::Addresses;
+use sections::Section;
 ghost use mathlib.Core.Path.{_≡_};
 ghost use Prim.Native.Nat.{_+_, _*_, _≤_};
 ghost use lib.ListN.{length};
 ghost use lib.Seq.{sets};
 ghost use Rattle.gates.specs.Memory.{wordsOf};
-ghost use Rattle.netlist.specs.Netlist as Netlist;
+ghost use Rattle.dimensions.specs.Sizes.{rowCount, ceiling};
+ghost use Rattle.sections.specs.Addressing.{addressesOn};
+ghost use Rattle.netlist.specs.Arrays.{rows};
 ghost use Rattle.netlist.specs.Netlist.{circuit};
+ghost use Rattle.generator.specs.Storing.{gatesAt};
 ghost use Rattle.generator.specs.Generation as Generation;
 ghost use Rattle.generator.specs.Generation.{written, Carried};
 
@@ -40,22 +40,34 @@ pub fn generate(d: Dimensions, words: &mut [u32]) -> Generated
     if words.len() < 3 * d.ceiling() {
         return Generated::Refused(Refusal::GateBuffer);
     }
-    Generated::Of(write(words, d.n as u32, d.left as u32 + d.right as u32))
+    Generated::Of(write(words, d))
 }
 
-// Writes the circuit of n variables and m rows, and says how many gates it has.
-fn write(words: &mut [u32], n: u32, m: u32) -> usize
-    requires { ⌜ (n ≤ 32) × (m ≤ 256) × (3 * (64 * (m + n + 1) * (n + 1)) ≤ length (now words)) ⌝ }
-    ensures { λ r. ⌜ r ≡ length (circuit (Netlist.addresses n m)) ⌝ }
-    ensures { λ _. ⌜ now (words .exit) ≡ sets (now (words .entry)) 0 (wordsOf (circuit (Netlist.addresses n m))) ⌝ }
+// Writes the circuit, and says how many gates it has.
+fn write(words: &mut [u32], d: Dimensions) -> usize
+    requires { ⌜ (d .n ≤ 32) × (rowCount d ≤ 256) × (3 * ceiling d ≤ length (now words)) ⌝ }
+    ensures { λ r. ⌜ r ≡ length (circuit (addressesOn d)) ⌝ }
+    ensures { λ _. ⌜ now (words .exit) ≡ sets (now (words .entry)) 0 (wordsOf (circuit (addressesOn d))) ⌝ }
 {
-    let a = addresses::addresses(n, m);
-    let wires = a.wires;
+    let a = Addresses::of(d);
     let inputs = a.inputs;
-    let gates = (wires - inputs) as usize;
-    judging::judging(words, a);
-    choosing::choosing(words, a);
-    changing::changing(words, a);
-    outputs::outputs(words, a);
-    gates
+    let gates = a.wires - inputs;
+    sections(words, d, inputs, 19 + d.n as u32);
+    gates as usize
+}
+
+// Writes the first `count` sections of the circuit.
+fn sections(words: &mut [u32], d: Dimensions, inputs: u32, count: u32)
+    requires { ⌜ (d .n ≤ 32) × (rowCount d ≤ 256) × (3 * ceiling d ≤ length (now words)) ⌝ }
+    requires { ⌜ (inputs ≡ addressesOn d .inputs) × (count ≤ 19 + d .n) ⌝ }
+    ensures { λ _. ⌜ now (words .exit) ≡ sets (now (words .entry)) 0 (wordsOf (rows (gatesAt d) count)) ⌝ }
+{
+    let mut k = 0;
+    while k < count {
+        let s = Section::at(d, k);
+        let first = s.template as usize;
+        let end = first + s.size as usize;
+        cells::section(words, inputs, first, end, s);
+        k += 1;
+    }
 }

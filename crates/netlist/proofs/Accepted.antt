@@ -9,10 +9,12 @@ use native.Mathlib.Omega.{arith}
 use lib.ListN.{length}
 use Rattle.gates.specs.Gates.{Gate}
 use Rattle.gates.proofs.Circuits.{ordered}
-use Rattle.netlist.specs.declared.Addresses.{Addresses}
+use Rattle.sections.specs.declared.Addresses.{Addresses}
+use Rattle.sections.specs.Sections as Sections
 use Rattle.netlist.specs.Templates as Templates
 use Rattle.netlist.specs.Arrays.{none, rows}
-use Rattle.netlist.specs.Netlist.{addresses, zeroGate, variables, literals, scan, weights, picks, lowest, ruleSlots, rule, selects, selectLine, selectEnd, levels, levelsT, levelsF, levelsV, assignments, assignT, assignF, depths, nextAssignment, nextDepth, nextLevel, standingSlots, nextStanding, judging, choosing, changing, outputs, circuit}
+use Rattle.sections.specs.Addressing.{addresses}
+use Rattle.netlist.specs.Netlist.{zeroGate, variables, literals, scan, weights, picks, lowest, rule, selects, selectLine, selectEnd, levels, levelsT, levelsF, levelsV, assignments, assignT, assignF, depths, nextAssignment, nextDepth, nextLevel, nextStanding, judging, choosing, changing, outputs, circuit}
 use Rattle.netlist.proofs.Arrays.{append-ordered, rows-ordered, cell-ordered, cells-ordered, zeros-ordered, line-ordered, array-ordered}
 use Rattle.netlist.proofs.Counts.{variables-length, literals-length, scan-length, picks-length, lowest-length, select-line-length, levelsT-length, levelsF-length, levelsV-length, assignT-length, assignF-length, next-assignment-length, next-depth-length, next-level-length, next-levels-length, judging-length, choosing-length, changing-length}
 
@@ -54,7 +56,7 @@ module _ (n m : ℕ) where
 
   rule-ordered : ordered (a .rule) (rule a) ≡ true
   unfolding ordered
-  rule-ordered = cell-ordered (ruleSlots a) (a .rule) refl (omega arith) Templates.rule refl
+  rule-ordered = cell-ordered (Sections.rule a .slots) (a .rule) refl (omega arith) Templates.rule refl
 
   select-line-ordered : ordered (a .selects) (selectLine a) ≡ true
   unfolding ordered
@@ -116,7 +118,7 @@ module _ (n m : ℕ) where
 
   next-standing-ordered : ordered (a .outputs + 3 * n + 1 + 3 * n * n) (nextStanding a) ≡ true
   unfolding ordered
-  next-standing-ordered = cell-ordered (standingSlots a) _ refl (omega arith) Templates.standing refl
+  next-standing-ordered = cell-ordered (Sections.nextStanding a .slots) _ refl (omega arith) Templates.standing refl
 
   -- ---- one section behind the other
 

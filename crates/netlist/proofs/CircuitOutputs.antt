@@ -18,9 +18,10 @@ use Rattle.wires.specs.Bits.{bitsIn, inOrder}
 use Rattle.wires.specs.Bits.{stateAt}
 use Rattle.wires.proofs.Series.{upto-more}
 use Rattle.wires.proofs.Addresses.{Same, positive-at, negative-at, rows-past, state-at, state-row}
-use Rattle.netlist.specs.declared.Addresses.{Addresses}
+use Rattle.sections.specs.declared.Addresses.{Addresses}
 use Rattle.netlist.specs.Outputs.{outputBits}
-use Rattle.netlist.specs.Netlist.{addresses, circuit}
+use Rattle.sections.specs.Addressing.{addresses}
+use Rattle.netlist.specs.Netlist.{circuit}
 use Rattle.netlist.proofs.Equations.{Wires, Inputs, Cells}
 use Rattle.netlist.proofs.GiantStep.{circuit-steps}
 use Rattle.netlist.proofs.LastWires.{wires-behind, last-wires}

@@ -6,10 +6,12 @@ use Prim.Native.Nat.{ℕ, _+_, _*_, _≤_}
 use native.Mathlib.Omega.{arith}
 use lib.ListN.{length}
 use Rattle.gates.specs.Gates.{Gate}
-use Rattle.netlist.specs.declared.Addresses.{Addresses}
+use Rattle.sections.specs.declared.Addresses.{Addresses}
+use Rattle.sections.specs.Sections as Sections
 use Rattle.netlist.specs.Templates as Templates
 use Rattle.netlist.specs.Arrays.{none, rows}
-use Rattle.netlist.specs.Netlist.{addresses, zeroGate, variables, literals, scan, weights, picks, lowest, ruleSlots, rule, selects, selectLine, levels, levelsT, levelsF, levelsV, assignments, assignT, assignF, nextAssignment, nextDepth, nextLevel, standingSlots, judging, choosing, changing, outputs, circuit, gatesFor}
+use Rattle.sections.specs.Addressing.{addresses}
+use Rattle.netlist.specs.Netlist.{zeroGate, variables, literals, scan, weights, picks, lowest, rule, selects, selectLine, levels, levelsT, levelsF, levelsV, assignments, assignT, assignF, nextAssignment, nextDepth, nextLevel, judging, choosing, changing, outputs, circuit, gatesFor}
 use Rattle.netlist.proofs.Sizes.{Count, allGates, ands, andGates, rows-count, cells-count, line-count, array-count}
 
 module _ (a : Addresses) where
@@ -101,7 +103,7 @@ module _ (a : Addresses) where
     choosing-count =
         join (picks a) _ _ _ (array-count c 1 Templates.pick _ _ _ _ _ _)
         (join (lowest a) _ _ _ (line-count c 1 Templates.lowest _ _ _ _)
-        (join (rule a) (selects a) _ _ (c .of-cell (ruleSlots a) (a .rule) Templates.rule)
+        (join (rule a) (selects a) _ _ (c .of-cell (Sections.rule a .slots) (a .rule) Templates.rule)
         (join (selectLine a) _ _ _ (line-count c 2 Templates.select _ _ _ _) (cells-count c Templates.sum _ _ _ 2))))
 
     changing-count : c .of (changing a)
@@ -121,7 +123,7 @@ module _ (a : Addresses) where
         (join (nextDepth a) _ _ _ (cells-count c Templates.sum _ _ _ (n + 1))
         (join (rows (nextLevel a) n) _ _ _
         (rows-count c (nextLevel a) (inLine 0 Templates.sum n * 3) (λ l. array-count c 0 Templates.sum _ _ _ _ 3 n) n)
-        (c .of-cell (standingSlots a) (a .outputs + 3 * n + 1 + 3 * n * n) Templates.standing)))
+        (c .of-cell (Sections.nextStanding a .slots) (a .outputs + 3 * n + 1 + 3 * n * n) Templates.standing)))
 
     circuit-count : c .of (circuit a) ≡ c .of (judging a) + (c .of (choosing a) + (c .of (changing a) + c .of (outputs a)))
     circuit-count =

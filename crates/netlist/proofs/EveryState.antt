@@ -27,7 +27,8 @@ use Rattle.wires.specs.Layout.{stateBits}
 use Rattle.wires.specs.Packing.{inputBits}
 use Rattle.wires.proofs.Lengths.{both-length, input-length, state-length}
 use Rattle.netlist.specs.Outputs.{closed, outputBits, outputsIn, CarriesOut}
-use Rattle.netlist.specs.Netlist.{addresses, circuit, gatesFor, gatesOn}
+use Rattle.sections.specs.Addressing.{addresses}
+use Rattle.netlist.specs.Netlist.{circuit, gatesFor, gatesOn}
 use Rattle.netlist.proofs.Counts.{circuit-length, gates-length}
 use Rattle.netlist.proofs.Accepted.{circuit-ordered}
 use Rattle.netlist.proofs.CircuitOutputs.{circuit-outputs}

@@ -7,9 +7,10 @@ use Prim.Native.Nat.{ℕ, _+_, _*_, _<_}
 use native.Mathlib.Omega.{arith}
 use lib.ListN.{length}
 use Rattle.gates.specs.Gates.{Gate}
-use Rattle.netlist.specs.declared.Addresses.{Addresses}
+use Rattle.sections.specs.declared.Addresses.{Addresses}
 use Rattle.netlist.specs.Arrays.{rows}
-use Rattle.netlist.specs.Netlist.{addresses, zeroGate, variables, literals, scan, weights, picks, lowest, rule, selects, selectLine, selectEnd, levelsT, levelsF, levelsV, assignT, assignF, depths, nextAssignment, nextDepth, nextLevel, nextStanding, judging, choosing, changing, outputs, circuit}
+use Rattle.sections.specs.Addressing.{addresses}
+use Rattle.netlist.specs.Netlist.{zeroGate, variables, literals, scan, weights, picks, lowest, rule, selects, selectLine, selectEnd, levelsT, levelsF, levelsV, assignT, assignF, depths, nextAssignment, nextDepth, nextLevel, nextStanding, judging, choosing, changing, outputs, circuit}
 use Rattle.netlist.proofs.Values.{Holds, holds-left, holds-right, holds-rows}
 use Rattle.netlist.proofs.Counts.{variables-length, literals-length, scan-length, picks-length, lowest-length, select-line-length, levelsT-length, levelsF-length, levelsV-length, assignT-length, assignF-length, next-assignment-length, next-depth-length, next-level-length, next-levels-length, judging-length, choosing-length, changing-length}
 

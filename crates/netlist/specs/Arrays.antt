@@ -4,6 +4,7 @@ use mathlib.Core.List.{List, [], _∷_, _++_, map}
 use Prim.Native.Nat.{ℕ, zero, suc, _+_, _*_, _-_, _<_}
 use lib.ListN.{length, getD}
 use lib.Dec.{ltb}
+use Rattle.sections.specs.declared.Section.{Section}
 use Rattle.gates.specs.Gates.{Gate}
 use Rattle.gates.specs.Gates.Gate.{XOR, AND, INV}
 use Rattle.netlist.specs.Templates.{sum}
@@ -48,6 +49,19 @@ line z t slots steps b n = cells sum none none b z ++ cells t slots steps (b + z
 -- m lines
 unfoldable pub array : ℕ → List Gate → List ℕ → List ℕ → List ℕ → ℕ → ℕ → ℕ → List Gate
 array z t slots outer inner b m n = rows (λ i. line z t (along slots outer i) inner (b + (z + length t * n) * i) n) m
+
+-- a section's gates, with each cell this template: one cell, cells, a line, lines
+abbrev pub oneCell : List Gate → Section → List Gate
+oneCell t s = cell (s .slots) (s .base) t
+
+abbrev pub inCells : List Gate → Section → List Gate
+inCells t s = cells t (s .slots) (s .inner) (s .base) (s .cells)
+
+abbrev pub inLine : List Gate → Section → List Gate
+inLine t s = line (s .zeros) t (s .slots) (s .inner) (s .base) (s .cells)
+
+abbrev pub inArray : List Gate → Section → List Gate
+inArray t s = array (s .zeros) t (s .slots) (s .outer) (s .inner) (s .base) (s .lines) (s .cells)
 
 -- every slot is below k
 abbrev pub Below : ℕ → List ℕ → Type 0

@@ -33,32 +33,20 @@ returns-2 c =
     refuse-buffer (a .d) (a .words .now) (sym (c .before .before .before .before .check .ensures) ∙ c .before .before .enum-told .given .1)
     (rw (c .before .ceiling .ensures) at (c .if1 .taken))
 
-cast-write : tie.Need-cast-write
-cast-write c = search needs
-
-cast-write-2 : tie.Need-cast-write-2
-cast-write-2 c = search needs
-
-cast-write-3 : tie.Need-cast-write-3
-cast-write-3 c = search needs
-
-add-write : tie.Need-add-write
-add-write c = search needs
-
 write-requires : tie.Need-write-requires
 write-requires c κs =
-    let a = c .before .before .before .before .before .before .before .before .before .before .args in
-    let t = small (a .d .n) (a .d .left) (a .d .right) (sym (c .before .before .before .before .before .before .before .before .check .ensures) ∙ c .before .before .before .before .before .before .enum-told .given .1) in
-    (t .0, t .1, rw (c .before .before .before .before .before .ceiling .ensures) at (c .before .before .before .before .if1 .left))
+    let a = c .before .before .before .before .before .before .before .args in
+    let t = small (a .d .n) (a .d .left) (a .d .right) (sym (c .before .before .before .before .before .check .ensures) ∙ c .before .before .before .enum-told .given .1) in
+    (t .0, t .1, rw (c .before .before .ceiling .ensures) at (c .before .if1 .left))
 
 same-length : tie.Need-same-length
 same-length c = search needs
 
 returns-3 : tie.Need-returns-3
 returns-3 c =
-    let a = c .before .before .before .before .before .before .before .before .before .before .before .before .before .args in
-    taken (a .d) (a .words .now) (sym (c .before .before .before .before .before .before .before .before .before .before .before .check .ensures) ∙ c .before .before .before .before .before .before .before .before .before .enum-told .given .1)
-    (rw (c .before .before .before .before .before .before .before .before .ceiling .ensures) at (c .before .before .before .before .before .before .before .if1 .left)) _ _ (c .before .before .write .ensures .0) (c .before .before .write .ensures .1)
+    let a = c .before .before .before .before .before .before .before .before .before .before .args in
+    taken (a .d) (a .words .now) (sym (c .before .before .before .before .before .before .before .before .check .ensures) ∙ c .before .before .before .before .before .before .enum-told .given .1)
+    (rw (c .before .before .before .before .before .ceiling .ensures) at (c .before .before .before .before .if1 .left)) _ _ (c .before .before .write .ensures .0) (c .before .before .write .ensures .1)
 
 pub generate-spec : {M : Type 1} → statement M
 generate-spec =
@@ -71,10 +59,6 @@ generate-spec =
     ceiling-requires
     mul-if1
     returns-2
-    cast-write
-    cast-write-2
-    cast-write-3
-    add-write
     write-requires
     same-length
     returns-3)

@@ -1,69 +1,58 @@
--- `write` meets its contract: the four groups are the circuit, and its wires without the inputs are its gates.
+-- `write` meets its contract: all sections are the circuit, and its wires without the inputs are its gates.
 -- Assumes nothing.
-use mathlib.Core.Path.{_∙_}
+use mathlib.Core.Path.{refl, ap, _∙_}
+use mathlib.Core.List.{List}
+use Prim.Native.Nat.{_+_}
 use native.Mathlib.Omega.{arith}
-use Rattle.generator.proofs.Room.{start, in-order, still}
-use Rattle.generator.proofs.Groups.{circuit-stored}
+use lib.Seq.{sets}
+use Rattle.gates.specs.Gates.{Gate}
+use Rattle.gates.specs.Memory.{wordsOf}
+use Rattle.sections.specs.declared.Addresses.{Addresses}
+use Rattle.generator.proofs.Circuit.{all-sections}
+use Rattle.generator.proofs.Room.{wires-few}
 use Rattle.generator.proofs.Generating.{counted}
 use borrow.Author.Needs.{needs}
 use Rattle.generator.proofs.write.Statement.{statement}
 use Rattle.generator.proofs.write.Tie as tie
 
-addresses-requires : tie.Need-addresses-requires
-addresses-requires c κs = let s = c .before in (s .pre .0, s .pre .1)
+of-requires : tie.Need-of-requires
+of-requires c κs = search needs
 
 sub-gates : tie.Need-sub-gates
 sub-gates c =
-    let s = c .before .before in
-    omega (arith, in-order (s .args .n) (s .args .m) _ (c .addresses .ensures))
-
-cast-gates : tie.Need-cast-gates
-cast-gates c = search needs
-
-judging-requires : tie.Need-judging-requires
-judging-requires c κs =
     let s = c .before .before .before in
-    start (s .args .n) (s .args .m) (s .args .words .now) _ (c .before .addresses .ensures) (s .pre .0) (s .pre .1) (s .pre .2)
+    let d = s .args .d in
+    omega (arith, wires-few (d .n) (d .left + d .right) (s .pre .0) (s .pre .1) _ (c .before .of .ensures))
 
-choosing-requires : tie.Need-choosing-requires
-choosing-requires c κs =
-    let s = c .before .before .before .before .before .before .before in
-    still _ (s .args .words .now) _ (start (s .args .n) (s .args .m) (s .args .words .now) _ (c .before .before .before .before .before .addresses .ensures) (s .pre .0) (s .pre .1) (s .pre .2))
-    (c .before .before .before .judging .kept .0)
+cast-sections : tie.Need-cast-sections
+cast-sections c = search needs
 
-changing-requires : tie.Need-changing-requires
-changing-requires c κs =
-    let s = c .before .before .before .before .before .before .before .before .before .before .before in
-    still _ (s .args .words .now) _ (start (s .args .n) (s .args .m) (s .args .words .now) _ (c .before .before .before .before .before .before .before .before .before .addresses .ensures) (s .pre .0) (s .pre .1) (s .pre .2))
-    (c .before .before .before .choosing .kept .0 ∙ c .before .before .before .before .before .before .before .judging .kept .0)
+add-sections : tie.Need-add-sections
+add-sections c = search needs
 
-outputs-requires : tie.Need-outputs-requires
-outputs-requires c κs =
-    let s = c .before .before .before .before .before .before .before .before .before .before .before .before .before .before .before in
-    still _ (s .args .words .now) _ (start (s .args .n) (s .args .m) (s .args .words .now) _ (c .before .before .before .before .before .before .before .before .before .before .before .before .before .addresses .ensures) (s .pre .0) (s .pre .1) (s .pre .2))
-    (c .before .before .before .changing .kept .0 ∙ c .before .before .before .before .before .before .before .choosing .kept .0 ∙ c .before .before .before .before .before .before .before .before .before .before .before .judging .kept .0)
+sections-requires : tie.Need-sections-requires
+sections-requires c κs =
+    let s = c .before .before .before .before .before in
+    ((s .pre .0, s .pre .1, s .pre .2), (ap (λ (a : Addresses). a .inputs) (c .before .before .before .of .ensures), omega arith))
+
+cast-result : tie.Need-cast-result
+cast-result c =
+    let s = c .before .before .before .before .before .before .before .before in
+    let d = s .args .d in
+    omega (arith, wires-few (d .n) (d .left + d .right) (s .pre .0) (s .pre .1) _ (c .before .before .before .before .before .before .of .ensures))
 
 same-length : tie.Need-same-length
-same-length c = c .before .before .outputs .kept .0 ∙ c .before .before .before .before .before .before .changing .kept .0 ∙ c .before .before .before .before .before .before .before .before .before .before .choosing .kept .0 ∙ c .before .before .before .before .before .before .before .before .before .before .before .before .before .before .judging .kept .0
+same-length c = search needs
 
 returns : tie.Need-returns
 returns c =
-    let s = c .before .before .before .before .before .before .before .before .before .before .before .before .before .before .before .before .before .before in (
-      counted (s .args .n) (s .args .m) _ (c .before .before .before .before .before .before .before .before .before .before .before .before .before .before .before .before .addresses .ensures),
-      circuit-stored (s .args .n) (s .args .m) _ (c .before .before .before .before .before .before .before .before .before .before .before .before .before .before .before .before .addresses .ensures) (s .args .words .now) _ _ _ _
-          (c .before .before .before .before .before .before .before .before .before .before .before .before .before .before .judging .ensures) (c .before .before .before .before .before .before .before .before .before .before .choosing .ensures) (c .before .before .before .before .before .before .changing .ensures) (c .before .before .outputs .ensures),
+    let s = c .before .before .before .before .before .before .before .before in
+    let d = s .args .d in (
+      counted (d .n) (d .left + d .right) _ (c .before .before .before .before .before .before .of .ensures),
+      c .before .before .sections .ensures ∙ ap (λ (l : List Gate). sets (s .args .words .now) 0 (wordsOf l)) (all-sections (d .n) (d .left + d .right) (19 + d .n) refl),
     )
 
 pub write-spec : {M : Type 1} → statement M
 write-spec =
     tie.close
-    (tie.spec
-    addresses-requires
-    sub-gates
-    cast-gates
-    judging-requires
-    choosing-requires
-    changing-requires
-    outputs-requires
-    same-length
-    returns)
+    (tie.spec of-requires sub-gates cast-sections add-sections sections-requires cast-result same-length returns)

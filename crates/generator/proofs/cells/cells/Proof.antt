@@ -1,27 +1,30 @@
 -- `cells` meets its contract: each turn places one more cell behind those that stand.
 -- Assumes nothing.
 use borrow.Author.Needs.{needs}
-use mathlib.Core.Path.{_≡_, refl, ap}
+use mathlib.Core.Path.{_≡_, refl, ap, sym}
 use Prim.Native.Nat.{_+_, _*_, _-_, _≤_}
 use native.Mathlib.Omega.{arith}
-use lib.ListN.{length}
+use lib.ListN.{length, length-map}
 use lib.Seq.{sets, length-sets}
-use Rattle.gates.specs.Memory.{wordsOf, gatesOf}
-use Rattle.gates.proofs.InMemory.{accepted-length}
+use Rattle.gates.specs.Memory.{wordsOf}
 use Rattle.netlist.specs.Arrays.{cells}
+use Rattle.generator.specs.Storing.{gatesIn}
 use Rattle.generator.proofs.Placing.{cells-more, turns}
 use Rattle.generator.proofs.cells.cells.Statement.{statement}
 use Rattle.generator.proofs.cells.cells.Tie as tie
 
 abbrev Inv-loop : tie.InvT-loop
-Inv-loop words₀ inputs base template size n slots steps at₀ i₀ words at i =
-    (i ≤ n) × (at ≡ base + size * i) × (words ≡ sets words₀ (3 * (base - inputs)) (wordsOf (cells (gatesOf template) slots steps base i)))
+Inv-loop words₀ inputs base template n slots steps size at₀ i₀ words at i =
+    (i ≤ n) × (at ≡ base + length template * i) × (words ≡ sets words₀ (3 * (base - inputs)) (wordsOf (cells (gatesIn template) slots steps base i)))
 
 abbrev μ-loop : tie.MeasureT-loop
-μ-loop words₀ inputs base template size n slots steps at₀ i₀ words at i = n - i
+μ-loop words₀ inputs base template n slots steps size at₀ i₀ words at i = n - i
 
 kept : (c : tie.At-loop Inv-loop μ-loop) → length (c .loop .words) ≡ length (c .before .before .before .args .words .now)
 kept c = simp length-sets at (ap length (c .loop .inv .2))
+
+cast-size : tie.Need-cast-size Inv-loop μ-loop
+cast-size c = search needs
 
 loop-holds : tie.Need-loop-holds Inv-loop μ-loop
 unfolding wordsOf cells
@@ -35,15 +38,14 @@ place-requires c κs =
     let l = c .before .before .before in
     let s = l .before .before .before in
     let k = kept l in
-    let t = turns (s .args .size) (s .args .n) (l .loop .i) 16 256 (s .pre .0 .2) (s .pre .1 .0 .0) (c .before .before .loop-test .taken) in
-    let e = accepted-length 8 (s .args .template .now) (s .pre .0 .0) in
+    let t = turns (length (s .args .template .now)) (s .args .n) (l .loop .i) 16 256 (s .pre .0 .1) (s .pre .1 .0 .0) (c .before .before .loop-test .taken) in
     (s .pre .0 .0, ((omega arith, omega arith), omega arith))
 
 add-at : tie.Need-add-at Inv-loop μ-loop
 add-at c =
     let l = c .before .before .before .before .before .before in
     let s = l .before .before .before in
-    let t = turns (s .args .size) (s .args .n) (l .loop .i) 16 256 (s .pre .0 .2) (s .pre .1 .0 .0) (c .before .before .before .before .before .loop-test .taken) in
+    let t = turns (length (s .args .template .now)) (s .args .n) (l .loop .i) 16 256 (s .pre .0 .1) (s .pre .1 .0 .0) (c .before .before .before .before .before .loop-test .taken) in
     omega arith
 
 add-i : tie.Need-add-i Inv-loop μ-loop
@@ -58,8 +60,8 @@ loop-again c =
     let s = l .before .before .before in (
       omega arith,
       omega arith,
-      cells-more (gatesOf (s .args .template .now)) (s .args .slots) (s .args .steps) _ (s .args .base) (l .loop .at) (s .args .size) (l .loop .i) _ _ _ _ (3 * (l .loop .at - s .args .inputs))
-          (l .loop .inv .2) (s .pre .0 .1) (omega arith) (c .before .before .before .before .along .ensures) (l .loop .inv .1) (c .before .before .place .ensures),
+      cells-more (gatesIn (s .args .template .now)) (s .args .slots) (s .args .steps) _ (s .args .base) (l .loop .at) (length (s .args .template .now)) (l .loop .i) _ _ _ _ (3 * (l .loop .at - s .args .inputs))
+          (l .loop .inv .2) (sym (length-map (s .args .template .now) _)) (omega arith) (c .before .before .before .before .along .ensures) (l .loop .inv .1) (c .before .before .place .ensures),
     )
 
 same-length : tie.Need-same-length Inv-loop μ-loop
@@ -77,6 +79,7 @@ cells-spec =
     (tie.spec
     Inv-loop
     μ-loop
+    cast-size
     loop-holds
     along-requires
     place-requires

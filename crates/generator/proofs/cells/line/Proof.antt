@@ -3,7 +3,7 @@
 use mathlib.Core.Path.{refl}
 use Prim.Native.Nat.{_+_, _*_, _-_}
 use native.Mathlib.Omega.{arith}
-use Rattle.gates.specs.Memory.{gatesOf, accepted}
+use Rattle.generator.specs.Storing.{gatesIn}
 use Rattle.generator.proofs.Placing.{line-whole}
 use borrow.Author.Needs.{needs}
 use Rattle.generator.proofs.cells.line.Statement.{statement}
@@ -13,8 +13,7 @@ slice-aggregate-cells : tie.Need-slice-aggregate-cells
 slice-aggregate-cells c = search needs
 
 cells-requires : tie.Need-cells-requires
-unfolding accepted gatesOf
-cells-requires c κs = ((refl, refl, omega arith), ((omega arith, omega arith, omega arith), ((omega arith, omega arith), omega arith)))
+cells-requires c κs = ((refl, omega arith), ((omega arith, omega arith, omega arith), ((omega arith, omega arith), omega arith)))
 
 add-cells : tie.Need-add-cells
 add-cells c = search needs
@@ -23,16 +22,15 @@ cells-requires-2 : tie.Need-cells-requires-2
 cells-requires-2 c κs =
     let s = c .before .before .before .before .before .before .before .before in
     let k = c .before .before .before .cells .kept .0 in
-    ((s .pre .0 .0, s .pre .0 .1, s .pre .0 .2), ((omega arith, omega arith, omega arith), ((s .pre .1 .1 .0 .0, s .pre .1 .1 .0 .1), omega arith)))
+    ((s .pre .0 .0, s .pre .0 .1), ((omega arith, omega arith, omega arith), ((s .pre .1 .1 .0 .0, s .pre .1 .1 .0 .1), omega arith)))
 
 same-length : tie.Need-same-length
 same-length c = search needs
 
 returns : tie.Need-returns
-unfolding gatesOf
 returns c =
     let s = c .before .before .before .before .before .before .before .before .before .before .before in
-    line-whole (s .args .zeros) (gatesOf (s .args .template .now)) (s .args .slots) (s .args .steps) (s .args .base) (s .args .n) (s .args .words .now) _ _ (3 * (s .args .base - s .args .inputs)) (3 * (s .args .base + s .args .zeros - s .args .inputs))
+    line-whole (s .args .zeros) (gatesIn (s .args .template .now)) (s .args .slots) (s .args .steps) (s .args .base) (s .args .n) (s .args .words .now) _ _ (3 * (s .args .base - s .args .inputs)) (3 * (s .args .base + s .args .zeros - s .args .inputs))
     (c .before .before .before .before .before .before .cells .ensures) (omega arith) (c .before .before .cells2 .ensures)
 
 pub line-spec : {M : Type 1} → statement M

@@ -1,0 +1,93 @@
+-- `sections` meets its contract: each turn writes one more section behind those that stand.
+-- Assumes nothing.
+use borrow.Author.Needs.{needs}
+use mathlib.Core.Path.{_≡_, refl, ap}
+use Prim.Native.Nat.{_+_, _*_, _-_, _≤_}
+use native.Mathlib.Omega.{arith}
+use lib.ListN.{length}
+use lib.Seq.{sets, length-sets}
+use Rattle.gates.specs.Memory.{wordsOf}
+use Rattle.netlist.specs.Arrays.{rows}
+use Rattle.generator.specs.Storing.{gatesAt}
+use Rattle.generator.proofs.Circuit.{section-more}
+use Rattle.generator.proofs.Room.{fits}
+use Rattle.generator.proofs.sections.Statement.{statement}
+use Rattle.generator.proofs.sections.Tie as tie
+
+abbrev Inv-loop : tie.InvT-loop
+Inv-loop words₀ d inputs count k₀ words k = (k ≤ count) × (words ≡ sets words₀ 0 (wordsOf (rows (gatesAt d) k)))
+
+abbrev μ-loop : tie.MeasureT-loop
+μ-loop words₀ d inputs count k₀ words k = count - k
+
+kept : (c : tie.At-loop Inv-loop μ-loop) → length (c .loop .words) ≡ length (c .before .before .args .words .now)
+kept c = simp length-sets at (ap length (c .loop .inv .1))
+
+loop-holds : tie.Need-loop-holds Inv-loop μ-loop
+unfolding wordsOf
+loop-holds c = (omega arith, refl)
+
+at-requires : tie.Need-at-requires Inv-loop μ-loop
+at-requires c κs = search needs
+
+cast-first : tie.Need-cast-first Inv-loop μ-loop
+cast-first c = search needs
+
+cast-end : tie.Need-cast-end Inv-loop μ-loop
+cast-end c = search needs
+
+add-end : tie.Need-add-end Inv-loop μ-loop
+add-end c = search needs
+
+section-requires : tie.Need-section-requires Inv-loop μ-loop
+section-requires c κs =
+    let l = c .before .before .before .before .before in
+    let a = l .before .before in
+    let d = a .args .d in
+    let k = kept l in
+    let room : 3 * (64 * (d .left + d .right + d .n + 1) * (d .n + 1)) ≤ length (l .loop .words) = omega (arith, a .pre .0 .2) in
+    ((refl, refl), fits (d .n) (d .left + d .right) (length (l .loop .words)) (a .pre .0 .0) (a .pre .0 .1) room (a .args .inputs) (a .pre .1 .0) (l .loop .k) _ (c .before .before .before .at .ensures))
+
+add-k : tie.Need-add-k Inv-loop μ-loop
+add-k c = search needs
+
+loop-less : tie.Need-loop-less Inv-loop μ-loop
+loop-less c = search needs
+
+loop-again : tie.Need-loop-again Inv-loop μ-loop
+loop-again c =
+    let l = c .before .before .before .before .before .before .before .before in
+    let a = l .before .before in
+    let d = a .args .d in
+    let test = c .before .before .before .before .before .before .before .loop-test .taken in (
+      omega (arith, test),
+      section-more (d .n) (d .left + d .right) (l .loop .k) (omega (arith, test, a .pre .1 .1)) (a .args .inputs) (a .pre .1 .0) _ (c .before .before .before .before .before .before .at .ensures)
+          (a .args .words .now) (l .loop .words) _ (l .loop .inv .1) (c .before .before .section .ensures),
+    )
+
+same-length : tie.Need-same-length Inv-loop μ-loop
+same-length c = kept (c .before)
+
+returns : tie.Need-returns Inv-loop μ-loop
+returns c =
+    let l = c .before in
+    let e : l .loop .k ≡ l .before .before .args .count = omega arith in
+    rw e at (l .loop .inv .1)
+
+pub sections-spec : {M : Type 1} → statement M
+sections-spec =
+    tie.close
+    (tie.spec
+    Inv-loop
+    μ-loop
+    loop-holds
+    at-requires
+    cast-first
+    cast-end
+    add-end
+    section-requires
+    add-k
+    loop-less
+    loop-again
+    same-length
+    returns)

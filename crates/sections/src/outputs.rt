@@ -1,0 +1,95 @@
+// The next state and the closing wire, the last wires of the circuit.
+use crate::Addresses;
+use crate::Section;
+use crate::templates;
+ghost use mathlib.Core.Path.{_≡_};
+ghost use Prim.Native.Nat.{_*_, _≤_};
+ghost use Rattle.sections.specs.Addressing.{Small};
+ghost use Rattle.sections.specs.Sections as Sections;
+
+// The next T and F.
+pub(crate) fn next_assignment(a: Addresses) -> Section
+    requires { ⌜ Small a ⌝ }
+    ensures { λ r. ⌜ r ≡ Sections.nextAssignment a ⌝ }
+{
+    let n = a.n;
+    Section {
+        base: a.outputs,
+        zeros: 0,
+        template: templates::SUM,
+        size: 1,
+        lines: 2,
+        cells: n,
+        slots: [a.state, a.assignments + 4, 0, 0, 0, 0, 0, 0],
+        outer: [n, 5 * n, 0, 0, 0, 0, 0, 0],
+        inner: [1, 5, 0, 0, 0, 0, 0, 0],
+    }
+}
+
+// The next depth.
+pub(crate) fn next_depth(a: Addresses) -> Section
+    requires { ⌜ Small a ⌝ }
+    ensures { λ r. ⌜ r ≡ Sections.nextDepth a ⌝ }
+{
+    let n = a.n;
+    Section {
+        base: a.outputs + 2 * n,
+        zeros: 0,
+        template: templates::SUM,
+        size: 1,
+        lines: 1,
+        cells: n + 1,
+        slots: [a.state + 2 * n, a.depths + 2, 0, 0, 0, 0, 0, 0],
+        outer: [0; 8],
+        inner: [1, 3, 0, 0, 0, 0, 0, 0],
+    }
+}
+
+// Level l of the next state.
+pub(crate) fn next_level(a: Addresses, l: u32) -> Section
+    requires { ⌜ Small a × (l ≤ 255) × (3 * a .n * l ≤ 195075) ⌝ }
+    ensures { λ r. ⌜ r ≡ Sections.nextLevel a l ⌝ }
+{
+    let n = a.n;
+    Section {
+        base: a.outputs + 3 * n + 1 + 3 * n * l,
+        zeros: 0,
+        template: templates::SUM,
+        size: 1,
+        lines: 3,
+        cells: n,
+        slots: [
+            a.state + 3 * n + 1 + 3 * n * l,
+            a.levels + 3 + 4 * l,
+            0,
+            0,
+            0,
+            0,
+            0,
+            0,
+        ],
+        outer: [n, a.block, 0, 0, 0, 0, 0, 0],
+        inner: [1, 1 + 4 * n, 0, 0, 0, 0, 0, 0],
+    }
+}
+
+// The next standing, and the closing wire.
+pub(crate) fn next_standing(a: Addresses) -> Section
+    requires { ⌜ Small a × (3 * a .n * a .n ≤ 195075) ⌝ }
+    ensures { λ r. ⌜ r ≡ Sections.nextStanding a ⌝ }
+{
+    let n = a.n;
+    let e = a.standing;
+    let r = a.rule;
+    Section {
+        base: a.outputs + 3 * n + 1 + 3 * n * n,
+        zeros: 0,
+        template: templates::STANDING,
+        size: 3,
+        lines: 1,
+        cells: 1,
+        slots: [e, r + 3, e + 1, r + 5, 0, 0, 0, 0],
+        outer: [0; 8],
+        inner: [0; 8],
+    }
+}
