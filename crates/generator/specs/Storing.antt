@@ -1,13 +1,11 @@
 -- What the generator's own functions ask of templates, sections and words, and what they store.
-use mathlib.Core.Path.{_≡_}
 use mathlib.Core.Bool.{Bool, true, _&&_}
 use mathlib.Core.List.{List, [], _∷_, _++_, map}
 use Prim.Native.Nat.{ℕ, _+_, _*_, _-_, _/_, _%_, _≤_}
 use lib.Dec.{ltb}
 use lib.ListN.{take, drop}
-use lib.Seq.{sets}
 use Rattle.gates.specs.Gates.{Gate}
-use Rattle.gates.specs.Memory.{wordsOf, gateOf}
+use Rattle.gates.specs.Memory.{gateOf}
 use Rattle.dimensions.specs.declared.Dimensions.{Dimensions}
 use Rattle.sections.specs.declared.Section.{Section}
 use Rattle.sections.specs.Addressing.{addressesOn}

@@ -12,8 +12,8 @@ use Rattle.gates.specs.Gates.{Gate, wire, wiresOf}
 use Rattle.gates.proofs.Circuits.{ordered}
 use Rattle.wires.specs.Bits.{stateAt}
 use Rattle.sections.specs.declared.Addresses.{Addresses}
-use Rattle.sections.specs.Sections as Sections
 use Rattle.sections.specs.Sections.{two}
+use Rattle.sections.specs.Sections as Numbers
 use Rattle.netlist.specs.Templates as Templates
 use Rattle.netlist.specs.Arrays.{none}
 use Rattle.netlist.proofs.Equations.{Wires, Cells}
@@ -147,7 +147,7 @@ module _ (W : ℕ → Bool) (a : Addresses) where
 
     rule-gate : (k x : ℕ) → k < 14 → x ≡ a .rule + k → W x ≡ gateOn ruleWires Templates.rule k
     unfolding ordered
-    rule-gate = cell-at W Templates.rule refl (Sections.rule a .slots) (a .rule) (s .rule-holds) ruleWires (omega (arith, e)) refl
+    rule-gate = cell-at W Templates.rule refl (Numbers.rule a .slots) (a .rule) (s .rule-holds) ruleWires (omega (arith, e)) refl
 
     select-gate : (l : ℕ) → l < n → (k x : ℕ) → k < 2 → x ≡ a .selects + 2 + 2 * l + k → W x ≡ gateOn (selectWires l) Templates.select k
     unfolding ordered
@@ -170,7 +170,7 @@ module _ (W : ℕ → Bool) (a : Addresses) where
 
     standing-gate : (k x : ℕ) → k < 3 → x ≡ a .outputs + 3 * n + 1 + 3 * n * n + k → W x ≡ gateOn standingWires Templates.standing k
     unfolding ordered
-    standing-gate = cell-at W Templates.standing refl (Sections.nextStanding a .slots) (a .outputs + 3 * n + 1 + 3 * n * n) (s .next-standing-holds) standingWires (omega (arith, e)) refl
+    standing-gate = cell-at W Templates.standing refl (Numbers.nextStanding a .slots) (a .outputs + 3 * n + 1 + 3 * n * n) (s .next-standing-holds) standingWires (omega (arith, e)) refl
 
     -- ---- the outputs: a state's wire and its change
 

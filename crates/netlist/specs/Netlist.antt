@@ -1,5 +1,5 @@
 -- The circuit of the giant step for n variables and m rows: its sections, one behind the other.
-use mathlib.Core.List.{List, [], _∷_, _++_}
+use mathlib.Core.List.{List, _++_}
 use Prim.Native.Nat.{ℕ, _+_}
 use Rattle.dimensions.specs.declared.Dimensions.{Dimensions}
 use Rattle.sections.specs.declared.Addresses.{Addresses}

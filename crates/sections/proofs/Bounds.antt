@@ -1,7 +1,7 @@
 -- Sums over the addresses fit a word: each is a sum over n, m and their products, and bytes bound these.
 -- Assumes nothing.
 use mathlib.Core.Path.{_≡_, refl, sym, subst}
-use Prim.Native.Nat.{ℕ, _+_, _*_, _≤_, _<_}
+use Prim.Native.Nat.{ℕ, _*_, _≤_}
 use native.Mathlib.Nat.{mul-le-mul}
 use native.Mathlib.Omega.{arith}
 use Rattle.sections.specs.declared.Addresses.{Addresses}

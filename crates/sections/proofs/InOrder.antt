@@ -1,11 +1,10 @@
 -- Which section stands at a number: by the tests of the definition.
 -- Assumes nothing.
-use mathlib.Core.Path.{_≡_, ap, sym, _∙_}
+use mathlib.Core.Path.{_≡_}
 use Prim.Native.Nat.{ℕ, _-_, _≤_, _<_}
 use borrow.Author.Tests.{lt-ltb, le-ltb}
 use lib.ListN.{getD}
 use Rattle.sections.specs.declared.Addresses.{Addresses}
-use Rattle.sections.specs.declared.Section.{Section}
 use Rattle.sections.specs.Sections.{first, nextLevel, nextStanding, sectionAt}
 
 module _ (a : Addresses) (k : ℕ) where

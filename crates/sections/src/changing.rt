@@ -3,7 +3,6 @@ use crate::Addresses;
 use crate::Section;
 use crate::templates;
 ghost use mathlib.Core.Path.{_≡_};
-ghost use Prim.Native.Nat.{_≤_};
 ghost use Rattle.sections.specs.Addressing.{Small};
 ghost use Rattle.sections.specs.Sections as Sections;
 

@@ -65,8 +65,7 @@ fn layout(n: u32, m: u32, nm: u32, nn: u32) -> Addresses
     requires { ⌜ (n ≤ 255) × (m ≤ 510) × (nm ≤ 130050) × (nn ≤ 65025) ⌝ }
     ensures { λ r. ⌜ r ≡ addressesOf n m nm nn ⌝ }
 {
-    let state = 2 * nm;
-    let standing = state + 3 * n + 1 + 3 * nn;
+    let standing = 2 * nm + 3 * n + 1 + 3 * nn;
     let inputs = standing + 2;
     let literals = inputs + 1 + 2 * n;
     let scan = literals + 4 * m + 15 * nm;
@@ -74,17 +73,15 @@ fn layout(n: u32, m: u32, nm: u32, nn: u32) -> Addresses
     let picks = weights + 3 * m;
     let lowest = picks + n + 4 * nm;
     let rule = lowest + 1 + 3 * n;
-    let selects = rule + 14;
-    let levels = selects + 4 + 2 * n;
+    let levels = rule + 14 + 4 + 2 * n;
     let block = n + 4 * nn;
     let assignments = levels + 3 * block;
     let depths = assignments + 10 * n;
     let outputs = depths + 3 * n + 3;
-    let wires = outputs + 3 * n + 4 + 3 * nn;
     Addresses {
         n,
         m,
-        state,
+        state: 2 * nm,
         standing,
         inputs,
         literals,
@@ -93,13 +90,13 @@ fn layout(n: u32, m: u32, nm: u32, nn: u32) -> Addresses
         picks,
         lowest,
         rule,
-        selects,
+        selects: rule + 14,
         levels,
         block,
         assignments,
         depths,
         outputs,
-        wires,
+        wires: outputs + 3 * n + 4 + 3 * nn,
     }
 }
 

@@ -3,7 +3,6 @@
 use mathlib.Core.Path.{_≡_, refl, subst}
 use mathlib.Core.List.{List}
 use Prim.Native.Nat.{_*_, _-_}
-use native.Mathlib.Omega.{arith}
 use lib.Seq.{sets}
 use Rattle.gates.specs.Gates.{Gate}
 use Rattle.gates.specs.Memory.{wordsOf}

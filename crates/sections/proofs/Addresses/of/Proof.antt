@@ -1,6 +1,6 @@
 -- `Addresses::of` meets its contract: bytes bound the products.
 -- Assumes nothing.
-use Prim.Native.Nat.{_+_, _*_, _≤_}
+use Prim.Native.Nat.{_+_, _≤_}
 use native.Mathlib.Omega.{arith}
 use Rattle.sections.proofs.Bounds.{products}
 use borrow.Author.Needs.{needs}
