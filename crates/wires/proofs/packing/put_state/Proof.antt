@@ -4,7 +4,7 @@ use mathlib.Core.Path.{sym, ap, _∙_}
 use Prim.Native.Nat.{ℕ, _+_}
 use lib.Dec.{eqb}
 use Rattle.words.specs.Sets.{bit}
-use Rattle.wires.specs.Levels.{levelsBits, levelIn}
+use Rattle.wires.specs.Levels.{levelsBits}
 use Rattle.wires.proofs.Series.{length-joined}
 use Rattle.wires.proofs.Lengths.{level-length}
 use Rattle.wires.proofs.Stores.{stored, stored-then, upto-then}
