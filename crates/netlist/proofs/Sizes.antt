@@ -83,3 +83,7 @@ cells-length = cells-count allGates
 
 pub line-length : (z : ℕ) (t : List Gate) (slots steps : List ℕ) (b n : ℕ) → length (line z t slots steps b n) ≡ z + length t * n
 line-length z t slots steps b n = line-count allGates z t slots steps b n ∙ omega arith
+
+pub array-length : (z : ℕ) (t : List Gate) (slots outer inner : List ℕ) (b m n : ℕ) → length (array z t slots outer inner b m n) ≡ (z + length t * n) * m
+array-length z t slots outer inner b m n =
+    array-count allGates z t slots outer inner b m n ∙ ap (λ (k : ℕ). (k + length t * n) * m) (let h : 1 * z ≡ z = omega arith in h)
