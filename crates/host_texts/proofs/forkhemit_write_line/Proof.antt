@@ -1,4 +1,4 @@
--- `forkhemit_write_line` meets its contract: line and bytes by the numbers as bytes are those by the numbers, and the length is written where the writer gives one.
+-- `forkhemit_write_line` meets its contract: the line by the numbers as bytes is that by the numbers, and its length is written where the writer gives one.
 -- Assumes nothing.
 use mathlib.Core.Path.{sym, ap, _∙_}
 use Rattle.bristol.specs.declared.Written.{Written}

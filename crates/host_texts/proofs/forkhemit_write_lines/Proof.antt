@@ -1,4 +1,4 @@
--- `forkhemit_write_lines` meets its contract: lines and bytes by the numbers as bytes are those by the numbers, and the two numbers are written where the writer gives them.
+-- `forkhemit_write_lines` meets its contract: the lines by the numbers as bytes are those by the numbers, and their two numbers are written where the writer gives them.
 -- Assumes nothing.
 use mathlib.Core.Path.{sym, ap, _∙_}
 use Rattle.bristol.specs.declared.WrittenLines.{WrittenLines}
