@@ -14,5 +14,5 @@ for name in $(sed -n 's/^\([a-z_]*\):.*/\1/p' crates.txt); do
         exit 1
     fi
     read -r gone processor <spent
-    printf '%-12s %8s %8s\n' "$name" "$gone" "$processor"
-done | awk '{ print; gone += $2; processor += $3 } END { printf "%-12s %8.1f %8.1f\n", "all", gone, processor }'
+    printf '%-13s %8s %8s\n' "$name" "$gone" "$processor"
+done | awk '{ print; gone += $2; processor += $3 } END { printf "%-13s %8.1f %8.1f\n", "all", gone, processor }'
