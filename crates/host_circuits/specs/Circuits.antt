@@ -18,12 +18,14 @@ use Rattle.lent.specs.Lent.{frontIf, storedIf, roomCheck}
 abbrev pub sizeNumbers : Dimensions → List ℕ
 sizeNumbers d = ceiling d ∷ (3 * ceiling d ∷ (inputWires d ∷ (stateWires (d .n) ∷ [])))
 
--- ---- the generator: how many gates
+-- ---- the generator
 
+-- what the generator returns
 abbrev pub generatedCode : Generated → ℕ
 generatedCode (generated.Of count) = 0
 generatedCode (generated.Refused r) = numberOf r
 
+-- how many gates were written
 abbrev pub generatedNumbers : Generated → List ℕ
 generatedNumbers (generated.Of count) = count ∷ []
 generatedNumbers (generated.Refused r) = []
@@ -38,9 +40,10 @@ backChecks n bytes words = readChecks n bytes ++ (roomCheck words ∷ [])
 abbrev pub applyIn : Dimensions → List ℕ → List ℕ → List ℕ → List ℕ → List ℕ → List ℕ → Applied
 applyIn d left right gates words bytes wires = applied d left right gates (runIn words) bytes wires
 
--- the lent words, and the lent mark, after it
+-- the lent words after it
 abbrev pub applyStored : Applied → List ℕ → List ℕ
 applyStored a words = storedIf (a .outcome) (a .run) words
 
+-- the lent mark after it
 abbrev pub applyMarked : Applied → List ℕ → List ℕ
 applyMarked a mark = frontIf (a .outcome) (digit (a .mark) ∷ []) mark

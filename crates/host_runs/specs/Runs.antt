@@ -28,22 +28,26 @@ stepIn d left right words = stepped d left right (runIn words)
 abbrev pub stepStored : Stepped → List ℕ → List ℕ
 stepStored s words = storedIf (s .outcome) (s .run) words
 
--- ---- the budgeted run: count, verdict, model
+-- ---- the budgeted run
 
+-- what the budgeted run returns
 abbrev pub solvedCode : Solved → ℕ
 solvedCode (solved.Of answer) = 0
 solvedCode (solved.Refused r) = numberOf r
 
+-- count, verdict and model
 abbrev pub solvedNumbers : Solved → List ℕ
 solvedNumbers (solved.Of answer) = answer .count ∷ (verdictNumber (answer .verdict) ∷ (modelWord (answer .verdict) ∷ []))
 solvedNumbers (solved.Refused r) = []
 
 -- ---- a run's model
 
+-- what is returned for a model
 abbrev pub modelCode : Modelled → ℕ
 modelCode (modelled.Model model) = 0
 modelCode (modelled.Refused r) = numberOf r
 
+-- the model as a word
 abbrev pub modelNumbers : Modelled → List ℕ
 modelNumbers (modelled.Model model) = model ∷ []
 modelNumbers (modelled.Refused r) = []

@@ -25,12 +25,14 @@ placeAt line at closing = placeOf line (fieldOf closing (drop at line))
 abbrev pub budgetFrom : List ℕ → Field → Budget
 budgetFrom input f = onField f (budget.Refused NumberLine) (λ v rest. cond (short input rest) (budget.Of v) (budget.Refused NumberLine))
 
--- what the dimension line comes to by its third field, and by the fields before it
+-- what the dimension line comes to by its third field
 abbrev pub thirdFrom : List ℕ → ℕ → ℕ → Field → Size
 thirdFrom input n left f = onField f (size.Refused NumberLine) (λ right rest. cond (short input rest) (size.Of n left right) (size.Refused NumberLine))
 
+-- by its second field
 abbrev pub secondFrom : List ℕ → ℕ → Field → Size
 secondFrom input n f = onField f (size.Refused NumberLine) (λ left rest. thirdFrom input n left (fieldOf 10 rest))
 
+-- by its first
 abbrev pub firstFrom : List ℕ → Field → Size
 firstFrom input f = onField f (size.Refused NumberLine) (λ n rest. secondFrom input n (fieldOf 32 rest))

@@ -50,16 +50,19 @@ line z t slots steps b n = cells sum none none b z ++ cells t slots steps (b + z
 unfoldable pub array : ℕ → List Gate → List ℕ → List ℕ → List ℕ → ℕ → ℕ → ℕ → List Gate
 array z t slots outer inner b m n = rows (λ i. line z t (along slots outer i) inner (b + (z + length t * n) * i) n) m
 
--- a section's gates, with each cell this template: one cell, cells, a line, lines
+-- a section's gates, with each cell this template: one cell
 abbrev pub oneCell : List Gate → Section → List Gate
 oneCell t s = cell (s .slots) (s .base) t
 
+-- cells side by side
 abbrev pub inCells : List Gate → Section → List Gate
 inCells t s = cells t (s .slots) (s .inner) (s .base) (s .cells)
 
+-- cells behind zeros
 abbrev pub inLine : List Gate → Section → List Gate
 inLine t s = line (s .zeros) t (s .slots) (s .inner) (s .base) (s .cells)
 
+-- lines of them
 abbrev pub inArray : List Gate → Section → List Gate
 inArray t s = array (s .zeros) t (s .slots) (s .outer) (s .inner) (s .base) (s .lines) (s .cells)
 

@@ -36,11 +36,12 @@ module _ (d : Dimensions) (left right gates : List ℕ) (run : Run) (bytes wires
   unfoldable pub judged : Outcome
   judged = outcome (packChecks d left right run (length bytes) ++ checks gates (inputs d left right run bytes) wires)
 
-  -- the lent buffers afterwards: as they were, if packing or evaluation refuses; what reading back refuses leaves the packed bytes and the wires' values
+  -- the lent bytes afterwards, and so the wires: as they were, if packing or evaluation refuses; what reading back refuses leaves the packed bytes and the wires' values
   unfoldable pub bytesAfter : List ℕ
   unfolding judged
   bytesAfter = given judged (packed d left right run bytes) (λ r. bytes)
 
+  -- the lent wires afterwards
   unfoldable pub wiresAfter : List ℕ
   unfolding judged
   wiresAfter = given judged (filled gates (inputs d left right run bytes) wires) (λ r. wires)

@@ -57,6 +57,7 @@ seen d left right budget attempts =
 abbrev pub Accepts : Dimensions → List ℕ → List ℕ → Type 0
 Accepts d left right = outcome (tableChecks d left right) ≡ Taken
 
+-- demand 3, for circuits of these dimensions
 pub record Demand3 (d : Dimensions) : Type 0 where
   -- on the packed bytes of any tables and any well-formed state the evaluator leaves those of the state after one giant step
   pub every-state : CarriesOut d (circuitWords d)

@@ -27,6 +27,7 @@ oneCell b t k slots = inLine b 0 t k 1 slots (two 0 0)
 module _ (a : Addresses) where
   -- ---- what the rows say
 
+  -- a gate that is 0
   abbrev pub zeroGate : Section
   zeroGate = oneCell (a .inputs) 0 1 (two 0 0)
 
@@ -83,6 +84,7 @@ module _ (a : Addresses) where
       let d = a .state + 2 * a .n in
       inLine (a .selects) 2 58 2 (a .n) ((a .rule + 6) ∷ (d + 1) ∷ (a .rule + 10) ∷ d ∷ 0 ∷ 0 ∷ 0 ∷ 0 ∷ []) (0 ∷ 1 ∷ 0 ∷ 1 ∷ 0 ∷ 0 ∷ 0 ∷ 0 ∷ [])
 
+  -- the zeros behind the last level
   abbrev pub selectEnd : Section
   selectEnd = inLine (a .selects + 2 + 2 * a .n) 0 0 1 2 (two 0 0) (two 0 0)
 
@@ -95,13 +97,15 @@ module _ (a : Addresses) where
       inLines b 1 60 4 (a .n) (a .n) (p ∷ x ∷ (p + 1) ∷ s ∷ b ∷ 0 ∷ 0 ∷ 0 ∷ []) (0 ∷ 1 ∷ 0 ∷ k ∷ (1 + 4 * a .n) ∷ 0 ∷ 0 ∷ 0 ∷ [])
       (2 ∷ 3 * a .n ∷ 2 ∷ 0 ∷ 4 ∷ 0 ∷ 0 ∷ 0 ∷ [])
 
-  -- a level's T, F and chosen variable
+  -- a level's T
   abbrev pub levelsT : Section
   levelsT = levels (a .levels) (a .state + 3 * a .n + 1) (a .state) 1
 
+  -- a level's F
   abbrev pub levelsF : Section
   levelsF = levels (a .levels + a .block) (a .state + 4 * a .n + 1) (a .state + a .n) 1
 
+  -- a level's chosen variable
   abbrev pub levelsV : Section
   levelsV = levels (a .levels + 2 * a .block) (a .state + 5 * a .n + 1) (a .lowest + 2) 3
 
@@ -110,15 +114,17 @@ module _ (a : Addresses) where
   assignments b t p q k s =
       inLine b 0 64 5 (a .n) ((a .rule + 6) ∷ t ∷ p ∷ q ∷ s ∷ (a .lowest + 2) ∷ 0 ∷ 0 ∷ []) (0 ∷ 1 ∷ (1 + 4 * a .n) ∷ k ∷ 0 ∷ 3 ∷ 0 ∷ 0 ∷ [])
 
-  -- T gets back a level's T, F its F with the chosen variable
+  -- T gets back a level's T
   abbrev pub assignT : Section
   assignT = assignments (a .assignments) (a .state) (a .levels + 4 * a .n) (a .inputs) 0 (a .rule + 13)
 
+  -- F gets back a level's F with the chosen variable
   abbrev pub assignF : Section
   assignF =
       assignments (a .assignments + 5 * a .n) (a .state + a .n) (a .levels + a .block + 4 * a .n)
       (a .levels + 2 * a .block + 4 * a .n) (1 + 4 * a .n) (a .rule + 12)
 
+  -- the change of each depth wire
   abbrev pub depths : Section
   depths =
       let p = a .selects in
@@ -126,9 +132,11 @@ module _ (a : Addresses) where
 
   -- ---- the next state and the closing wire, the last wires of the circuit
 
+  -- T and F: each wire and its change
   abbrev pub nextAssignment : Section
   nextAssignment = inLines (a .outputs) 0 0 1 2 (a .n) (two (a .state) (a .assignments + 4)) (two (a .n) (5 * a .n)) (two 1 5)
 
+  -- the depth
   abbrev pub nextDepth : Section
   nextDepth = inLine (a .outputs + 2 * a .n) 0 0 1 (a .n + 1) (two (a .state + 2 * a .n) (a .depths + 2)) (two 1 3)
 
@@ -138,6 +146,7 @@ module _ (a : Addresses) where
       inLines (a .outputs + 3 * a .n + 1 + 3 * a .n * l) 0 0 1 3 (a .n) (two (a .state + 3 * a .n + 1 + 3 * a .n * l) (a .levels + 3 + 4 * l))
       (two (a .n) (a .block)) (two 1 (1 + 4 * a .n))
 
+  -- the standing, and the closing wire
   abbrev pub nextStanding : Section
   nextStanding =
       oneCell (a .outputs + 3 * a .n + 1 + 3 * a .n * a .n) 72 3 (a .standing ∷ (a .rule + 3) ∷ (a .standing + 1) ∷ (a .rule + 5) ∷ 0 ∷ 0 ∷ 0 ∷ 0 ∷ [])

@@ -45,6 +45,7 @@ levelWires n levels l =
     upto (λ i. onLevel (λ x. bit (x .t) i) levels l) n
     ++ (upto (λ i. onLevel (λ x. bit (x .f) i) levels l) n ++ upto (λ i. onLevel (λ x. eqb i (x .chosen)) levels l) n)
 
+-- closed as refuted
 abbrev pub isRefuted : Standing → Bool
 isRefuted Open = false
 isRefuted Satisfied = false
