@@ -10,7 +10,7 @@ use lib.Dec.{eqb, ltb}
 use lib.Pow.{pow-pos}
 use borrow.Author.Tests.{lt-ltb, ltb-true, eqb-true}
 use Rattle.words.specs.Sets.{bit}
-use Rattle.words.proofs.Truth.{on, and-l, and-r, and-i, same, same-eq}
+use Rattle.words.proofs.Truth.{on, and-l, and-r, and-i, agree, agree-eq}
 use Rattle.words.proofs.Bits.{bit-zero, bit-put, put-lt}
 use Rattle.words.proofs.Operations.{bit-ext}
 use Rattle.clauses.specs.Rows.{Literal, withLiteral, rowOf}
@@ -25,9 +25,9 @@ wordFor true r = r .negative
 -- whether a clause holds variable i + 1 in a sign
 abbrev pub holds : Bool → ℕ → List Literal → Bool
 holds s i [] = false
-holds s i (l ∷ ls) = same s (l .minus) && eqb i (l .bit) || holds s i ls
+holds s i (l ∷ ls) = agree s (l .minus) && eqb i (l .bit) || holds s i ls
 
-bit-with : (s m : Bool) (v i : ℕ) (r : Row) → bit (wordFor s (withLiteral m v r)) i ≡ bit (wordFor s r) i || (same s m && eqb i v)
+bit-with : (s m : Bool) (v i : ℕ) (r : Row) → bit (wordFor s (withLiteral m v r)) i ≡ bit (wordFor s r) i || (agree s m && eqb i v)
 bit-with false false v i r = bit-put (r .positive) v i
 bit-with false true v i r = sym (or-false (bit (r .positive) i))
 bit-with true false v i r = sym (or-false (bit (r .negative) i))
@@ -42,8 +42,8 @@ pub row-holds : (s : Bool) (i : ℕ) (ls : List Literal) → bit (wordFor s (row
 row-holds s i [] = empty-holds s i
 row-holds s i (l ∷ ls) =
     bit-with s (l .minus) (l .bit) i (rowOf ls)
-    ∙ ap (λ (x : Bool). x || same s (l .minus) && eqb i (l .bit)) (row-holds s i ls)
-    ∙ or-comm (holds s i ls) (same s (l .minus) && eqb i (l .bit))
+    ∙ ap (λ (x : Bool). x || agree s (l .minus) && eqb i (l .bit)) (row-holds s i ls)
+    ∙ or-comm (holds s i ls) (agree s (l .minus) && eqb i (l .bit))
 
 -- ---- clauses whose variables are below n
 
@@ -103,7 +103,7 @@ bits-with s i r (l ∷ ls) h =
     rw (and-l (ltb (l .bit) 32) (below 32 ls) h)
     (bits-with s i (withLiteral (l .minus) (l .bit) r) ls (and-r (ltb (l .bit) 32) (below 32 ls) h)
     ∙ ap (λ (x : Bool). x || holds s i ls) (bit-with s (l .minus) (l .bit) i r)
-    ∙ or-assoc (bit (wordFor s r) i) (same s (l .minus) && eqb i (l .bit)) (holds s i ls))
+    ∙ or-assoc (bit (wordFor s r) i) (agree s (l .minus) && eqb i (l .bit)) (holds s i ls))
 
 withs-lt : (s : Bool) (ls : List Literal) (r : Row) → wordFor s r < 2 ^ 32 → wordFor s (withLiterals r ls) < 2 ^ 32
 withs-lt s [] r k = k
@@ -127,9 +127,9 @@ repeated l ls e = same-row (l ∷ ls) ls (λ s i. go s i)
   where
     go : (s : Bool) (i : ℕ) → holds s i (l ∷ ls) ≡ holds s i ls
     go s i =
-        on (same s (l .minus) && eqb i (l .bit))
-        (λ q. let a : l .minus ≡ s = sym (same-eq (and-l (same s (l .minus)) (eqb i (l .bit)) q)) in
-        let b : i ≡ l .bit = eqb-true i (l .bit) (and-r (same s (l .minus)) (eqb i (l .bit)) q) in
+        on (agree s (l .minus) && eqb i (l .bit))
+        (λ q. let a : l .minus ≡ s = sym (agree-eq (and-l (agree s (l .minus)) (eqb i (l .bit)) q)) in
+        let b : i ≡ l .bit = eqb-true i (l .bit) (and-r (agree s (l .minus)) (eqb i (l .bit)) q) in
         rw q (sym (ap₂ (λ (t : Bool) (j : ℕ). holds t j ls) (sym a) b ∙ e)))
         (λ q. rw q)
 

@@ -9,7 +9,7 @@ use native.Mathlib.Omega.{arith}
 use lib.Dec.{eqb, eqb·zero-suc, eqb·suc-zero, eqb·suc-suc}
 use Rattle.words.specs.Booleans.{_⊕_, digit}
 use Rattle.words.specs.Sets.{any, count, lowest}
-use Rattle.words.proofs.Truth.{on, taut1, taut2, taut3, same, same-eq}
+use Rattle.words.proofs.Truth.{on, taut1, taut2, taut3, agree, agree-eq}
 use Rattle.words.proofs.Upto.{count-none}
 use Rattle.words.proofs.Last.{any-last, count-last}
 use Rattle.netlist.proofs.CellFunctions.{or}
@@ -17,7 +17,7 @@ use Rattle.netlist.proofs.CellFunctions.{or}
 -- ---- OR
 
 or-is : (a b : Bool) → or a b ≡ a || b
-or-is a b = same-eq (taut2 (λ a b. same (or a b) (a || b)) refl a b)
+or-is a b = agree-eq (taut2 (λ a b. agree (or a b) (a || b)) refl a b)
 
 module _ (s p : ℕ → Bool) (n : ℕ) (start : s 0 ≡ false) (next : (i : ℕ) → i < n → s (suc i) ≡ or (s i) (p i)) where
   pub or-chain : (i : ℕ) → i ≤ n → s i ≡ any p i
@@ -33,17 +33,17 @@ parity p zero = false
 parity p (suc n) = p zero ⊕ parity (λ i. p (suc i)) n
 
 pub xor-false : (a : Bool) → a ⊕ false ≡ a
-xor-false a = same-eq (taut1 (λ a. same (a ⊕ false) a) refl a)
+xor-false a = agree-eq (taut1 (λ a. agree (a ⊕ false) a) refl a)
 
 pub xor-self : (a : Bool) → a ⊕ a ≡ false
-xor-self a = same-eq (taut1 (λ a. same (a ⊕ a) false) refl a)
+xor-self a = agree-eq (taut1 (λ a. agree (a ⊕ a) false) refl a)
 
 parity-last : (p : ℕ → Bool) (n : ℕ) → parity p (suc n) ≡ parity p n ⊕ p n
 unfolding parity
 parity-last p zero = xor-false (p zero)
 parity-last p (suc n) =
     ap (λ (x : Bool). p zero ⊕ x) (parity-last (λ i. p (suc i)) n)
-    ∙ same-eq (taut3 (λ a b c. same (a ⊕ (b ⊕ c)) ((a ⊕ b) ⊕ c)) refl (p zero) (parity (λ i. p (suc i)) n) (p (suc n)))
+    ∙ agree-eq (taut3 (λ a b c. agree (a ⊕ (b ⊕ c)) ((a ⊕ b) ⊕ c)) refl (p zero) (parity (λ i. p (suc i)) n) (p (suc n)))
 
 module _ (s p : ℕ → Bool) (n : ℕ) (start : s 0 ≡ false) (next : (i : ℕ) → i < n → s (suc i) ≡ s i ⊕ p i) where
   pub xor-chain : (i : ℕ) → i ≤ n → s i ≡ parity p i
@@ -89,16 +89,16 @@ manyOf (suc zero) = false
 manyOf (suc (suc c)) = true
 
 odd-more : (x : Bool) (c : ℕ) → oddOf c ⊕ x ≡ oddOf (digit x + c)
-odd-more true c = same-eq (taut1 (λ a. same (a ⊕ true) (not a)) refl (oddOf c)) ∙ ap oddOf (sym (one-add c))
+odd-more true c = agree-eq (taut1 (λ a. agree (a ⊕ true) (not a)) refl (oddOf c)) ∙ ap oddOf (sym (one-add c))
 odd-more false c = xor-false (oddOf c) ∙ ap oddOf (sym (zero-add c))
 
 many-more : (x : Bool) (c : ℕ) → or (manyOf c) (oddOf c && x) ≡ manyOf (digit x + c)
 many-more true zero = refl
 many-more true (suc zero) = refl
-many-more true (suc (suc c)) = same-eq (taut1 (λ a. same (or true (a && true)) true) refl (oddOf (suc (suc c)))) ∙ ap manyOf (sym (one-add (suc (suc c))))
+many-more true (suc (suc c)) = agree-eq (taut1 (λ a. agree (or true (a && true)) true) refl (oddOf (suc (suc c)))) ∙ ap manyOf (sym (one-add (suc (suc c))))
 many-more false zero = refl
 many-more false (suc zero) = refl
-many-more false (suc (suc c)) = same-eq (taut1 (λ a. same (or true (a && false)) true) refl (oddOf (suc (suc c)))) ∙ ap manyOf (sym (zero-add (suc (suc c))))
+many-more false (suc (suc c)) = agree-eq (taut1 (λ a. agree (or true (a && false)) true) refl (oddOf (suc (suc c)))) ∙ ap manyOf (sym (zero-add (suc (suc c))))
 
 module _ (odd many x : ℕ → Bool) (n : ℕ) (odd-start : odd 0 ≡ false) (many-start : many 0 ≡ false)
     (odd-next : (i : ℕ) → i < n → odd (suc i) ≡ odd i ⊕ x i)

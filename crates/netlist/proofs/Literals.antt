@@ -10,7 +10,7 @@ use lib.Dec.{eqb}
 use lib.ListN.{length}
 use Rattle.words.specs.Booleans.{_⊕_, imp}
 use Rattle.words.specs.Sets.{bit, count, lowest}
-use Rattle.words.proofs.Truth.{on, and-i, mp, taut4, same, same-eq}
+use Rattle.words.proofs.Truth.{on, and-i, mp, taut4, agree, agree-eq}
 use Rattle.words.proofs.Upto.{count-cong, lowest-cong}
 use Rattle.tables.specs.declared.Row.{Row}
 use Rattle.tables.specs.Rows.{satisfied, freeIn, freeLiterals}
@@ -32,13 +32,13 @@ freeBit r t f i = freeHere (bit (r .positive) i) (bit (r .negative) i) (freeOf (
 module _ (r : Row) (t f i : ℕ) (apart : not (bit t i && bit f i) ≡ true) where
   satisfied-here : satisfiedHere (bit (r .positive) i) (bit (r .negative) i) (bit f i) (freeOf (bit t i) (bit f i)) ≡ satisfies r t f i
   satisfied-here =
-      same-eq (mp _ _ (taut4 (λ p q t f. imp (not (t && f)) (same (satisfiedHere p q f (freeOf t f)) (p && q || p && t || q && f))) refl
+      agree-eq (mp _ _ (taut4 (λ p q t f. imp (not (t && f)) (agree (satisfiedHere p q f (freeOf t f)) (p && q || p && t || q && f))) refl
       (bit (r .positive) i) (bit (r .negative) i) (bit t i) (bit f i)) apart)
 
   -- where the row is not satisfied here
   free-here : satisfies r t f i ≡ false → freeBit r t f i ≡ freeIn r t f i
   free-here e =
-      same-eq (mp _ _ (taut4 (λ p q t f. imp (not (t && f) && not (p && q || p && t || q && f)) (same (freeHere p q (freeOf t f)) ((not t && not f) && (p || q)))) refl
+      agree-eq (mp _ _ (taut4 (λ p q t f. imp (not (t && f) && not (p && q || p && t || q && f)) (agree (freeHere p q (freeOf t f)) ((not t && not f) && (p || q)))) refl
       (bit (r .positive) i) (bit (r .negative) i) (bit t i) (bit f i)) (and-i apart (ap not e)))
 
 -- ---- a row's chains

@@ -10,7 +10,7 @@ use lib.ListN.{length}
 use borrow.Author.Tests.{eqb-true}
 use Rattle.words.specs.Booleans.{_⊕_}
 use Rattle.words.specs.Sets.{bit, put}
-use Rattle.words.proofs.Truth.{on, taut2, same, same-eq}
+use Rattle.words.proofs.Truth.{on, taut2, agree, agree-eq}
 use Rattle.words.proofs.Bits.{bit-put}
 use Rattle.state.specs.declared.Level.{Level}
 use Rattle.state.specs.declared.Standing.{Standing}
@@ -111,7 +111,7 @@ module _ (n t f : ℕ) (ls : List Level) (variable : ℕ → Bool) where
     moved-choice h = record {
       same-T = λ i b. kept (bit t i) (variable i) n ∙ put-in t i b h;
       same-F = λ i b. kept (bit f i) false n ∙ xor-false (bit f i);
-      same-depth = λ k b. simp eqb·suc-suc (same-eq (taut2 (λ a b. same (a ⊕ ((b ⊕ false) ⊕ a)) b) refl (eqb k (length ls)) (eqb k (suc (length ls)))));
+      same-depth = λ k b. simp eqb·suc-suc (agree-eq (taut2 (λ a b. agree (a ⊕ ((b ⊕ false) ⊕ a)) b) refl (eqb k (length ls)) (eqb k (suc (length ls)))));
       same-levelT = λ l i b c. simp eqb·suc-suc (level-added (λ x. bit (x .t) i) added ls l);
       same-levelF = λ l i b c. simp eqb·suc-suc (level-added (λ x. bit (x .f) i) added ls l);
       same-chosen = λ l i b c. simp eqb·suc-suc (ap (λ (y : Bool). onLevel (λ x. eqb i (x .chosen)) ls l ⊕ (eqb l (length ls) && y)) (picks i c)
@@ -134,7 +134,7 @@ module _ (n t f : ℕ) (l : Level) (ls : List Level) (variable : ℕ → Bool) (
   restored-two g h = parity-at (λ k. onLevel g (l ∷ ls) k ⊕ onLevel h (l ∷ ls) k) n d few ∙ ap₂ _⊕_ (level-last g l ls) (level-last h l ls)
 
   taken : (a x : Bool) → a ⊕ ((a ⊕ x) ⊕ false) ≡ x
-  taken a x = same-eq (taut2 (λ a x. same (a ⊕ ((a ⊕ x) ⊕ false)) x) refl a x)
+  taken a x = agree-eq (taut2 (λ a x. agree (a ⊕ ((a ⊕ x) ⊕ false)) x) refl a x)
 
   removed : (g : Level → Bool) (k : ℕ) → onLevel g (l ∷ ls) k ⊕ ((eqb k d && onLevel g (l ∷ ls) k) ⊕ false) ≡ onLevel g ls k
   removed g k = ap (λ (x : Bool). onLevel g (l ∷ ls) k ⊕ x) (xor-false (eqb k d && onLevel g (l ∷ ls) k)) ∙ level-removed g l ls k
@@ -146,7 +146,7 @@ module _ (n t f : ℕ) (l : Level) (ls : List Level) (variable : ℕ → Bool) (
     same-T = λ i b. simp eqb·suc-suc (ap (λ (x : Bool). bit t i ⊕ ((bit t i ⊕ x) ⊕ false)) (restored (λ x. bit (x .t) i)) ∙ taken (bit t i) (bit (l .t) i));
     same-F = λ i b. simp eqb·suc-suc (ap (λ (x : Bool). bit f i ⊕ ((bit f i ⊕ x) ⊕ false)) (restored-two (λ x. bit (x .f) i) (λ x. eqb i (x .chosen)))
         ∙ taken (bit f i) (bit (l .f) i ⊕ eqb i (l .chosen)) ∙ put-xor (l .f) (l .chosen) i h);
-    same-depth = λ k b. simp eqb·suc-suc (same-eq (taut2 (λ a b. same (a ⊕ (((a ⊕ false) ⊕ b) ⊕ false)) b) refl (eqb k (suc d)) (eqb k d)));
+    same-depth = λ k b. simp eqb·suc-suc (agree-eq (taut2 (λ a b. agree (a ⊕ (((a ⊕ false) ⊕ b) ⊕ false)) b) refl (eqb k (suc d)) (eqb k d)));
     same-levelT = λ k i b c. simp eqb·suc-suc (removed (λ x. bit (x .t) i) k);
     same-levelF = λ k i b c. simp eqb·suc-suc (removed (λ x. bit (x .f) i) k);
     same-chosen = λ k i b c. simp eqb·suc-suc (removed (λ x. eqb i (x .chosen)) k);

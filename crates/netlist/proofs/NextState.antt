@@ -10,7 +10,7 @@ use lib.Dec.{eqb, ltb, eqb·zero-suc, eqb·suc-suc}
 use lib.ListN.{length}
 use borrow.Author.Tests.{ltb-true, ltb-false, ne-eqb}
 use Rattle.words.specs.Booleans.{_⊕_}
-use Rattle.words.proofs.Truth.{on, taut3, taut4, same, same-eq}
+use Rattle.words.proofs.Truth.{on, taut3, taut4, agree, agree-eq}
 use Rattle.tables.specs.declared.Row.{Row}
 use Rattle.state.specs.State.{State, isSatisfied}
 use Rattle.wires.specs.Layout.{isRefuted}
@@ -60,7 +60,7 @@ module _ (n : ℕ) (rows : List Row) (s : State) (w : Wires) (on-state : OnState
   pop-zero : w .rule .pop && eqb 0 d ≡ false
   pop-zero =
       ap (λ (g : Signals). g .pop && eqb 0 d) rule-wires
-      ∙ same-eq (taut3 (λ o c d. same (popOf o c d && d) false) refl (openOf (isSatisfied (s .standing)) (isRefuted (s .standing))) (w .anyConflict m) (eqb 0 d))
+      ∙ agree-eq (taut3 (λ o c d. agree (popOf o c d && d) false) refl (openOf (isSatisfied (s .standing)) (isRefuted (s .standing))) (w .anyConflict m) (eqb 0 d))
 
   popAt-wire : (k : ℕ) → k ≤ suc n → w .popAt k ≡ popAt n (w .rule) (w .variable) s k
   popAt-wire zero h = on-state .cells .popAt-zero ∙ sym pop-zero
@@ -94,7 +94,7 @@ module _ (n : ℕ) (rows : List Row) (s : State) (w : Wires) (on-state : OnState
         xor-chain (w .restoredF i) (λ l. pops l && (bitsIn s .levelF l i ⊕ bitsIn s .chosen l i)) n (on-state .cells .restoredF-zero i b)
         (λ l h. on-state .cells .restoredF-suc i l b h
         ∙ (λ k. (w .restoredF i l ⊕ (popAt-wire (suc l) (omega arith) k && now .same-levelF l i h b k)) ⊕ (popAt-wire (suc l) (omega arith) k && now .same-chosen l i h b k))
-        ∙ same-eq (taut4 (λ r a x y. same ((r ⊕ (a && x)) ⊕ (a && y)) (r ⊕ (a && (x ⊕ y)))) refl (w .restoredF i l) (pops l) (bitsIn s .levelF l i) (bitsIn s .chosen l i)))
+        ∙ agree-eq (taut4 (λ r a x y. agree ((r ⊕ (a && x)) ⊕ (a && y)) (r ⊕ (a && (x ⊕ y)))) refl (w .restoredF i l) (pops l) (bitsIn s .levelF l i) (bitsIn s .chosen l i)))
         n (le-refl n)
 
     next-moved : Same n (w .next) (moved n (w .rule) (w .variable) s)

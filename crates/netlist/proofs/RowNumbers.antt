@@ -6,7 +6,7 @@ use mathlib.Core.List.{List, [], _∷_}
 use Prim.Native.Nat.{ℕ}
 use lib.ListN.{length}
 use Rattle.words.specs.Sets.{bit, any, lowest}
-use Rattle.words.proofs.Truth.{on, taut2, same, same-eq}
+use Rattle.words.proofs.Truth.{on, taut2, agree, agree-eq}
 use Rattle.tables.specs.declared.Row.{Row}
 use Rattle.tables.specs.Rows.{freeIn}
 use Rattle.scan.specs.declared.Rule.{Rule}
@@ -25,7 +25,7 @@ module _ (p : Row → Bool) where
   all-numbered [] = refl
   all-numbered (r ∷ rs) =
       ap (λ (x : Bool). p r && x) (all-numbered rs)
-      ∙ same-eq (taut2 (λ a b. same (a && not b) (not (not a || b))) refl (p r) (any (λ j. not (p (rowOf rs j))) (length rs)))
+      ∙ agree-eq (taut2 (λ a b. agree (a && not b) (not (not a || b))) refl (p r) (any (λ j. not (p (rowOf rs j))) (length rs)))
 
 module _ (n t f : ℕ) (other : Rule) where
   pub no-unit : (rows : List Row) → any (λ j. unsatisfiedWith 1 n t f (rowOf rows j)) (length rows) ≡ false → unitOr n t f rows other ≡ other

@@ -11,7 +11,7 @@ use lib.Dec.{eqb}
 use lib.ListN.{length}
 use Rattle.words.specs.Booleans.{_⊕_}
 use Rattle.words.specs.Sets.{bit, any, lowest}
-use Rattle.words.proofs.Truth.{on, taut2, same, same-eq}
+use Rattle.words.proofs.Truth.{on, taut2, agree, agree-eq}
 use Rattle.words.proofs.Upto.{any-e, any-mono, lowest-hit, lowest-cong}
 use Rattle.words.proofs.Last.{any-cong, any-at, lowest-first}
 use Rattle.tables.specs.declared.Row.{Row}
@@ -69,7 +69,7 @@ module _ (n : ℕ) (rows : List Row) (s : State) (w : Wires) (on-state : OnState
   some-unit =
       or-chain (w .anyUnit) unit m (on-state .cells .anyUnit-zero)
       (λ j h. on-state .cells .anyUnit-suc j h
-      ∙ same-eq (taut2 (λ a u. same (a ⊕ firstOf u a) (or a u)) refl (w .anyUnit j) (unitOf (w .satisfied j n) (w .odd j n) (w .many j n)))
+      ∙ agree-eq (taut2 (λ a u. agree (a ⊕ firstOf u a) (or a u)) refl (w .anyUnit j) (unitOf (w .satisfied j n) (w .odd j n) (w .many j n)))
       ∙ ap (λ (x : Bool). or (w .anyUnit j) x) (unit-row n rows s w on-state j h))
 
   -- the lowest unit row
@@ -79,7 +79,7 @@ module _ (n : ℕ) (rows : List Row) (s : State) (w : Wires) (on-state : OnState
   first-lowest : (j : ℕ) → j < m → firstOf (unitOf (w .satisfied j n) (w .odd j n) (w .many j n)) (w .anyUnit j) ≡ eqb j k
   first-lowest j h =
       ap₂ firstOf (unit-row n rows s w on-state j h) (some-unit j (omega arith))
-      ∙ same-eq (taut2 (λ u a. same (firstOf u a) (u && not a)) refl (unit j) (any unit j))
+      ∙ agree-eq (taut2 (λ u a. agree (firstOf u a) (u && not a)) refl (unit j) (any unit j))
       ∙ lowest-first unit m j h
 
   -- ---- pick and lowest
@@ -92,7 +92,7 @@ module _ (n : ℕ) (rows : List Row) (s : State) (w : Wires) (on-state : OnState
       on-state .cells .variable-is i b
       ∙ ap (λ (x : Bool). w .picked i m && not x)
       (or-chain (w .seen) (λ i. w .picked i m) n (on-state .cells .seen-zero)
-      (λ i h. on-state .cells .seen-suc i h ∙ same-eq (taut2 (λ a z. same (a ⊕ (z && not a)) (or a z)) refl (w .seen i) (w .picked i m))) i (omega arith))
+      (λ i h. on-state .cells .seen-suc i h ∙ agree-eq (taut2 (λ a z. agree (a ⊕ (z && not a)) (or a z)) refl (w .seen i) (w .picked i m))) i (omega arith))
       ∙ lowest-first (λ i. w .picked i m) n i b
 
   counts : (j : ℕ) → j < m → w .weight j ≡ countsOf (unsatisfied j) (eqb j k) (w .anyUnit m)
@@ -105,7 +105,7 @@ module _ (n : ℕ) (rows : List Row) (s : State) (w : Wires) (on-state : OnState
   picked-all e i b =
       picked i b
       ∙ any-cong _ (λ j. unsatisfied j && freeIn (rowOf rows j) t f i) m (λ j h.
-      ap (λ (x : Bool). x && w .literal j i) (counts j h ∙ ap (countsOf (unsatisfied j) (eqb j k)) e ∙ same-eq (taut2 (λ u a. same (countsOf u a false) u) refl (unsatisfied j) (eqb j k)))
+      ap (λ (x : Bool). x && w .literal j i) (counts j h ∙ ap (countsOf (unsatisfied j) (eqb j k)) e ∙ agree-eq (taut2 (λ u a. agree (countsOf u a false) u) refl (unsatisfied j) (eqb j k)))
       ∙ on (satisfied n (rowOf rows j) t f) (λ q. rw q) (λ q. rw q (literal-unsatisfied n rows s w on-state j h q i b)))
       ∙ sym (any-numbered (λ r. not (satisfied n r t f) && freeIn r t f i) rows)
 
@@ -129,7 +129,7 @@ module _ (n : ℕ) (rows : List Row) (s : State) (w : Wires) (on-state : OnState
     picked-unit i b =
         picked i b
         ∙ any-cong _ (λ j. eqb j k && w .literal j i) m (λ j h.
-        ap (λ (x : Bool). x && w .literal j i) (counts j h ∙ ap (countsOf (unsatisfied j) (eqb j k)) e ∙ same-eq (taut2 (λ u a. same (countsOf u a true) a) refl (unsatisfied j) (eqb j k))))
+        ap (λ (x : Bool). x && w .literal j i) (counts j h ∙ ap (countsOf (unsatisfied j) (eqb j k)) e ∙ agree-eq (taut2 (λ u a. agree (countsOf u a true) a) refl (unsatisfied j) (eqb j k))))
         ∙ any-at (λ j. w .literal j i) m k (lowest-unit .0)
         ∙ literal-unsatisfied n rows s w on-state k (lowest-unit .0) (with-unsatisfied 1 n t f (rowOf rows k) (lowest-unit .1)) i b
 

@@ -7,7 +7,7 @@ use mathlib.Core.List.{List, [], _∷_, map}
 use Prim.Native.Nat.{ℕ, suc, _+_, _*_, _<_}
 use native.Mathlib.Omega.{arith}
 use Rattle.words.specs.Booleans.{_⊕_}
-use Rattle.words.proofs.Truth.{taut4, same, same-eq}
+use Rattle.words.proofs.Truth.{taut4, agree, agree-eq}
 use Rattle.gates.specs.Gates.{Gate, wire, wiresOf}
 use Rattle.gates.proofs.Circuits.{ordered}
 use Rattle.wires.specs.Bits.{stateAt}
@@ -195,7 +195,7 @@ module _ (W : ℕ → Bool) (a : Addresses) where
     backV-suc i l h b = levelV-gate i l h b 3 _ (omega arith) (omega arith)
 
     apart : (x y p q : Bool) → (x ⊕ p) ⊕ (y ⊕ q) ≡ ((x ⊕ y) ⊕ p) ⊕ q
-    apart x y p q = same-eq (taut4 (λ x y p q. same ((x ⊕ p) ⊕ (y ⊕ q)) (((x ⊕ y) ⊕ p) ⊕ q)) refl x y p q)
+    apart x y p q = agree-eq (taut4 (λ x y p q. agree ((x ⊕ p) ⊕ (y ⊕ q)) (((x ⊕ y) ⊕ p) ⊕ q)) refl x y p q)
 
     zero-wire : W (a .inputs) ≡ false
     unfolding wiresOf ordered

@@ -10,7 +10,7 @@ use lib.Dec.{eqb}
 use borrow.Author.Tests.{eqb-true}
 use Rattle.words.specs.Booleans.{imp}
 use Rattle.words.specs.Sets.{bit, put, any}
-use Rattle.words.proofs.Truth.{mp, and-i, on, taut2, taut3, taut5, same, same-eq}
+use Rattle.words.proofs.Truth.{mp, and-i, on, taut2, taut3, taut5, agree, agree-eq}
 use Rattle.words.proofs.Upto.{any-e, count-none, count-one}
 use Rattle.words.proofs.Bits.{bit-put, bit-zero}
 use Rattle.tables.specs.declared.Row.{Row}
@@ -75,8 +75,8 @@ module _ (n : ℕ) (a : ℕ → Bool) (t f : ℕ) (g : Agrees n a t f) where
       let one : x .0 ≡ v =
       count-one (λ i. freeIn r t f i) n (with-count 1 n t f r (w .one-literal)) (x .0) v (x .1) (w .low) (by-free r (x .0) (x .1) o (x .2)) (w .free-there) in
       let l : literal a r v ≡ true = rw one at (x .2) in
-      same-eq (mp _ _
-      (taut5 (λ p q t f a. imp (literals p q a && not (satisfying p q t f)) (same a p)) refl (bit (r .positive) v) (bit (r .negative) v) (bit t v) (bit f v) (a v))
+      agree-eq (mp _ _
+      (taut5 (λ p q t f a. imp (literals p q a && not (satisfying p q t f)) (agree a p)) refl (bit (r .positive) v) (bit (r .negative) v) (bit t v) (bit f v) (a v))
       (and-i l (ap not (unsatisfied-none n r t f o v (w .low)))))
       ∙ sym (w .sign)
 
