@@ -16,7 +16,7 @@ use Rattle.generator.specs.Storing.{gatesIn, tidy, templates}
 take-gates : (k : ℕ) (t : List ℕ) → gatesIn (take k t) ≡ take k (gatesIn t)
 take-gates zero t = refl
 take-gates (suc k) [] = refl
-take-gates (suc k) (g ∷ t) = ap (λ (l : List Gate). gateOf (g / 10000) (g / 100 % 100) (g % 100) ∷ l) (take-gates k t)
+take-gates (suc k) (g ∷ t) = ap (λ (l : List Gate). gateOf (g / 65536) (g / 256 % 256) (g % 256) ∷ l) (take-gates k t)
 
 drop-gates : (k : ℕ) (t : List ℕ) → gatesIn (drop k t) ≡ drop k (gatesIn t)
 drop-gates zero t = refl
@@ -28,14 +28,14 @@ tidy-take zero t e = refl
 tidy-take (suc k) [] e = refl
 tidy-take (suc k) (g ∷ t) e =
     rw (
-      and-l (ltb (g / 10000) 3) (tidy t) e,
-      tidy-take k t (and-r (ltb (g / 10000) 3) (tidy t) e),
+      and-l (ltb (g / 65536) 3) (tidy t) e,
+      tidy-take k t (and-r (ltb (g / 65536) 3) (tidy t) e),
     )
 
 tidy-drop : (k : ℕ) (t : List ℕ) → tidy t ≡ true → tidy (drop k t) ≡ true
 tidy-drop zero t e = e
 tidy-drop (suc k) [] e = refl
-tidy-drop (suc k) (g ∷ t) e = tidy-drop k t (and-r (ltb (g / 10000) 3) (tidy t) e)
+tidy-drop (suc k) (g ∷ t) e = tidy-drop k t (and-r (ltb (g / 65536) 3) (tidy t) e)
 
 -- gates f to e of all templates t
 pub part : (t : List ℕ) → gatesIn t ≡ templates → tidy t ≡ true → length t ≡ 75 → (from end f k : ℕ) → from ≡ f → end ≡ f + k → f + k ≤ 75

@@ -43,23 +43,23 @@ module _ (w₀ t s : List ℕ) (base p₀ : ℕ) (w : List ℕ) (p i : ℕ) (r :
   abbrev g : ℕ
   g = getD t i 0
 
-  judged : ltb (g / 10000) 3 && tidy (drop (suc i) t) ≡ true
+  judged : ltb (g / 65536) 3 && tidy (drop (suc i) t) ≡ true
   judged = sym (ap tidy (drop-cons t i 0 h)) ∙ r .good
 
   cell-words :
       wordsOf (cell s base (gatesIn (drop i t)))
-      ≡ g / 10000 ∷ operand s base (g / 100 % 100) ∷ cond (eqb (g / 10000) 2) 0 (operand s base (g % 100)) ∷ wordsOf (cell s base (gatesIn (drop (suc i) t)))
+      ≡ g / 65536 ∷ operand s base (g / 256 % 256) ∷ cond (eqb (g / 65536) 2) 0 (operand s base (g % 256)) ∷ wordsOf (cell s base (gatesIn (drop (suc i) t)))
   unfolding wordsOf
   cell-words =
       ap (λ (l : List ℕ). wordsOf (cell s base (gatesIn l))) (drop-cons t i 0 h)
       ∙ ap (λ (l : List ℕ). l ++ wordsOf (cell s base (gatesIn (drop (suc i) t))))
-      (placed-words s base (g / 10000) (g / 100 % 100) (g % 100) (ltb-true _ _ (and-l (ltb (g / 10000) 3) (tidy (drop (suc i) t)) judged)))
+      (placed-words s base (g / 65536) (g / 256 % 256) (g % 256) (ltb-true _ _ (and-l (ltb (g / 65536) 3) (tidy (drop (suc i) t)) judged)))
 
-  pub again : (a b : ℕ) → a ≡ operand s base (g / 100 % 100) → b ≡ cond (eqb (g / 10000) 2) 0 (operand s base (g % 100))
-      → Placing w₀ t s base p₀ (set (set (set w p (g / 10000)) (p + 1) a) (p + 2) b) (p + 3) (i + 1)
+  pub again : (a b : ℕ) → a ≡ operand s base (g / 256 % 256) → b ≡ cond (eqb (g / 65536) 2) 0 (operand s base (g % 256))
+      → Placing w₀ t s base p₀ (set (set (set w p (g / 65536)) (p + 1) a) (p + 2) b) (p + 3) (i + 1)
   again a b ea eb =
       record {
-        good = rw (add-one i) (and-r (ltb (g / 10000) 3) (tidy (drop (suc i) t)) judged);
+        good = rw (add-one i) (and-r (ltb (g / 65536) 3) (tidy (drop (suc i) t)) judged);
         same =
             rw (add-one i, add-one p, add-two p, add-three p, ea, eb)
             (sym (ap (λ (l : List ℕ). sets w p l) cell-words) ∙ r .same);

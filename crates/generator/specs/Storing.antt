@@ -13,14 +13,14 @@ use Rattle.sections.specs.Sections.{sectionAt}
 use Rattle.netlist.specs.Templates.{sum, variable, literal, row, weight, pick, lowest, rule, select, level, assignment, depth, standing}
 use Rattle.netlist.specs.Arrays.{Below, inArray}
 
--- the gates of a template in memory, a number a gate: its kind, then two decimal digits for each operand
+-- the gates of a template in memory, a number a gate: its kind, then two hexadecimal digits for each operand
 abbrev pub gatesIn : List ℕ → List Gate
-gatesIn t = map (λ g. gateOf (g / 10000) (g / 100 % 100) (g % 100)) t
+gatesIn t = map (λ g. gateOf (g / 65536) (g / 256 % 256) (g % 256)) t
 
 -- whether its kinds are below 3
 abbrev pub tidy : List ℕ → Bool
 tidy [] = true
-tidy (g ∷ t) = ltb (g / 10000) 3 && tidy t
+tidy (g ∷ t) = ltb (g / 65536) 3 && tidy t
 
 -- all templates, one behind the other
 abbrev pub templates : List Gate

@@ -56,9 +56,9 @@ fn place(words: &mut [u32], inputs: u32, base: u32, template: &[u32], slots: [u3
     let mut i = 0;
     while i < template.len() {
         let g = template[i];
-        let k = g / 10000;
-        let a = operand(g / 100 % 100, base, slots);
-        let b = second(k, g % 100, base, slots);
+        let k = g / 65536;
+        let a = operand(g / 256 % 256, base, slots);
+        let b = second(k, g % 256, base, slots);
         words[p] = k;
         words[p + 1] = a;
         words[p + 2] = b;
