@@ -47,8 +47,7 @@ pub fn solve(rows: &[u32], budget: u64) -> [u64; 3] {
             }
             free |= open;
             if unit == 0 && open & (open - 1) == 0 {
-                unit = open;
-                positive = row[0];
+                (unit, positive) = (open, row[0]);
             }
         }
         if conflict {
