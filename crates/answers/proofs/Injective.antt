@@ -119,7 +119,7 @@ answer-injective n a b wa wb e =
         (sym (answer-spread n a) ∙ e ∙ answer-spread n b))
 
 -- every answer of the budgeted run is so
-pub run-within : (n : ℕ) (rows : List Row) (budget : ℕ) → budget < 2 ^ 64 → Within n (answerOf n rows budget)
+pub run-within : (n : ℕ) (rows : ℕ → List Row) (budget : ℕ) → budget < 2 ^ 64 → Within n (answerOf n rows budget)
 unfolding answerOf
 run-within n rows budget h = record { count = lt-of-le-of-lt (ran .most) h; model = go (r .final .standing) }
   where

@@ -14,7 +14,6 @@ use Rattle.words.proofs.Last.{any-false}
 use Rattle.words.proofs.Upto.{any-i}
 use Rattle.dimensions.specs.declared.Dimensions.{Dimensions}
 use Rattle.tables.specs.declared.Row.{Row}
-use Rattle.tables.specs.Rows.{rowsOf}
 use Rattle.solver.specs.declared.Answer.{Answer}
 use Rattle.state.specs.declared.Run.{Run}
 use Rattle.state.specs.declared.Standing.{Standing}
@@ -34,8 +33,8 @@ use Rattle.netlist.specs.Outputs.{closed}
 use Rattle.netlist.proofs.EveryState.{gates-carry-out}
 use Rattle.answers.specs.Printed.{answerText}
 use Rattle.bristol.specs.Text.{circuitText}
-use Rattle.repeats.specs.Repeats.{Attempt, History, circuitWords, ended, longOnes}
-use Rattle.repeats.specs.Demand3.{Accepts, historyOf, Follows, answerFor, Ends, seen, Demand3}
+use Rattle.repeats.specs.Repeats.{Attempt, History, Tables, circuitWords, ended, longOnes}
+use Rattle.repeats.specs.Demand3.{rowsIn, AllAccepts, historyOf, Follows, answerFor, Ends, seen, Demand3}
 use Rattle.repeats.proofs.Histories.{closed-open, open-closed, repeated, number, repeats-are}
 
 -- ---- marks
@@ -63,9 +62,9 @@ known-closed Refuted t = refl
 abbrev markBy : Answer → ℕ → Bool
 markBy a i = cond (ltb (suc i) (a .count)) false (known (a .verdict))
 
-module _ (d : Dimensions) (left right : List ℕ) (acc : Accepts d left right) (budget : ℕ) where
-  abbrev rows : List Row
-  rows = rowsOf d left right
+module _ (d : Dimensions) (tables : ℕ → Tables) (acc : AllAccepts d tables) (budget : ℕ) where
+  abbrev rows : ℕ → List Row
+  rows = rowsIn d tables
 
   abbrev final : Ran
   final = runFrom (d .n) rows budget fresh
@@ -94,13 +93,13 @@ module _ (d : Dimensions) (left right : List ℕ) (acc : Accepts d left right) (
 
   module _ (attempts : List Attempt) where
     abbrev whole : History
-    whole = historyOf d left right budget attempts
+    whole = historyOf d tables budget attempts
 
     abbrev k : ℕ
-    k = number d left right acc attempts budget fresh
+    k = number d tables attempts budget fresh
 
-    is : whole ≡ repeated d left right acc fresh k
-    is = repeats-are d left right acc attempts budget fresh (fresh-well-formed (d .n)) refl
+    is : whole ≡ repeated d tables fresh k
+    is = repeats-are d attempts tables acc budget fresh (fresh-well-formed (d .n)) refl
 
     marks-are : whole .marks ≡ upto mark k
     marks-are = ap (λ (h : History). h .marks) is
@@ -108,7 +107,7 @@ module _ (d : Dimensions) (left right : List ℕ) (acc : Accepts d left right) (
     size : length (whole .marks) ≡ k
     size = ap length marks-are ∙ length-upto mark k
 
-    pub follows : Follows d left right budget whole
+    pub follows : Follows d tables budget whole
     follows = record {
       run-is = ap (λ (h : History). h .run) is ∙ ap (λ (j : ℕ). runOf (d .n) (after (d .n) rows j fresh)) (sym size);
       mark-is = λ i b. ap (λ (l : List Bool). getD l i false) marks-are ∙ upto-at mark k i (omega (arith, size));
@@ -127,7 +126,7 @@ module _ (d : Dimensions) (left right : List ℕ) (acc : Accepts d left right) (
         (λ q. absurd (true≢false (sym e ∙ unended (ltb-true k (final .steps) q))))
         (λ q. omega (arith, ltb-false k (final .steps) q))
 
-    pub ends : ended budget (whole .marks) ≡ true → Ends d left right budget whole
+    pub ends : ended budget (whole .marks) ≡ true → Ends d tables budget whole
     unfolding answerOf runOf
     ends e = record {
       count-is = size ∙ all-steps e;
@@ -147,37 +146,37 @@ module _ (d : Dimensions) (left right : List ℕ) (acc : Accepts d left right) (
         go zero q c e = absurd (true≢false (sym c ∙ open-closed (ap (λ (s : State). s .standing) (law .final-after) ∙ start q)))
         go (suc i) q c e = rw (ap anyMark marks-are ∙ some-mark mark k i (omega arith) (last-mark i (sym q) ∙ c))
 
-    pub reached : answerFor d left right budget .count ≤ longOnes d attempts → ended budget (whole .marks) ≡ true
+    pub reached : answerFor d tables budget .count ≤ longOnes d attempts → ended budget (whole .marks) ≡ true
     unfolding answerOf
     reached h = reaches h
 
-    marks-by : ended budget (whole .marks) ≡ true → whole .marks ≡ upto (markBy (answerFor d left right budget)) (answerFor d left right budget .count)
+    marks-by : ended budget (whole .marks) ≡ true → whole .marks ≡ upto (markBy (answerFor d tables budget)) (answerFor d tables budget .count)
     unfolding answerOf
     marks-by e =
         marks-are ∙ ap (upto mark) (all-steps e)
-        ∙ upto-cong mark (markBy (answerFor d left right budget)) (final .steps)
+        ∙ upto-cong mark (markBy (answerFor d tables budget)) (final .steps)
         (λ i b.
         on (ltb (suc i) (final .steps))
         (λ q. early i (ltb-true _ _ q) ∙ rw q)
         (λ q. last-mark i (omega (arith, ltb-false (suc i) (final .steps) q)) ∙ known-closed (final .final .standing) (final .final .t) ∙ rw q))
 
 -- what is seen goes by the answer alone
-same-seen : (d : Dimensions) (left right left′ right′ : List ℕ) → Accepts d left right → Accepts d left′ right′
+same-seen : (d : Dimensions) (tables tables′ : ℕ → Tables) → AllAccepts d tables → AllAccepts d tables′
     → (budget : ℕ) (attempts attempts′ : List Attempt)
-    → answerFor d left right budget ≡ answerFor d left′ right′ budget
-    → ended budget (historyOf d left right budget attempts .marks) ≡ true → ended budget (historyOf d left′ right′ budget attempts′ .marks) ≡ true
-    → seen d left right budget attempts ≡ seen d left′ right′ budget attempts′
-same-seen d left right left′ right′ acc acc′ budget attempts attempts′ q e e′ =
+    → answerFor d tables budget ≡ answerFor d tables′ budget
+    → ended budget (historyOf d tables budget attempts .marks) ≡ true → ended budget (historyOf d tables′ budget attempts′ .marks) ≡ true
+    → seen d tables budget attempts ≡ seen d tables′ budget attempts′
+same-seen d tables tables′ acc acc′ budget attempts attempts′ q e e′ =
     ap₂ (λ (m : List Bool) (a : Answer). (circuitText d (gatesOf (circuitWords d)), length m, m, answerText (min (d .n) 32) a))
-    (marks-by d left right acc budget attempts e ∙ ap (λ (a : Answer). upto (markBy a) (a .count)) q
-    ∙ sym (marks-by d left′ right′ acc′ budget attempts′ e′))
+    (marks-by d tables acc budget attempts e ∙ ap (λ (a : Answer). upto (markBy a) (a .count)) q
+    ∙ sym (marks-by d tables′ acc′ budget attempts′ e′))
     q
 
 pub demand3 : (d : Dimensions) → Demand3 d
 unfolding circuitWords
 demand3 d = record {
   every-state = gates-carry-out d;
-  history = λ left right acc budget attempts. follows d left right acc budget attempts;
-  end = λ left right acc budget attempts. (ends d left right acc budget attempts, reached d left right acc budget attempts);
-  secrecy = λ left right left′ right′ acc acc′ budget attempts attempts′. same-seen d left right left′ right′ acc acc′ budget attempts attempts′;
+  history = λ tables acc budget attempts. follows d tables acc budget attempts;
+  end = λ tables acc budget attempts. (ends d tables acc budget attempts, reached d tables acc budget attempts);
+  secrecy = λ tables tables′ acc acc′ budget attempts attempts′. same-seen d tables tables′ acc acc′ budget attempts attempts′;
 }

@@ -1,4 +1,4 @@
--- The repeats of a circuit over two tables: document 01, "Circuit", second paragraph.
+-- The repeats of a circuit over two tables: document 01, "Circuit", second paragraph; each reads the rows as they stand when it begins (document 02, Req 06).
 use Prim.Native.Nat.{ℕ, zero, suc, _+_}
 use mathlib.Core.Bool.{Bool, false, _||_, _&&_, cond}
 use mathlib.Core.List.{List, [], _∷_}
@@ -36,21 +36,32 @@ marked mark h = record { run = h .run; marks = mark ∷ h .marks }
 abbrev pub noRepeat : Run → History
 noRepeat run = record { run = run; marks = [] }
 
--- what comes of an application, where later attempts go on from a run with so many repeats left: turned back, it is no repeat and has no mark;
+-- what comes of an application, where later attempts go on from a run, as they would have without it or one repeat further: turned back, it is no repeat and has no mark;
 -- the first mark that is 1 is the last
-abbrev pub comesOf : Applied → ℕ → (ℕ → Run → History) → History
-comesOf r rest later =
+abbrev pub comesOf : Applied → (Run → History) → (Run → History) → History
+comesOf r again further =
     given (r .outcome)
-    (marked (r .mark) (cond (r .mark) (noRepeat (r .run)) (later rest (r .run))))
-    (λ refusal. later (suc rest) (r .run))
+    (marked (r .mark) (cond (r .mark) (noRepeat (r .run)) (further (r .run))))
+    (λ refusal. again (r .run))
 
--- the attempts, from a run on, with so many repeats left
-unfoldable pub repeats : Dimensions → List ℕ → List ℕ → ℕ → Run → List Attempt → History
+-- both stations' tables
+pub record Tables : Type 0 where
+  pub left : List ℕ
+  pub right : List ℕ
+
+-- the tables from the second repeat on
+abbrev pub laterTables : (ℕ → Tables) → ℕ → Tables
+laterTables tables = λ i. tables (suc i)
+
+-- the attempts, from a run on, with so many repeats left; tables i are those that a repeat reads that i others precede
+unfoldable pub repeats : Dimensions → (ℕ → Tables) → ℕ → Run → List Attempt → History
 unfolding applied circuitWords
-repeats d left right budget run [] = noRepeat run
-repeats d left right zero run (a ∷ later) = noRepeat run
-repeats d left right (suc rest) run (a ∷ later) =
-    comesOf (applied d left right (circuitWords d) run (a .bytes) (a .wires)) rest (λ k next. repeats d left right k next later)
+repeats d tables budget run [] = noRepeat run
+repeats d tables zero run (a ∷ later) = noRepeat run
+repeats d tables (suc rest) run (a ∷ later) =
+    comesOf (applied d (tables 0 .left) (tables 0 .right) (circuitWords d) run (a .bytes) (a .wires))
+    (λ next. repeats d tables (suc rest) next later)
+    (λ next. repeats d (laterTables tables) rest next later)
 
 -- repeats end with a mark that is 1, or when they are as many as the budget
 abbrev pub ended : ℕ → List Bool → Bool

@@ -21,6 +21,7 @@ use Rattle.dimacs.specs.Text.{tableOf}
 use Rattle.dimacs.proofs.Accepted.{Within, accepted-pair}
 use Rattle.solver.specs.declared.Solved.{Solved}
 use Rattle.solver.specs.declared.Solved.the-variants as solved′
+use Rattle.solver.specs.Step.{always}
 use Rattle.solver.specs.Entries.{answerOf, solved}
 use Rattle.solver.specs.Demand2.{Demand2}
 use Rattle.solver.proofs.Demand2.{demand2}
@@ -76,18 +77,18 @@ tables-taken p w =
 
 -- where both texts and the line are taken, the reply is the answer of the budgeted run over their rows
 pub reply-answers : (left right line : List ℕ) (steps : ℕ) → readOf left right .outcome ≡ Taken → budgetOf line ≡ budget.Of steps
-    → let p = readOf left right in replied p line ≡ solved′.Of (answerOf (p .n) (rowsOf (dimensionsOf p) (p .left) (p .right)) steps)
+    → let p = readOf left right in replied p line ≡ solved′.Of (answerOf (p .n) (always (rowsOf (dimensionsOf p) (p .left) (p .right))) steps)
 unfolding solved
 reply-answers left right line steps taken e =
     let p = readOf left right in
     ap (λ (o : Outcome). given o (answered p (budgetOf line)) solved′.Refused) taken
     ∙ ap (answered p) e
-    ∙ ap (λ (o : Outcome). given o (solved′.Of (answerOf (p .n) (rowsOf (dimensionsOf p) (p .left) (p .right)) steps)) solved′.Refused)
+    ∙ ap (λ (o : Outcome). given o (solved′.Of (answerOf (p .n) (always (rowsOf (dimensionsOf p) (p .left) (p .right))) steps)) solved′.Refused)
     (tables-taken p (accepted-pair left right p refl taken))
 
 -- and demand 2 holds of it
 pub reply-demand2 : (left right : List ℕ) (steps : ℕ) → readOf left right .outcome ≡ Taken
-    → let p = readOf left right in let rows = rowsOf (dimensionsOf p) (p .left) (p .right) in Demand2 (p .n) rows steps (answerOf (p .n) rows steps)
+    → let p = readOf left right in let rows = always (rowsOf (dimensionsOf p) (p .left) (p .right)) in Demand2 (p .n) rows steps (answerOf (p .n) rows steps)
 reply-demand2 left right steps taken =
     let p = readOf left right in
     demand2 (dimensionsOf p) (p .left) (p .right) steps (tables-taken p (accepted-pair left right p refl taken))

@@ -1,10 +1,10 @@
--- 2 ^ (k + 1) - 1 steps close a fresh run, k being the number of variables that occur in a row that is no padding: a run sets and chooses only these,
--- and each step of an open run lowers a potential that starts there.
+-- 2 ^ (k + 1) - 1 steps close a fresh run, k being the number of variables that occur in a row that is no padding, in rows where all that occurred at any step still occur:
+-- a run sets and chooses only these, and each step of an open run lowers a potential that starts there.
 -- Assumes nothing.
 use mathlib.Core.Path.{_≡_, refl}
 use mathlib.Core.Bool.{Bool, true, false, _&&_}
 use mathlib.Core.List.{List, [], _∷_}
-use Prim.Native.Nat.{ℕ, zero, suc, _+_, _-_, _*_, _^_, _≤_, _<_}
+use Prim.Native.Nat.{ℕ, zero, suc, _+_, _-_, _*_, _^_, _≤_, _<_, suc-le-suc}
 use native.Mathlib.Nat.{pow-suc}
 use native.Mathlib.Omega.{arith}
 use lib.Pow.{pow-pos, pow-mono}
@@ -18,7 +18,7 @@ use Rattle.state.specs.declared.Standing.{Standing}
 use Rattle.state.specs.declared.Standing.the-variants.{Open, Satisfied, Refuted}
 use Rattle.scan.specs.Rules.{rule}
 use Rattle.state.specs.State.{State, fresh, ifOpen}
-use Rattle.solver.specs.Step.{back, assign, follow, step, after}
+use Rattle.solver.specs.Step.{back, assign, follow, later, step, after}
 use Rattle.solver.specs.Truth.{occurs, occurring}
 use Rattle.state.specs.WellFormed.{chain}
 use Rattle.solver.proofs.RuleLaws.{Ruled, ruled, Settable, unit-settable, choice-settable}
@@ -47,106 +47,110 @@ potentialAt p n s Refuted = 0
 falls : (u u′ : ℕ) → u′ < u → (2 ^ suc u ≡ 2 ^ u * 2) × (2 ^ suc u′ ≤ 2 ^ u) × (0 < 2 ^ u) × (0 < 2 ^ suc u′)
 falls u u′ h = (pow-suc 2 u, pow-mono h, pow-pos u, pow-pos (suc u′))
 
-module _ (n : ℕ) (rows : List Row) where
-  -- how many variables that occur are free
+module _ (n : ℕ) (p : ℕ → Bool) where
+  -- how many of these variables are free
   abbrev among : ℕ → ℕ → ℕ
-  among t f = freeAmong (occurs n rows) n t f
+  among t f = freeAmong p n t f
 
   abbrev potential : State → ℕ
-  potential s = potentialAt (occurs n rows) n s (s .standing)
+  potential s = potentialAt p n s (s .standing)
 
   -- of an open state
   abbrev opened : State → ℕ
-  opened s = potentialAt (occurs n rows) n s Open
+  opened s = potentialAt p n s Open
 
   -- what every step keeps
   abbrev Kept : State → Type 0
-  Kept s = Formed n s × (allChosen (occurs n rows) (s .levels) ≡ true)
+  Kept s = Formed n s × (allChosen p (s .levels) ≡ true)
 
-  -- ---- every chosen variable occurs
+-- rows in which only variables that pass occur
+module _ (n : ℕ) (p : ℕ → Bool) (rows : List Row) (may : (v : ℕ) → occurs n rows v ≡ true → p v ≡ true) where
+  -- ---- every chosen variable is one of them
 
-  back-chosen : (s : State) (ls : List Level) → allChosen (occurs n rows) ls ≡ true → allChosen (occurs n rows) (back s ls .levels) ≡ true
+  back-chosen : (s : State) (ls : List Level) → allChosen p ls ≡ true → allChosen p (back s ls .levels) ≡ true
   back-chosen s [] c = c
-  back-chosen s (l ∷ ls) c = and-r (occurs n rows (l .chosen)) _ c
+  back-chosen s (l ∷ ls) c = and-r (p (l .chosen)) _ c
 
-  follow-chosen : (s : State) (k : Rule) → Ruled n rows (s .t) (s .f) k → allChosen (occurs n rows) (s .levels) ≡ true → allChosen (occurs n rows) (follow s k .levels) ≡ true
+  follow-chosen : (s : State) (k : Rule) → Ruled n rows (s .t) (s .f) k → allChosen p (s .levels) ≡ true → allChosen p (follow s k .levels) ≡ true
   follow-chosen s AllSatisfied w c = c
   follow-chosen s Conflict w c = back-chosen s (s .levels) c
   follow-chosen s (Unit v true) w c = c
   follow-chosen s (Unit v false) w c = c
-  follow-chosen s (Choice v) w c = and-i (choice-settable n rows (s .t) (s .f) w .occurring) c
+  follow-chosen s (Choice v) w c = and-i (may v (choice-settable n rows (s .t) (s .f) w .occurring)) c
 
-  step-kept : (s : State) → Kept s → Kept (step n rows s)
+  step-kept : (s : State) → Kept n p s → Kept n p (step n rows s)
   unfolding step
   step-kept s o = (step-formed n rows s (o .0), go (s .standing))
     where
-      go : (st : Standing) → allChosen (occurs n rows) (ifOpen st (follow s (rule n rows (s .t) (s .f))) s .levels) ≡ true
+      go : (st : Standing) → allChosen p (ifOpen st (follow s (rule n rows (s .t) (s .f))) s .levels) ≡ true
       go Open = follow-chosen s (rule n rows (s .t) (s .f)) (ruled n rows (s .t) (s .f)) (o .1)
       go Satisfied = o .1
       go Refuted = o .1
 
   -- ---- the potential falls
 
-  back-falls : (s : State) (ls : List Level) → chain n (s .t) (s .f) ls ≡ true → allChosen (occurs n rows) ls ≡ true
-      → potential (back s ls) < (2 ^ suc (among (s .t) (s .f)) - 1) + leftOver (occurs n rows) n ls
+  back-falls : (s : State) (ls : List Level) → chain n (s .t) (s .f) ls ≡ true → allChosen p ls ≡ true
+      → potential n p (back s ls) < (2 ^ suc (among n p (s .t) (s .f)) - 1) + leftOver p n ls
   unfolding leftOver
-  back-falls s [] e c = omega (arith, pow-suc 2 (among (s .t) (s .f)), pow-pos (among (s .t) (s .f)))
+  back-falls s [] e c = omega (arith, pow-suc 2 (among n p (s .t) (s .f)), pow-pos (among n p (s .t) (s .f)))
   back-falls s (l ∷ ls) e c =
       let w = chain-head n l (s .t) (s .f) ls e in
       omega (
         arith,
-        falls _ _ (free-less-f n (l .t) (l .f) (l .chosen) (w .low) (w .was-free) (occurs n rows) (and-l _ _ c)),
-        pow-suc 2 (among (s .t) (s .f)),
-        pow-pos (among (s .t) (s .f)),
+        falls _ _ (free-less-f n (l .t) (l .f) (l .chosen) (w .low) (w .was-free) p (and-l _ _ c)),
+        pow-suc 2 (among n p (s .t) (s .f)),
+        pow-pos (among n p (s .t) (s .f)),
       )
 
-  assign-falls : (s : State) (v : ℕ) (positive : Bool) → Settable n rows (s .t) (s .f) v → potential (assign s v positive) < opened s
-  assign-falls s v true w = omega (arith, falls _ _ (free-less-t n (s .t) (s .f) v (w .low) (w .is-free) (occurs n rows) (w .occurring)))
-  assign-falls s v false w = omega (arith, falls _ _ (free-less-f n (s .t) (s .f) v (w .low) (w .is-free) (occurs n rows) (w .occurring)))
+  assign-falls : (s : State) (v : ℕ) (positive : Bool) → Settable n rows (s .t) (s .f) v → potential n p (assign s v positive) < opened n p s
+  assign-falls s v true w = omega (arith, falls _ _ (free-less-t n (s .t) (s .f) v (w .low) (w .is-free) p (may v (w .occurring))))
+  assign-falls s v false w = omega (arith, falls _ _ (free-less-f n (s .t) (s .f) v (w .low) (w .is-free) p (may v (w .occurring))))
 
-  choice-falls : (s : State) (v : ℕ) → Settable n rows (s .t) (s .f) v → potential (follow s (Choice v)) < opened s
+  choice-falls : (s : State) (v : ℕ) → Settable n rows (s .t) (s .f) v → potential n p (follow s (Choice v)) < opened n p s
   unfolding leftOver
-  choice-falls s v w = omega (arith, falls _ _ (free-less-t n (s .t) (s .f) v (w .low) (w .is-free) (occurs n rows) (w .occurring)))
+  choice-falls s v w = omega (arith, falls _ _ (free-less-t n (s .t) (s .f) v (w .low) (w .is-free) p (may v (w .occurring))))
 
-  follow-falls : (s : State) (k : Rule) → Ruled n rows (s .t) (s .f) k → Kept s → potential (follow s k) < opened s
-  follow-falls s AllSatisfied w o = omega (arith, pow-suc 2 (among (s .t) (s .f)), pow-pos (among (s .t) (s .f)))
+  follow-falls : (s : State) (k : Rule) → Ruled n rows (s .t) (s .f) k → Kept n p s → potential n p (follow s k) < opened n p s
+  follow-falls s AllSatisfied w o = omega (arith, pow-suc 2 (among n p (s .t) (s .f)), pow-pos (among n p (s .t) (s .f)))
   follow-falls s Conflict w o = back-falls s (s .levels) (o .0 .linked) (o .1)
   follow-falls s (Unit v positive) w o = assign-falls s v positive (unit-settable n rows (s .t) (s .f) w)
   follow-falls s (Choice v) w o = choice-falls s v (choice-settable n rows (s .t) (s .f) w)
 
-  step-falls : (s : State) → Kept s → (k : ℕ) → potential s ≤ suc k → potential (step n rows s) ≤ k
+  step-falls : (s : State) → Kept n p s → (k : ℕ) → potential n p s ≤ suc k → potential n p (step n rows s) ≤ k
   unfolding step
   step-falls s o k = go (s .standing) refl
     where
-      go : (st : Standing) → s .standing ≡ st → potentialAt (occurs n rows) n s st ≤ suc k → potential (ifOpen st (follow s (rule n rows (s .t) (s .f))) s) ≤ k
+      go : (st : Standing) → s .standing ≡ st → potentialAt p n s st ≤ suc k → potential n p (ifOpen st (follow s (rule n rows (s .t) (s .f))) s) ≤ k
       go Open e h = omega (arith, follow-falls s (rule n rows (s .t) (s .f)) (ruled n rows (s .t) (s .f)) o)
       go Satisfied e h = rw e (omega arith)
       go Refuted e h = rw e (omega arith)
 
-  -- ---- so it reaches 0, and no open state has potential 0
+-- ---- so it reaches 0, and no open state has potential 0
 
-  closes : (k : ℕ) (s : State) → Kept s → potential s ≤ k → after n rows k s .standing ≡ Open → ⊥
+module _ (n : ℕ) (p : ℕ → Bool) where
+  closes : (k : ℕ) (rows : ℕ → List Row) → ((i : ℕ) → i < k → (v : ℕ) → occurs n (rows i) v ≡ true → p v ≡ true)
+      → (s : State) → Kept n p s → potential n p s ≤ k → after n rows k s .standing ≡ Open → ⊥
   unfolding after
-  closes zero s o h = go (s .standing) h
+  closes zero rows may s o h = go (s .standing) h
     where
-      go : (st : Standing) → potentialAt (occurs n rows) n s st ≤ 0 → st ≡ Open → ⊥
-      go Open h e = omega (arith, pow-suc 2 (among (s .t) (s .f)), pow-pos (among (s .t) (s .f)))
+      go : (st : Standing) → potentialAt p n s st ≤ 0 → st ≡ Open → ⊥
+      go Open h e = omega (arith, pow-suc 2 (among n p (s .t) (s .f)), pow-pos (among n p (s .t) (s .f)))
       go Satisfied h e = let z : _≡_ {A = ℕ} 0 1 = cc in omega arith
       go Refuted h e = let z : _≡_ {A = ℕ} 0 1 = cc in omega arith
-  closes (suc k) s o h = closes k (step n rows s) (step-kept s o) (step-falls s o k h)
+  closes (suc k) rows may s o h =
+      closes k (later rows) (λ i b. may (suc i) (suc-le-suc b)) (step n (rows 0) s)
+      (step-kept n p (rows 0) (may 0 (omega arith)) s o) (step-falls n p (rows 0) (may 0 (omega arith)) s o k h)
 
-  pub after-closes : (k : ℕ) → 2 ^ suc (occurring n rows) - 1 ≤ k → after n rows k fresh .standing ≡ Open → ⊥
+module _ (n : ℕ) (last : List Row) where
+  -- what occurs at any step still occurs in the last rows
+  pub after-closes : (k : ℕ) (rows : ℕ → List Row) → ((i : ℕ) → i < k → (v : ℕ) → occurs n (rows i) v ≡ true → occurs n last v ≡ true)
+      → 2 ^ suc (occurring n last) - 1 ≤ k → after n rows k fresh .standing ≡ Open → ⊥
   unfolding leftOver occurring
-  after-closes k h =
-      let p : 2 ^ suc (among 0 0) ≤ 2 ^ suc (occurring n rows) = pow-mono (omega (arith, free-le (occurs n rows) n 0 0)) in
-      closes k fresh (fresh-formed n, refl) (omega arith)
+  after-closes k rows may h =
+      let p : 2 ^ suc (among n (occurs n last) 0 0) ≤ 2 ^ suc (occurring n last) = pow-mono (omega (arith, free-le (occurs n last) n 0 0)) in
+      closes n (occurs n last) k rows may fresh (fresh-formed n, refl) (omega arith)
 
   -- and there are at most n such variables
-  pub occurring-le : occurring n rows ≤ n
+  pub occurring-le : occurring n last ≤ n
   unfolding occurring
-  occurring-le = count-le (occurs n rows) n
-
-  pub after-closes-n : (k : ℕ) → 2 ^ suc n - 1 ≤ k → after n rows k fresh .standing ≡ Open → ⊥
-  after-closes-n k h =
-      let p : 2 ^ suc (occurring n rows) ≤ 2 ^ suc n = pow-mono (omega (arith, occurring-le)) in
-      after-closes k (omega arith)
+  occurring-le = count-le (occurs n last) n

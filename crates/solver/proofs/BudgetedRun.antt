@@ -16,7 +16,7 @@ use Rattle.state.specs.declared.Standing.{Standing}
 use Rattle.state.specs.declared.Standing.the-variants.{Open, Satisfied, Refuted}
 use Rattle.verdicts.specs.declared.Verdict.{Verdict}
 use Rattle.state.specs.State.{State, fresh, stateOf, runOf, ifOpen}
-use Rattle.solver.specs.Step.{step}
+use Rattle.solver.specs.Step.{always, step}
 use Rattle.state.specs.WellFormed.{wellFormed}
 use Rattle.verdicts.specs.Verdicts.{verdictOf}
 use Rattle.solver.specs.Entries.{Ran, runFrom, answerOf}
@@ -49,31 +49,31 @@ left-over count budget =
 module _ (n : ℕ) (rows : List Row) where
   -- one step of the budget
   unfold-run : (k : ℕ) (s : State)
-      → runFrom n rows (suc k) s ≡ ifOpen (s .standing) (more 1 (runFrom n rows k (step n rows s))) (record { steps = 0; final = s })
+      → runFrom n (always rows) (suc k) s ≡ ifOpen (s .standing) (more 1 (runFrom n (always rows) k (step n rows s))) (record { steps = 0; final = s })
   unfolding runFrom
   unfold-run k s = go (s .standing) (s .t) (s .f) (s .levels)
     where
       go : (st : Standing) (t f : ℕ) (ls : List Level)
-          → runFrom n rows (suc k) (record { standing = st; t = t; f = f; levels = ls })
-          ≡ ifOpen st (more 1 (runFrom n rows k (step n rows (record { standing = st; t = t; f = f; levels = ls })))) (record { steps = 0; final = record { standing = st; t = t; f = f; levels = ls } })
+          → runFrom n (always rows) (suc k) (record { standing = st; t = t; f = f; levels = ls })
+          ≡ ifOpen st (more 1 (runFrom n (always rows) k (step n rows (record { standing = st; t = t; f = f; levels = ls })))) (record { steps = 0; final = record { standing = st; t = t; f = f; levels = ls } })
       go Open t f ls =
-          let r = runFrom n rows k (step n rows (record { standing = Open; t = t; f = f; levels = ls })) in
+          let r = runFrom n (always rows) k (step n rows (record { standing = Open; t = t; f = f; levels = ls })) in
           let e : suc (r .steps) ≡ 1 + r .steps = omega arith in
           ap (λ (x : ℕ). record { steps = x; final = r .final }) e
       go Satisfied t f ls = refl
       go Refuted t f ls = refl
 
   -- the run goes on
-  goes : (k : ℕ) (s : State) → s .standing ≡ Open → runFrom n rows (suc k) s ≡ more 1 (runFrom n rows k (step n rows s))
-  goes k s e = unfold-run k s ∙ ap (λ (st : Standing). ifOpen st (more 1 (runFrom n rows k (step n rows s))) (record { steps = 0; final = s })) e
+  goes : (k : ℕ) (s : State) → s .standing ≡ Open → runFrom n (always rows) (suc k) s ≡ more 1 (runFrom n (always rows) k (step n rows s))
+  goes k s e = unfold-run k s ∙ ap (λ (st : Standing). ifOpen st (more 1 (runFrom n (always rows) k (step n rows s))) (record { steps = 0; final = s })) e
 
   -- the run stops
-  stops : (k : ℕ) (s : State) → ifOpen (s .standing) (ltb 0 k) false ≡ false → runFrom n rows k s ≡ record { steps = 0; final = s }
+  stops : (k : ℕ) (s : State) → ifOpen (s .standing) (ltb 0 k) false ≡ false → runFrom n (always rows) k s ≡ record { steps = 0; final = s }
   unfolding runFrom
   stops zero s h = refl
   stops (suc k) s h = unfold-run k s ∙ go (s .standing) (ap (λ (b : Bool). ifOpen (s .standing) b false) (sym (lt-ltb 0 (suc k) (omega arith))) ∙ h)
     where
-      go : (st : Standing) → ifOpen st true false ≡ false → ifOpen st (more 1 (runFrom n rows k (step n rows s))) (record { steps = 0; final = s }) ≡ record { steps = 0; final = s }
+      go : (st : Standing) → ifOpen st true false ≡ false → ifOpen st (more 1 (runFrom n (always rows) k (step n rows s))) (record { steps = 0; final = s }) ≡ record { steps = 0; final = s }
       go Open e = absurd (true≢false e)
       go Satisfied e = refl
       go Refuted e = refl
@@ -83,7 +83,7 @@ pub record Running (n : ℕ) (rows : List Row) (budget : ℕ) (run : Run) (count
   pub within : count ≤ budget
   pub same : run .n ≡ n
   pub formed : wellFormed run ≡ true
-  pub left : runFrom n rows budget fresh ≡ more count (runFrom n rows (budget - count) (stateOf run))
+  pub left : runFrom n (always rows) budget fresh ≡ more count (runFrom n (always rows) (budget - count) (stateOf run))
 
 variables-of : (n : ℕ) (s : State) (run : Run) → run ≡ runOf n s → run .n ≡ n
 unfolding runOf
@@ -99,7 +99,7 @@ module _ (n : ℕ) (rows : List Row) (budget : ℕ) where
         within = omega arith;
         same = variables-of n fresh run e;
         formed = ap (λ (r : Run). wellFormed r) e ∙ run-of-formed n fresh a b (fresh-well-formed n);
-        left = more-none (runFrom n rows budget fresh) ∙ ap₂ (λ (x : ℕ) (s : State). more 0 (runFrom n rows x s)) k (sym (state-of n fresh run e));
+        left = more-none (runFrom n (always rows) budget fresh) ∙ ap₂ (λ (x : ℕ) (s : State). more 0 (runFrom n (always rows) x s)) k (sym (state-of n fresh run e));
       }
 
   module _ (run : Run) (count : ℕ) (o : Running n rows budget run count) where
@@ -115,13 +115,13 @@ module _ (n : ℕ) (rows : List Row) (budget : ℕ) where
           same = variables-of n (step n rows (stateOf run)) next e;
           formed = ap (λ (r : Run). wellFormed r) e ∙ step-formed-run n rows run (o .same) (o .formed);
           left = o .left
-              ∙ ap (λ (r : Ran). more count r) (ap (λ (x : ℕ). runFrom n rows x (stateOf run)) k ∙ goes n rows (budget - (count + 1)) (stateOf run) (p .0))
-              ∙ more-more count 1 (runFrom n rows (budget - (count + 1)) (step n rows (stateOf run)))
-              ∙ ap (λ (s : State). more (count + 1) (runFrom n rows (budget - (count + 1)) s)) (sym (state-of n (step n rows (stateOf run)) next e));
+              ∙ ap (λ (r : Ran). more count r) (ap (λ (x : ℕ). runFrom n (always rows) x (stateOf run)) k ∙ goes n rows (budget - (count + 1)) (stateOf run) (p .0))
+              ∙ more-more count 1 (runFrom n (always rows) (budget - (count + 1)) (step n rows (stateOf run)))
+              ∙ ap (λ (s : State). more (count + 1) (runFrom n (always rows) (budget - (count + 1)) s)) (sym (state-of n (step n rows (stateOf run)) next e));
         }
 
     pub running-end : ifOpen (run .standing) (ltb count budget) false ≡ false → (v : Verdict) → v ≡ verdictOf (run .standing) (run .t)
-        → _≡_ {A = Answer} (record { count = count; verdict = v }) (answerOf n rows budget)
+        → _≡_ {A = Answer} (record { count = count; verdict = v }) (answerOf n (always rows) budget)
     unfolding answerOf
     running-end h v e =
         let z : count ≡ count + 0 = omega arith in

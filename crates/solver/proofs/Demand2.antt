@@ -3,8 +3,12 @@
 use mathlib.Core.Path.{_≡_, refl, sym, ap, _∙_}
 use mathlib.Core.Bool.{Bool, true, false}
 use mathlib.Core.List.{List}
-use Prim.Native.Nat.{ℕ, _≤_}
+use Prim.Native.Nat.{ℕ, zero, suc, _-_, _^_, _≤_, _<_}
 use native.Mathlib.Omega.{arith}
+use lib.Dec.{ltb}
+use lib.Pow.{pow-mono}
+use borrow.Author.Tests.{ltb-true, ltb-false}
+use Rattle.words.proofs.Truth.{on}
 use Rattle.refusals.specs.Checks.{outcome}
 use Rattle.refusals.specs.declared.Outcome.the-variants.{Taken}
 use Rattle.words.specs.Sets.{bit}
@@ -18,8 +22,9 @@ use Rattle.state.specs.declared.Standing.the-variants.{Open, Satisfied, Refuted
 use Rattle.verdicts.specs.declared.Verdict.the-variants.{Satisfiable, Unsatisfiable, Unknown}
 use Rattle.scan.specs.Rules.{allRows}
 use Rattle.state.specs.State.{State, fresh}
-use Rattle.solver.specs.Step.{after}
-use Rattle.solver.specs.Truth.{allTrue}
+use Rattle.solver.specs.Step.{always, step, after}
+use Rattle.solver.specs.Late.{Late, rowsAt}
+use Rattle.solver.specs.Truth.{allTrue, occurring}
 use Rattle.verdicts.specs.Verdicts.{verdictOf}
 use Rattle.solver.specs.Entries.{Ran, runFrom, answerOf}
 use Rattle.solver.specs.Demand2.{Demand2}
@@ -27,7 +32,9 @@ use Rattle.solver.proofs.RunLaws.{RunOf, run-of}
 use Rattle.solver.proofs.LowRows.{lowRow, accepted-low}
 use Rattle.solver.proofs.Satisfaction.{satisfied-model}
 use Rattle.solver.proofs.Refutation.{refuted-none}
-use Rattle.solver.proofs.Bound.{after-closes, after-closes-n}
+use Rattle.solver.proofs.StepLaws.{after-last, after-formed, fresh-formed}
+use Rattle.solver.proofs.Growth.{Grows, grows-same, rows-low, rows-grow}
+use Rattle.solver.proofs.Bound.{after-closes, occurring-le}
 
 -- ---- the standing that a verdict comes from
 
@@ -46,9 +53,10 @@ verdict-open Open t e = refl
 verdict-open Satisfied t e = let z : _≡_ {A = ℕ} 0 1 = cc in absurd (omega arith)
 verdict-open Refuted t e = let z : _≡_ {A = ℕ} 0 1 = cc in absurd (omega arith)
 
--- ---- rows whose words are below 2 ^ n
+-- ---- rows whose words are below 2 ^ n, of which only padding rows are replaced
 
-module _ (n : ℕ) (rows : List Row) (few : n ≤ 32) (low : allRows (lowRow n) rows ≡ true) (budget : ℕ) where
+module _ (n : ℕ) (rows : ℕ → List Row) (few : n ≤ 32) (low : (i : ℕ) → allRows (lowRow n) (rows i) ≡ true)
+    (grows : (i j : ℕ) → i ≤ j → Grows n (rows i) (rows j)) (budget : ℕ) where
   r : Ran
   r = runFrom n rows budget fresh
 
@@ -56,23 +64,66 @@ module _ (n : ℕ) (rows : List Row) (few : n ≤ 32) (low : allRows (lowRow n) 
   unfolding r
   ran = run-of n rows budget fresh
 
-  model-true : (model : ℕ) → verdictOf (r .final .standing) (r .final .t) ≡ Satisfiable model → allTrue (bit model) rows ≡ true
+  -- the rows that the last step read
+  abbrev last : List Row
+  last = rows (r .steps - 1)
+
+  -- the state before it
+  abbrev before : State
+  before = after n rows (r .steps - 1) fresh
+
+  -- the fresh state is open
+  some-step : (st : Standing) → (st ≡ Open → ⊥) → r .final .standing ≡ st → 0 < r .steps
+  unfolding after
+  some-step st h e = go (r .steps) refl
+    where
+      go : (k : ℕ) → r .steps ≡ k → 0 < k
+      go zero q = absurd (h (sym e ∙ ap (λ (s : State). s .standing) (ran .final-after) ∙ ap (λ (k : ℕ). after n rows k fresh .standing) q))
+      go (suc k) q = omega arith
+
+  last-step : 0 < r .steps → r .final ≡ step n last before
+  last-step h =
+      let k : r .steps ≡ suc (r .steps - 1) = omega arith in
+      ran .final-after ∙ ap (λ (k : ℕ). after n rows k fresh) k ∙ after-last n rows (r .steps - 1) fresh
+
+  model-true : (model : ℕ) → verdictOf (r .final .standing) (r .final .t) ≡ Satisfiable model → allTrue (bit model) last ≡ true
   model-true model e =
       let v = verdict-satisfied (r .final .standing) (r .final .t) model e in
-      let h : after n rows (r .steps) fresh .standing ≡ Satisfied = ap (λ (s : State). s .standing) (sym (ran .final-after)) ∙ v .0 in
-      let m : after n rows (r .steps) fresh .t ≡ model = ap (λ (s : State). s .t) (sym (ran .final-after)) ∙ v .1 in
-      rw m at (satisfied-model n rows few low (r .steps) h)
+      let some = some-step Satisfied (λ q. let z : _≡_ {A = ℕ} 0 1 = cc in omega arith) (v .0) in
+      let is = last-step some in
+      let h : step n last before .standing ≡ Satisfied = ap (λ (s : State). s .standing) (sym is) ∙ v .0 in
+      let m : step n last before .t ≡ model = ap (λ (s : State). s .t) (sym is) ∙ v .1 in
+      rw m at (satisfied-model n last few (low (r .steps - 1)) before (after-formed n rows (r .steps - 1) fresh (fresh-formed n)) (ran .open-before (r .steps - 1) (omega arith)) h)
 
-  none-true : verdictOf (r .final .standing) (r .final .t) ≡ Unsatisfiable → (a : ℕ → Bool) → allTrue a rows ≡ false
-  none-true e =
-      refuted-none n rows few low (r .steps)
+  none-true : verdictOf (r .final .standing) (r .final .t) ≡ Unsatisfiable → (a : ℕ → Bool) → allTrue a last ≡ false
+  none-true e a =
+      on (allTrue a last)
+      (λ h. absurd (refuted-none n rows few low (r .steps)
       (ap (λ (s : State). s .standing) (sym (ran .final-after)) ∙ verdict-refuted (r .final .standing) (r .final .t) e)
+      a (λ i b. grows i (r .steps - 1) (omega arith) .true-before a h)))
+      (λ h. h)
 
   still-open : verdictOf (r .final .standing) (r .final .t) ≡ Unknown → (r .steps ≡ budget) × (after n rows budget fresh .standing ≡ Open)
   still-open e =
       let h = verdict-open (r .final .standing) (r .final .t) e in
       let whole = ran .open-whole h in
       (whole, ap (λ (k : ℕ). after n rows k fresh .standing) (sym whole) ∙ ap (λ (s : State). s .standing) (sym (ran .final-after)) ∙ h)
+
+  -- an open run has taken fewer steps
+  open-bound : (k : ℕ) → k ≤ r .steps → after n rows k fresh .standing ≡ Open → k < 2 ^ suc (occurring n last) - 1
+  open-bound k b e =
+      on (ltb k (2 ^ suc (occurring n last) - 1)) (ltb-true _ _)
+      (λ h. absurd (after-closes n last k rows (λ i c v. grows i (r .steps - 1) (omega arith) .occurs-still v) (ltb-false _ _ h) e))
+
+  steps-bound : r .steps ≤ 2 ^ suc (occurring n last) - 1
+  steps-bound = go (r .steps) refl
+    where
+      go : (k : ℕ) → r .steps ≡ k → k ≤ 2 ^ suc (occurring n last) - 1
+      go zero e = omega arith
+      go (suc k) e = omega (arith, open-bound k (omega arith) (ran .open-before k (omega arith)))
+
+  unknown-bound : 2 ^ suc (occurring n last) - 1 ≤ budget → verdictOf (r .final .standing) (r .final .t) ≡ Unknown → ⊥
+  unknown-bound h e = let o = still-open e in omega (arith, open-bound budget (omega (arith, o .0)) (o .1))
 
   pub demand2-rows : Demand2 n rows budget (answerOf n rows budget)
   unfolding answerOf r
@@ -83,12 +134,25 @@ module _ (n : ℕ) (rows : List Row) (few : n ≤ 32) (low : allRows (lowRow n) 
     count-most = ran .most;
     count-least = ran .open-before;
     count-closes = λ e. ran .open-whole (ap (λ (s : State). s .standing) (ran .final-after) ∙ e);
-    bound = λ h e. after-closes n rows budget h (still-open e .1);
-    bound-n = λ h e. after-closes-n n rows budget h (still-open e .1);
+    bound-count = steps-bound;
+    bound = unknown-bound;
+    bound-n = λ h e. let p : 2 ^ suc (occurring n last) ≤ 2 ^ suc n = pow-mono (omega (arith, occurring-le n last)) in unknown-bound (omega arith) e;
   }
 
 -- ---- accepted tables
 
+-- with late conditions
+pub demand2-late : (d : Dimensions) (left right : List ℕ) (late : List Late) (budget : ℕ) → outcome (tableChecks d left right) ≡ Taken
+    → let rows = rowsAt (d .n) (rowsOf d left right) late in Demand2 (d .n) rows budget (answerOf (d .n) rows budget)
+demand2-late d left right late budget e =
+    let few = accepted d left right e .n-most in
+    demand2-rows (d .n) (rowsAt (d .n) (rowsOf d left right) late) few
+    (rows-low (d .n) few late (rowsOf d left right) (accepted-low d left right e))
+    (rows-grow (d .n) few late (rowsOf d left right)) budget
+
+-- and without
 pub demand2 : (d : Dimensions) (left right : List ℕ) (budget : ℕ) → outcome (tableChecks d left right) ≡ Taken
-    → Demand2 (d .n) (rowsOf d left right) budget (answerOf (d .n) (rowsOf d left right) budget)
-demand2 d left right budget e = demand2-rows (d .n) (rowsOf d left right) (accepted d left right e .n-most) (accepted-low d left right e) budget
+    → let rows = always (rowsOf d left right) in Demand2 (d .n) rows budget (answerOf (d .n) rows budget)
+demand2 d left right budget e =
+    demand2-rows (d .n) (always (rowsOf d left right)) (accepted d left right e .n-most) (λ i. accepted-low d left right e)
+    (λ i j b. grows-same (d .n) (rowsOf d left right)) budget

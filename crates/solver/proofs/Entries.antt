@@ -18,7 +18,7 @@ use Rattle.state.specs.declared.Run.{Run}
 use Rattle.solver.specs.declared.Solved.the-variants as solved′
 use Rattle.solver.specs.declared.Stepped.{Stepped}
 use Rattle.state.specs.State.{stateOf, runOf}
-use Rattle.solver.specs.Step.{step}
+use Rattle.solver.specs.Step.{always, step}
 use Rattle.solver.specs.Entries.{answerOf, stepped, solved}
 use Rattle.state.specs.WellFormed.{wellFormed, stateChecks}
 use Rattle.state.proofs.Checks.{state-formed, state-same}
@@ -72,11 +72,11 @@ module _ (d : Dimensions) (left right : List ℕ) (run : Run) where
 -- ---- the budgeted run's entry
 
 module _ (d : Dimensions) (left right : List ℕ) (budget : ℕ) where
-  solve-as : (o : Outcome) → o ≡ outcome (tableChecks d left right) → given o (solved′.Of (answerOf (d .n) (rowsOf d left right) budget)) solved′.Refused ≡ solved d left right budget
+  solve-as : (o : Outcome) → o ≡ outcome (tableChecks d left right) → given o (solved′.Of (answerOf (d .n) (always (rowsOf d left right)) budget)) solved′.Refused ≡ solved d left right budget
   unfolding solved
-  solve-as o e = ap (λ (x : Outcome). given x (solved′.Of (answerOf (d .n) (rowsOf d left right) budget)) solved′.Refused) e
+  solve-as o e = ap (λ (x : Outcome). given x (solved′.Of (answerOf (d .n) (always (rowsOf d left right)) budget)) solved′.Refused) e
 
-  pub solve-taken : Taken ≡ outcome (tableChecks d left right) → (a : Answer) → a ≡ answerOf (d .n) (rowsOf d left right) budget → solved′.Of a ≡ solved d left right budget
+  pub solve-taken : Taken ≡ outcome (tableChecks d left right) → (a : Answer) → a ≡ answerOf (d .n) (always (rowsOf d left right)) budget → solved′.Of a ≡ solved d left right budget
   solve-taken e a q = ap solved′.Of q ∙ solve-as Taken e
 
   pub solve-refused : (r : Refusal) → Refused r ≡ outcome (tableChecks d left right) → solved′.Refused r ≡ solved d left right budget

@@ -8,6 +8,7 @@ pub mod RunLaws
 pub mod TruthLaws
 pub mod Satisfaction
 pub mod Refutation
+pub mod Growth
 pub mod Bound
 pub mod Demand2
 pub mod Marked

@@ -10,6 +10,7 @@ use Rattle.tables.specs.Rows.{padding, satisfied, freeLiterals}
 use Rattle.solver.specs.declared.Answer.{Answer}
 use Rattle.verdicts.specs.declared.Verdict.{Verdict}
 use Rattle.verdicts.specs.declared.Verdict.the-variants.{Satisfiable, Unsatisfiable, Unknown}
+use Rattle.solver.specs.Step.{always}
 use Rattle.solver.specs.Entries.{answerOf}
 
 -- ---- literals side by side, as document 01 writes clauses and models
@@ -62,6 +63,6 @@ table =
     ∷ line 1 (pos 1 ∷ []) (pos 1 ∷ []) 0 0 Unknown
     ∷ []
 
-pub ten-marked : map (λ (m : Marked). answerOf (m .n) (m .left ++ m .right) (m .budget)) table ≡ map (λ (m : Marked). m .answer) table
+pub ten-marked : map (λ (m : Marked). answerOf (m .n) (always (m .left ++ m .right)) (m .budget)) table ≡ map (λ (m : Marked). m .answer) table
 unfolding table answerOf freeLiterals padding satisfied bit put any count lowest
 ten-marked = refl

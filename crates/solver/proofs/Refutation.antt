@@ -112,21 +112,21 @@ leftAt n a s Satisfied = Left n a s
 leftAt n a s Refuted = ⊥
 
 -- an assignment that makes every row true
-module _ (n : ℕ) (rows : List Row) (a : ℕ → Bool) (true-in : (r : Row) → In r rows → any (λ i. literal a r i) n ≡ true) where
-  abbrev Covered : State → Type 0
-  Covered s = leftAt n a s (s .standing)
+abbrev Covered : ℕ → (ℕ → Bool) → State → Type 0
+Covered n a s = leftAt n a s (s .standing)
 
-  back-covers : (s : State) (ls : List Level) → Pending n a ls → Covered (back s ls)
+module _ (n : ℕ) (rows : List Row) (a : ℕ → Bool) (true-in : (r : Row) → In r rows → any (λ i. literal a r i) n ≡ true) where
+  back-covers : (s : State) (ls : List Level) → Pending n a ls → Covered n a (back s ls)
   back-covers s [] p = p
   back-covers s (l ∷ ls) p = p
 
-  assign-covers : (s : State) (v : ℕ) (positive : Bool) → (Agrees n a (s .t) (s .f) → a v ≡ positive) → Left n a s → Covered (assign s v positive)
+  assign-covers : (s : State) (v : ℕ) (positive : Bool) → (Agrees n a (s .t) (s .f) → a v ≡ positive) → Left n a s → Covered n a (assign s v positive)
   assign-covers s v true h (inl g) = inl (agrees-t n a (s .t) (s .f) g v (h g))
   assign-covers s v false h (inl g) = inl (agrees-f n a (s .t) (s .f) g v (h g))
   assign-covers s v true h (inr p) = inr p
   assign-covers s v false h (inr p) = inr p
 
-  follow-covers : (s : State) (k : Rule) → Ruled n rows (s .t) (s .f) k → Left n a s → Covered (follow s k)
+  follow-covers : (s : State) (k : Rule) → Ruled n rows (s .t) (s .f) k → Left n a s → Covered n a (follow s k)
   follow-covers s AllSatisfied w c = c
   follow-covers s Conflict w (inl g) = absurd (conflict-false n a (s .t) (s .f) g (w .row) (w .no-literal) (true-in (w .row) (w .of-rows)))
   follow-covers s Conflict w (inr p) = back-covers s (s .levels) p
@@ -136,22 +136,19 @@ module _ (n : ℕ) (rows : List Row) (a : ℕ → Bool) (true-in : (r : Row) →
       on (a v) (λ e. inl (agrees-t n a (s .t) (s .f) g v e)) (λ e. inr (inl (agrees-f n a (s .t) (s .f) g v e)))
   follow-covers s (Choice v) w (inr p) = inr (inr p)
 
-  step-covers : (s : State) → Covered s → Covered (step n rows s)
+  step-covers : (s : State) → Covered n a s → Covered n a (step n rows s)
   unfolding step
   step-covers s c = go (s .standing) refl
     where
-      go : (st : Standing) → s .standing ≡ st → Covered (ifOpen st (follow s (rule n rows (s .t) (s .f))) s)
+      go : (st : Standing) → s .standing ≡ st → Covered n a (ifOpen st (follow s (rule n rows (s .t) (s .f))) s)
       go Open e = follow-covers s (rule n rows (s .t) (s .f)) (ruled n rows (s .t) (s .f)) (rw e at c)
       go Satisfied e = c
       go Refuted e = c
 
-  fresh-covers : Covered fresh
-  fresh-covers = inl (λ i b. rw bit-zero refl)
-
-  after-covers : (k : ℕ) → Covered (after n rows k fresh)
-  after-covers k = after-keeps n rows Covered step-covers k fresh fresh-covers
-
-pub refuted-none : (n : ℕ) (rows : List Row) → n ≤ 32 → allRows (lowRow n) rows ≡ true → (k : ℕ)
-    → after n rows k fresh .standing ≡ Refuted → (a : ℕ → Bool) → allTrue a rows ≡ false
-refuted-none n rows few low k e a =
-    on (allTrue a rows) (λ h. absurd (rw e at (after-covers n rows a (all-true-e n few a rows low h) k))) (λ h. h)
+-- no assignment makes the rows of every step true
+pub refuted-none : (n : ℕ) (rows : ℕ → List Row) → n ≤ 32 → ((i : ℕ) → allRows (lowRow n) (rows i) ≡ true) → (k : ℕ)
+    → after n rows k fresh .standing ≡ Refuted → (a : ℕ → Bool) → ((i : ℕ) → i < k → allTrue a (rows i) ≡ true) → ⊥
+refuted-none n rows few low k e a h =
+    rw e at (after-keeps n rows (Covered n a) k
+    (λ i b. step-covers n (rows i) a (all-true-e n few a (rows i) (low i) (h i b)))
+    fresh (inl (λ i b. rw bit-zero refl)))

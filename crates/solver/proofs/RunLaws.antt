@@ -9,21 +9,21 @@ use Rattle.tables.specs.declared.Row.{Row}
 use Rattle.state.specs.declared.Standing.{Standing}
 use Rattle.state.specs.declared.Standing.the-variants.{Open, Satisfied, Refuted}
 use Rattle.state.specs.State.{State}
-use Rattle.solver.specs.Step.{step, after}
+use Rattle.solver.specs.Step.{later, step, after}
 use Rattle.solver.specs.Entries.{Ran, runFrom}
 
-module _ (n : ℕ) (rows : List Row) where
+module _ (n : ℕ) where
   -- what a run from s with this budget is
-  pub record RunOf (budget : ℕ) (s : State) (r : Ran) : Type 0 where
+  pub record RunOf (rows : ℕ → List Row) (budget : ℕ) (s : State) (r : Ran) : Type 0 where
     pub most : r .steps ≤ budget
     pub final-after : r .final ≡ after n rows (r .steps) s
     pub open-before : (k : ℕ) → k < r .steps → after n rows k s .standing ≡ Open
     pub open-whole : r .final .standing ≡ Open → r .steps ≡ budget
 
   -- a closed state is the end
-  ended : (budget : ℕ) (s : State) → (s .standing ≡ Open → ⊥) → RunOf budget s (record { steps = 0; final = s })
+  ended : (rows : ℕ → List Row) (budget : ℕ) (s : State) → (s .standing ≡ Open → ⊥) → RunOf rows budget s (record { steps = 0; final = s })
   unfolding after
-  ended budget s h = record {
+  ended rows budget s h = record {
     most = zero-le;
     final-after = refl;
     open-before = λ k b. absurd (not-suc-le-zero b);
@@ -31,9 +31,10 @@ module _ (n : ℕ) (rows : List Row) where
   }
 
   -- one step more from an open state
-  goes-on : (budget : ℕ) (s : State) → s .standing ≡ Open → (r : Ran) → RunOf budget (step n rows s) r → RunOf (suc budget) s (record { steps = suc (r .steps); final = r .final })
+  goes-on : (rows : ℕ → List Row) (budget : ℕ) (s : State) → s .standing ≡ Open → (r : Ran) → RunOf (later rows) budget (step n (rows 0) s) r
+      → RunOf rows (suc budget) s (record { steps = suc (r .steps); final = r .final })
   unfolding after
-  goes-on budget s e r w = record {
+  goes-on rows budget s e r w = record {
     most = suc-le-suc (w .most);
     final-after = w .final-after;
     open-before = before;
@@ -44,16 +45,16 @@ module _ (n : ℕ) (rows : List Row) where
       before zero b = e
       before (suc k) b = w .open-before k (le-of-suc-le-suc b)
 
-  pub run-of : (budget : ℕ) (s : State) → RunOf budget s (runFrom n rows budget s)
+  pub run-of : (rows : ℕ → List Row) (budget : ℕ) (s : State) → RunOf rows budget s (runFrom n rows budget s)
   unfolding runFrom after
-  run-of zero s = record { most = zero-le; final-after = refl; open-before = λ k b. absurd (not-suc-le-zero b); open-whole = λ e. refl }
-  run-of (suc budget) s = go (runFrom n rows budget (step n rows s)) (run-of budget (step n rows s)) (s .standing) refl
+  run-of rows zero s = record { most = zero-le; final-after = refl; open-before = λ k b. absurd (not-suc-le-zero b); open-whole = λ e. refl }
+  run-of rows (suc budget) s = go (runFrom n (later rows) budget (step n (rows 0) s)) (run-of (later rows) budget (step n (rows 0) s)) (s .standing) refl
     where
-      go : (r : Ran) → RunOf budget (step n rows s) r → (st : Standing) → s .standing ≡ st → RunOf (suc budget) s (elim st [
+      go : (r : Ran) → RunOf (later rows) budget (step n (rows 0) s) r → (st : Standing) → s .standing ≡ st → RunOf rows (suc budget) s (elim st [
         | Open ↦ record { steps = suc (r .steps); final = r .final }
         | Satisfied ↦ record { steps = 0; final = s }
         | Refuted ↦ record { steps = 0; final = s }
       ])
-      go r w Open e = goes-on budget s e r w
-      go r w Satisfied e = ended (suc budget) s (λ h. let z : _≡_ {A = ℕ} 0 1 = cc in omega arith)
-      go r w Refuted e = ended (suc budget) s (λ h. let z : _≡_ {A = ℕ} 0 1 = cc in omega arith)
+      go r w Open e = goes-on rows budget s e r w
+      go r w Satisfied e = ended rows (suc budget) s (λ h. let z : _≡_ {A = ℕ} 0 1 = cc in omega arith)
+      go r w Refuted e = ended rows (suc budget) s (λ h. let z : _≡_ {A = ℕ} 0 1 = cc in omega arith)

@@ -1,6 +1,6 @@
 -- A satisfied run's model makes every row true: the standing becomes satisfied by rule 1 alone, and a variable that satisfies a row makes it true under T.
 -- Assumes nothing.
-use mathlib.Core.Path.{_≡_, refl}
+use mathlib.Core.Path.{_≡_, refl, subst⁻¹}
 use mathlib.Core.Bool.{true, false, not, _&&_, _||_}
 use mathlib.Core.List.{List, [], _∷_}
 use Prim.Native.Nat.{ℕ, _≤_}
@@ -18,13 +18,13 @@ use Rattle.scan.specs.declared.Rule.the-variants.{AllSatisfied, Conflict, Unit,
 use Rattle.state.specs.declared.Standing.{Standing}
 use Rattle.state.specs.declared.Standing.the-variants.{Open, Satisfied, Refuted}
 use Rattle.scan.specs.Rules.{allRows, rule}
-use Rattle.state.specs.State.{State, fresh, ifOpen}
-use Rattle.solver.specs.Step.{back, follow, step, after}
+use Rattle.state.specs.State.{State, ifOpen}
+use Rattle.solver.specs.Step.{back, follow, step}
 use Rattle.solver.specs.Truth.{rowTrue, allTrue}
 use Rattle.scan.proofs.RowLaws.{all-rows-mono}
 use Rattle.solver.proofs.RuleLaws.{Ruled, ruled}
-use Rattle.state.proofs.WellFormedLaws.{Sets}
-use Rattle.solver.proofs.StepLaws.{after-keeps, after-formed, fresh-formed}
+use Rattle.state.proofs.WellFormedLaws.{Sets, Formed}
+use Rattle.solver.proofs.StepLaws.{step-formed}
 use Rattle.solver.proofs.LowRows.{lowRow}
 use Rattle.solver.proofs.TruthLaws.{literal, row-true}
 
@@ -53,18 +53,12 @@ module _ (n : ℕ) (rows : List Row) where
   follow-met s (Unit v false) w e = absurd (unmet-open e)
   follow-met s (Choice v) w e = absurd (unmet-open e)
 
-  step-met : (s : State) → Met s → Met (step n rows s)
+  -- a step that closes an open run as satisfied has satisfied every row that it read
+  pub step-met : (s : State) → s .standing ≡ Open → Met (step n rows s)
   unfolding step
-  step-met s m = go (s .standing)
-    where
-      go : (st : Standing) → Met (ifOpen st (follow s (rule n rows (s .t) (s .f))) s)
-      go Open = follow-met s (rule n rows (s .t) (s .f)) (ruled n rows (s .t) (s .f))
-      go Satisfied = m
-      go Refuted = m
-
-  -- a satisfied run has satisfied every row
-  pub after-met : (k : ℕ) → after n rows k fresh .standing ≡ Satisfied → allRows (λ r. satisfied n r (after n rows k fresh .t) (after n rows k fresh .f)) rows ≡ true
-  after-met k = after-keeps n rows Met step-met k fresh (λ e. absurd (unmet-open e))
+  step-met s o =
+      subst⁻¹ (λ (st : Standing). Met (ifOpen st (follow s (rule n rows (s .t) (s .f))) s)) o
+      (follow-met s (rule n rows (s .t) (s .f)) (ruled n rows (s .t) (s .f)))
 
 -- a satisfied row is true where T is true and the rest false
 satisfied-true : (n t f : ℕ) → Sets n t f → (r : Row) → satisfied n r t f ≡ true → any (λ i. literal (bit t) r i) n ≡ true
@@ -75,11 +69,12 @@ satisfied-true n t f d r e =
     (and-i h (d .apart i b)))
     (rw (satisfied-any n r t f) at e)
 
-pub satisfied-model : (n : ℕ) (rows : List Row) → n ≤ 32 → allRows (lowRow n) rows ≡ true → (k : ℕ)
-    → after n rows k fresh .standing ≡ Satisfied → allTrue (bit (after n rows k fresh .t)) rows ≡ true
+-- from an open state of disjoint sets
+pub satisfied-model : (n : ℕ) (rows : List Row) → n ≤ 32 → allRows (lowRow n) rows ≡ true → (s : State) → Formed n s → s .standing ≡ Open
+    → step n rows s .standing ≡ Satisfied → allTrue (bit (step n rows s .t)) rows ≡ true
 unfolding allTrue
-satisfied-model n rows few low k e =
-    let s : State = after n rows k fresh in
-    all-rows-mono (λ r. satisfied n r (s .t) (s .f)) (λ r. rowTrue (bit (s .t)) r) rows
-    (λ r m h. rw (row-true n few (bit (s .t)) r (m (lowRow n) low)) (satisfied-true n (s .t) (s .f) (after-formed n rows k fresh (fresh-formed n) .own) r h))
-    (after-met n rows k e)
+satisfied-model n rows few low s o p e =
+    let x : State = step n rows s in
+    all-rows-mono (λ r. satisfied n r (x .t) (x .f)) (λ r. rowTrue (bit (x .t)) r) rows
+    (λ r m h. rw (row-true n few (bit (x .t)) r (m (lowRow n) low)) (satisfied-true n (x .t) (x .f) (step-formed n rows s o .own) r h))
+    (step-met n rows s p e)

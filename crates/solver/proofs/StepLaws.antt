@@ -3,7 +3,7 @@
 use mathlib.Core.Path.{_≡_, refl}
 use mathlib.Core.Bool.{Bool, true, false}
 use mathlib.Core.List.{List, [], _∷_}
-use Prim.Native.Nat.{ℕ, zero, suc, _≤_, _<_, zero-le}
+use Prim.Native.Nat.{ℕ, zero, suc, _≤_, _<_, zero-le, suc-le-suc}
 use native.Mathlib.Omega.{arith}
 use lib.ListN.{length}
 use lib.Pow.{pow-pos}
@@ -17,17 +17,24 @@ use Rattle.state.specs.declared.Standing.{Standing}
 use Rattle.state.specs.declared.Standing.the-variants.{Open, Satisfied, Refuted}
 use Rattle.scan.specs.Rules.{rule}
 use Rattle.state.specs.State.{State, fresh, ifOpen}
-use Rattle.solver.specs.Step.{back, assign, follow, step, after}
+use Rattle.solver.specs.Step.{back, assign, follow, later, step, after}
 use Rattle.state.specs.WellFormed.{chain, wellFormedState}
 use Rattle.solver.proofs.RuleLaws.{Ruled, ruled, Settable, unit-settable, choice-settable, rule-choice}
 use Rattle.state.proofs.WellFormedLaws.{Sets, Formed, formed-e, formed-i, chain-head, chain-tail, chain-cons}
 use Rattle.solver.proofs.SettingLaws.{put-keeps, put-has, sets-t, sets-f, free-less-t, chain-mono, depth-free}
 
 -- what each step keeps, any number of steps keeps
-pub after-keeps : (n : ℕ) (rows : List Row) (P : State → Type 0) → ((s : State) → P s → P (step n rows s)) → (k : ℕ) (s : State) → P s → P (after n rows k s)
+pub after-keeps : (n : ℕ) (rows : ℕ → List Row) (P : State → Type 0) (k : ℕ) → ((i : ℕ) → i < k → (s : State) → P s → P (step n (rows i) s))
+    → (s : State) → P s → P (after n rows k s)
 unfolding after
-after-keeps n rows P h zero s p = p
-after-keeps n rows P h (suc k) s p = after-keeps n rows P h k (step n rows s) (h s p)
+after-keeps n rows P zero h s p = p
+after-keeps n rows P (suc k) h s p = after-keeps n (later rows) P k (λ i b. h (suc i) (suc-le-suc b)) (step n (rows 0) s) (h 0 (omega arith) s p)
+
+-- the last of some steps
+pub after-last : (n : ℕ) (rows : ℕ → List Row) (k : ℕ) (s : State) → after n rows (suc k) s ≡ step n (rows k) (after n rows k s)
+unfolding after
+after-last n rows zero s = refl
+after-last n rows (suc k) s = after-last n (later rows) k (step n (rows 0) s)
 
 pub fresh-formed : (n : ℕ) → Formed n fresh
 unfolding chain
@@ -107,21 +114,23 @@ module _ (n : ℕ) (rows : List Row) where
   pub step-well-formed : (s : State) → wellFormedState n s ≡ true → wellFormedState n (step n rows s) ≡ true
   step-well-formed s e = formed-i n (step n rows s) (step-formed s (formed-e n s e))
 
-  -- and so does any number of steps
-  pub after-formed : (k : ℕ) (s : State) → Formed n s → Formed n (after n rows k s)
-  after-formed = after-keeps n rows (Formed n) step-formed
-
-  pub after-well-formed : (k : ℕ) (s : State) → wellFormedState n s ≡ true → wellFormedState n (after n rows k s) ≡ true
-  after-well-formed k s e = formed-i n (after n rows k s) (after-formed k s (formed-e n s e))
-
   -- at depth n no variable is chosen
   pub choice-depth : (s : State) (v : ℕ) → wellFormedState n s ≡ true → rule n rows (s .t) (s .f) ≡ Choice v → length (s .levels) < n
   choice-depth s v e c = settable-depth s v (formed-e n s e) (rule-choice n rows (s .t) (s .f) v c)
+
+-- ---- any number of steps
+
+module _ (n : ℕ) (rows : ℕ → List Row) where
+  pub after-formed : (k : ℕ) (s : State) → Formed n s → Formed n (after n rows k s)
+  after-formed k = after-keeps n rows (Formed n) k (λ i b. step-formed n (rows i))
+
+  pub after-well-formed : (k : ℕ) (s : State) → wellFormedState n s ≡ true → wellFormedState n (after n rows k s) ≡ true
+  after-well-formed k s e = formed-i n (after n rows k s) (after-formed k s (formed-e n s e))
 
 -- ---- from fresh
 
 pub fresh-well-formed : (n : ℕ) → wellFormedState n fresh ≡ true
 fresh-well-formed n = formed-i n fresh (fresh-formed n)
 
-pub run-well-formed : (n : ℕ) (rows : List Row) (k : ℕ) → wellFormedState n (after n rows k fresh) ≡ true
+pub run-well-formed : (n : ℕ) (rows : ℕ → List Row) (k : ℕ) → wellFormedState n (after n rows k fresh) ≡ true
 run-well-formed n rows k = after-well-formed n rows k fresh (fresh-well-formed n)

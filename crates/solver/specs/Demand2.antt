@@ -1,4 +1,4 @@
--- Demand 2, as one statement about the answer of any two accepted tables under any budget.
+-- Demand 2, as one statement about the answer of any two accepted tables under any budget, whatever rows took the place of padding rows meanwhile.
 use Prim.Native.Nat.{ℕ, suc, _-_, _^_, _≤_, _<_}
 use mathlib.Core.Path.{_≡_}
 use mathlib.Core.Bool.{Bool, true, false}
@@ -12,18 +12,23 @@ use Rattle.state.specs.State.{fresh}
 use Rattle.solver.specs.Step.{after}
 use Rattle.solver.specs.Truth.{allTrue, occurring}
 
--- n variables, rows whose words are below 2 ^ n, a budget, and the answer
-pub record Demand2 (n : ℕ) (rows : List Row) (budget : ℕ) (answer : Answer) : Type 0 where
+-- the rows that the last step read: of a closed run, those at the close
+abbrev pub atEnd : (ℕ → List Row) → Answer → List Row
+atEnd rows answer = rows (answer .count - 1)
+
+-- n variables, the rows as they stand at each step, their words below 2 ^ n, a budget, and the answer
+pub record Demand2 (n : ℕ) (rows : ℕ → List Row) (budget : ℕ) (answer : Answer) : Type 0 where
   -- a model makes every row true
-  pub satisfiable : (model : ℕ) → answer .verdict ≡ Satisfiable model → allTrue (bit model) rows ≡ true
+  pub satisfiable : (model : ℕ) → answer .verdict ≡ Satisfiable model → allTrue (bit model) (atEnd rows answer) ≡ true
   -- no assignment makes every row true
-  pub unsatisfiable : answer .verdict ≡ Unsatisfiable → (a : ℕ → Bool) → allTrue a rows ≡ false
+  pub unsatisfiable : answer .verdict ≡ Unsatisfiable → (a : ℕ → Bool) → allTrue a (atEnd rows answer) ≡ false
   -- still open after exactly the budget
   pub unknown : answer .verdict ≡ Unknown → (answer .count ≡ budget) × (after n rows budget fresh .standing ≡ Open)
   -- the count is the least number of steps, at most the budget, that closes the run, else the budget
   pub count-most : answer .count ≤ budget
   pub count-least : (k : ℕ) → k < answer .count → after n rows k fresh .standing ≡ Open
   pub count-closes : (after n rows (answer .count) fresh .standing ≡ Open → answer .count ≡ budget)
-  -- 2 ^ (k + 1) - 1 steps suffice, k being the number of variables in rows that are no padding; and k is at most n
-  pub bound : 2 ^ suc (occurring n rows) - 1 ≤ budget → answer .verdict ≡ Unknown → ⊥
+  -- the count is at most 2 ^ (k + 1) - 1, k being the number of variables in rows at the end that are no padding, and so many steps suffice; and k is at most n
+  pub bound-count : answer .count ≤ 2 ^ suc (occurring n (atEnd rows answer)) - 1
+  pub bound : 2 ^ suc (occurring n (atEnd rows answer)) - 1 ≤ budget → answer .verdict ≡ Unknown → ⊥
   pub bound-n : 2 ^ suc n - 1 ≤ budget → answer .verdict ≡ Unknown → ⊥

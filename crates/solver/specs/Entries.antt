@@ -16,7 +16,7 @@ use Rattle.state.specs.declared.Standing.the-variants.{Open, Satisfied, Refuted
 use Rattle.solver.specs.declared.Stepped.{Stepped}
 use Rattle.state.specs.State.{State, fresh, stateOf, runOf}
 use Rattle.verdicts.specs.Verdicts.{verdictOf}
-use Rattle.solver.specs.Step.{step}
+use Rattle.solver.specs.Step.{always, later, step}
 use Rattle.state.specs.WellFormed.{wellFormed, stateChecks}
 
 -- ---- the budgeted run
@@ -26,19 +26,19 @@ pub record Ran : Type 0 where
   pub steps : ℕ
   pub final : State
 
--- steps through the one that closes the run, at most the budget
-unfoldable pub runFrom : ℕ → List Row → ℕ → State → Ran
+-- steps through the one that closes the run, at most the budget, each over the rows as they stand when it begins
+unfoldable pub runFrom : ℕ → (ℕ → List Row) → ℕ → State → Ran
 unfolding step
 runFrom n rows zero s = record { steps = 0; final = s }
 runFrom n rows (suc budget) s =
     elim (s .standing) [
-      | Open ↦ let r = runFrom n rows budget (step n rows s) in record { steps = suc (r .steps); final = r .final }
+      | Open ↦ let r = runFrom n (later rows) budget (step n (rows 0) s) in record { steps = suc (r .steps); final = r .final }
       | Satisfied ↦ record { steps = 0; final = s }
       | Refuted ↦ record { steps = 0; final = s }
     ]
 
 -- the answer of the fresh run: its count and its verdict
-unfoldable pub answerOf : ℕ → List Row → ℕ → Answer
+unfoldable pub answerOf : ℕ → (ℕ → List Row) → ℕ → Answer
 unfolding runFrom
 answerOf n rows budget =
     let r = runFrom n rows budget fresh in
@@ -57,4 +57,4 @@ stepped d left right run =
 -- the budgeted run's entry: 1, 2, 4, 3
 unfoldable pub solved : Dimensions → List ℕ → List ℕ → ℕ → Solved
 unfolding answerOf
-solved d left right budget = given (outcome (tableChecks d left right)) (solved′.Of (answerOf (d .n) (rowsOf d left right) budget)) solved′.Refused
+solved d left right budget = given (outcome (tableChecks d left right)) (solved′.Of (answerOf (d .n) (always (rowsOf d left right)) budget)) solved′.Refused

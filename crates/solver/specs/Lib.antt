@@ -1,4 +1,5 @@
 pub mod Step
+pub mod Late
 pub mod Entries
 pub mod Truth
 pub mod Demand2

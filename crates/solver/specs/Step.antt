@@ -38,8 +38,16 @@ unfoldable pub step : ℕ → List Row → State → State
 unfolding rule
 step n rows s = ifOpen (s .standing) (follow s (rule n rows (s .t) (s .f))) s
 
--- the state after k steps
-unfoldable pub after : ℕ → List Row → ℕ → State → State
+-- the same rows at every step
+abbrev pub always : List Row → ℕ → List Row
+always rows = λ i. rows
+
+-- the rows from the second step on
+abbrev pub later : (ℕ → List Row) → ℕ → List Row
+later rows = λ i. rows (suc i)
+
+-- the state after k steps, each over the rows as they stand when it begins: rows i for the step that i others precede
+unfoldable pub after : ℕ → (ℕ → List Row) → ℕ → State → State
 unfolding step
 after n rows zero s = s
-after n rows (suc k) s = after n rows k (step n rows s)
+after n rows (suc k) s = after n (later rows) k (step n (rows 0) s)

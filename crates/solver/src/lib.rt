@@ -13,6 +13,7 @@ ghost use Rattle.refusals.specs.declared.Outcome.the-variants.{Taken};
 ghost use Rattle.tables.specs.Acceptance.{tableChecks};
 ghost use Rattle.tables.specs.Rows.{rowsOf};
 ghost use Rattle.state.specs.WellFormed.{stateChecks};
+ghost use Rattle.solver.specs.Step.{always};
 ghost use Rattle.solver.specs.Entries.{answerOf, stepped, solved};
 
 // A run after one step, or as it was with the refusal.
@@ -71,7 +72,7 @@ pub fn step_in_place(d: Dimensions, left: &[u32], right: &[u32], run: &mut Run) 
 // The answer of a fresh run over accepted tables.
 fn run_to_close(d: Dimensions, left: &[u32], right: &[u32], budget: u64) -> Answer
     requires { ⌜ outcome (tableChecks d (now left) (now right)) ≡ Taken ⌝ }
-    ensures { λ r. ⌜ r ≡ answerOf (d .n) (rowsOf d (now (left .entry)) (now (right .entry))) budget ⌝ }
+    ensures { λ r. ⌜ r ≡ answerOf (d .n) (always (rowsOf d (now (left .entry)) (now (right .entry)))) budget ⌝ }
 {
     let mut run = Run::fresh(d.n);
     let mut count = 0;
