@@ -2,21 +2,21 @@
 -- Assumes nothing.
 use mathlib.Core.Path.{_≡_, refl, sym, ap, subst, _∙_}
 use mathlib.Core.List.{List, [], _∷_, _++_}
-use mathlib.Core.Bool.{_||_}
 use Prim.Native.Nat.{ℕ, _+_, _*_, _≤_, min}
 use native.Mathlib.Omega.{arith}
 use lib.Dec.{ltb}
 use lib.ListN.{length}
 use Rattle.refusals.specs.Checks.{check, outcome}
 use Rattle.refusals.specs.declared.Refusal.{Refusal}
-use Rattle.refusals.specs.declared.Refusal.the-variants.{RowBuffer, RowBit, GateBuffer, Wires}
+use Rattle.refusals.specs.declared.Refusal.the-variants.{GateBuffer, Wires}
 use Rattle.refusals.specs.declared.Outcome.{Outcome}
 use Rattle.refusals.specs.declared.Outcome.the-variants.{Taken, Refused}
 use Rattle.refusals.proofs.Outcomes.{outcome-refused}
 use Rattle.dimensions.specs.declared.Dimensions.{Dimensions}
 use Rattle.dimensions.specs.Sizes.{sizeChecks, ceiling, inputWires}
 use Rattle.dimensions.proofs.Products.{product}
-use Rattle.tables.specs.Acceptance.{short, high}
+use Rattle.tables.specs.Tables.{Tables}
+use Rattle.tables.specs.Acceptance.{wordChecks}
 use Rattle.state.specs.declared.Run.{Run}
 use Rattle.state.specs.WellFormed.{stateChecks}
 use Rattle.stored.specs.Words.{runIn}
@@ -45,30 +45,29 @@ module _ (d : Dimensions) (q : Refusal) (h : outcome (sizeChecks (d .n) (d .left
     gates-refused : written d words ≡ words
     gates-refused = rw room-refused
 
-  module _ (left right : List ℕ) (run : Run) (bytes : List ℕ) where
-    check-refused : (room : ℕ) → outcome (packChecks d left right run room) ≡ Refused q
+  module _ (tables : Tables) (run : Run) (bytes : List ℕ) where
+    check-refused : (room : ℕ) → outcome (packChecks d tables run room) ≡ Refused q
     check-refused room =
         outcome-refused (sizeChecks (d .n) (d .left) (d .right))
-        (check (short (d .left) left || short (d .right) right) RowBuffer
-        ∷ (check (high (d .n) (d .left) left || high (d .n) (d .right) right) RowBit ∷ (check (ltb room (inputWires d)) Wires ∷ stateChecks d run))) q h
+        (wordChecks d tables ++ (check (ltb room (inputWires d)) Wires ∷ stateChecks d run)) q h
 
-    pack-refused : packed d left right run bytes ≡ bytes
+    pack-refused : packed d tables run bytes ≡ bytes
     unfolding packed
     pack-refused = rw (check-refused (length bytes))
 
     module _ (gates wires : List ℕ) where
-      judged-refused : judged d left right gates run bytes wires ≡ Refused q
-      judged-refused = refuse-packing d left right gates run bytes wires q (check-refused (length bytes))
+      judged-refused : judged d tables gates run bytes wires ≡ Refused q
+      judged-refused = refuse-packing d tables gates run bytes wires q (check-refused (length bytes))
 
-      bytes-refused : bytesAfter d left right gates run bytes wires ≡ bytes
+      bytes-refused : bytesAfter d tables gates run bytes wires ≡ bytes
       unfolding bytesAfter
       bytes-refused = rw judged-refused
 
-      wires-refused : wiresAfter d left right gates run bytes wires ≡ wires
+      wires-refused : wiresAfter d tables gates run bytes wires ≡ wires
       unfolding wiresAfter
       wires-refused = rw judged-refused
 
-      apply-refused : applied d left right gates run bytes wires ≡ turnedBack run q
+      apply-refused : applied d tables gates run bytes wires ≡ turnedBack run q
       unfolding applied
       apply-refused = rw judged-refused
 
@@ -109,29 +108,29 @@ module _ (n left-rows right-rows : ℕ) (d : Dimensions) (e : d ≡ asBytes n le
             (subst (λ (x : Generated). Carried d x after) (generate-is g r) c)
         go (Refused q) h = subst (λ (x : Generated). Carried asked x after) (sym (generate-refused asked q h words)) tt
 
-  module _ (left right words : List ℕ) (run : Run) (held : run ≡ runIn words) where
-    pub check-is : (room : ℕ) (o : Outcome) → o ≡ outcome (packChecks d left right run room) → o ≡ outcome (packChecks asked left right (runIn words) room)
+  module _ (tables : Tables) (words : List ℕ) (run : Run) (held : run ≡ runIn words) where
+    pub check-is : (room : ℕ) (o : Outcome) → o ≡ outcome (packChecks d tables run room) → o ≡ outcome (packChecks asked tables (runIn words) room)
     check-is room o r =
-        on-numbers n left-rows right-rows (λ x. outcome (packChecks x left right run room)) Refused (λ x q h. check-refused x q h left right run [] room) d e o r
-        ∙ ap (λ (x : Run). outcome (packChecks asked left right x room)) held
+        on-numbers n left-rows right-rows (λ x. outcome (packChecks x tables run room)) Refused (λ x q h. check-refused x q h tables run [] room) d e o r
+        ∙ ap (λ (x : Run). outcome (packChecks asked tables x room)) held
 
-    pub packed-is : (bytes after : List ℕ) → after ≡ packed d left right run bytes → after ≡ packed asked left right (runIn words) bytes
+    pub packed-is : (bytes after : List ℕ) → after ≡ packed d tables run bytes → after ≡ packed asked tables (runIn words) bytes
     packed-is bytes after r =
-        on-numbers n left-rows right-rows (λ x. packed x left right run bytes) (λ q. bytes) (λ x q h. pack-refused x q h left right run bytes) d e after r
-        ∙ ap (λ (x : Run). packed asked left right x bytes) held
+        on-numbers n left-rows right-rows (λ x. packed x tables run bytes) (λ q. bytes) (λ x q h. pack-refused x q h tables run bytes) d e after r
+        ∙ ap (λ (x : Run). packed asked tables x bytes) held
 
     module _ (gates bytes wires : List ℕ) where
-      pub apply-is : (a : Applied) → a ≡ applied d left right gates run bytes wires → a ≡ applyIn asked left right gates words bytes wires
+      pub apply-is : (a : Applied) → a ≡ applied d tables gates run bytes wires → a ≡ applyIn asked tables gates words bytes wires
       apply-is a r =
-          on-numbers n left-rows right-rows (λ x. applied x left right gates run bytes wires) (turnedBack run) (λ x q h. apply-refused x q h left right run bytes gates wires) d e a r
-          ∙ ap (λ (x : Run). applied asked left right gates x bytes wires) held
+          on-numbers n left-rows right-rows (λ x. applied x tables gates run bytes wires) (turnedBack run) (λ x q h. apply-refused x q h tables run bytes gates wires) d e a r
+          ∙ ap (λ (x : Run). applied asked tables gates x bytes wires) held
 
-      pub bytes-are : (after : List ℕ) → after ≡ bytesAfter d left right gates run bytes wires → after ≡ bytesAfter asked left right gates (runIn words) bytes wires
+      pub bytes-are : (after : List ℕ) → after ≡ bytesAfter d tables gates run bytes wires → after ≡ bytesAfter asked tables gates (runIn words) bytes wires
       bytes-are after r =
-          on-numbers n left-rows right-rows (λ x. bytesAfter x left right gates run bytes wires) (λ q. bytes) (λ x q h. bytes-refused x q h left right run bytes gates wires) d e after r
-          ∙ ap (λ (x : Run). bytesAfter asked left right gates x bytes wires) held
+          on-numbers n left-rows right-rows (λ x. bytesAfter x tables gates run bytes wires) (λ q. bytes) (λ x q h. bytes-refused x q h tables run bytes gates wires) d e after r
+          ∙ ap (λ (x : Run). bytesAfter asked tables gates x bytes wires) held
 
-      pub wires-are : (after : List ℕ) → after ≡ wiresAfter d left right gates run bytes wires → after ≡ wiresAfter asked left right gates (runIn words) bytes wires
+      pub wires-are : (after : List ℕ) → after ≡ wiresAfter d tables gates run bytes wires → after ≡ wiresAfter asked tables gates (runIn words) bytes wires
       wires-are after r =
-          on-numbers n left-rows right-rows (λ x. wiresAfter x left right gates run bytes wires) (λ q. wires) (λ x q h. wires-refused x q h left right run bytes gates wires) d e after r
-          ∙ ap (λ (x : Run). wiresAfter asked left right gates x bytes wires) held
+          on-numbers n left-rows right-rows (λ x. wiresAfter x tables gates run bytes wires) (λ q. wires) (λ x q h. wires-refused x q h tables run bytes gates wires) d e after r
+          ∙ ap (λ (x : Run). wiresAfter asked tables gates x bytes wires) held

@@ -6,6 +6,7 @@ use Rattle.refusals.specs.Numbers.{numberOf}
 use Rattle.refusals.specs.Checks.{Check}
 use Rattle.dimensions.specs.Sizes.{ceiling, inputWires, stateWires}
 use Rattle.dimensions.specs.declared.Dimensions.{Dimensions}
+use Rattle.tables.specs.Tables.{Tables}
 use Rattle.generator.specs.declared.Generated.{Generated}
 use Rattle.generator.specs.declared.Generated.the-variants as generated
 use Rattle.stored.specs.Words.{runIn}
@@ -37,8 +38,8 @@ abbrev pub backChecks : ℕ → List ℕ → List ℕ → List Check
 backChecks n bytes words = readChecks n bytes ++ (roomCheck words ∷ [])
 
 -- one application of gates to the run in lent words
-abbrev pub applyIn : Dimensions → List ℕ → List ℕ → List ℕ → List ℕ → List ℕ → List ℕ → Applied
-applyIn d left right gates words bytes wires = applied d left right gates (runIn words) bytes wires
+abbrev pub applyIn : Dimensions → Tables → List ℕ → List ℕ → List ℕ → List ℕ → Applied
+applyIn d tables gates words bytes wires = applied d tables gates (runIn words) bytes wires
 
 -- the lent words after it
 abbrev pub applyStored : Applied → List ℕ → List ℕ

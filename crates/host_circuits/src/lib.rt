@@ -14,6 +14,7 @@ ghost use Rattle.readback.specs.Reading.{readBack};
 ghost use Rattle.repeats.specs.Application.{bytesAfter, wiresAfter};
 ghost use Rattle.stored.specs.Words.{runIn};
 ghost use Rattle.refusals.specs.Numbers.{codeOf};
+ghost use Rattle.tables.specs.Tables.{allTables};
 ghost use Rattle.lent.specs.Lent.{front, frontIf, storedIf};
 ghost use Rattle.codes.specs.Codes.{dimensions};
 ghost use Rattle.host_circuits.specs.Circuits.{sizeNumbers, generatedCode, generatedNumbers, backChecks, applyIn, applyStored, applyMarked};
@@ -75,8 +76,8 @@ pub extern "C" fn forkhemit_pack(
     run: &[u32],
     bytes: &mut [u8],
 ) -> u8
-    ensures { λ r. ⌜ r ≡ codeOf (outcome (packChecks (dimensions n «left_rows» «right_rows») (now (left .entry)) (now (right .entry)) (runIn (now (run .entry))) (length (now (bytes .entry))))) ⌝ }
-    ensures { λ _. ⌜ now (bytes .exit) ≡ packed (dimensions n «left_rows» «right_rows») (now (left .entry)) (now (right .entry)) (runIn (now (run .entry))) (now (bytes .entry)) ⌝ }
+    ensures { λ r. ⌜ r ≡ codeOf (outcome (packChecks (dimensions n «left_rows» «right_rows») (allTables (now (left .entry)) (now (right .entry))) (runIn (now (run .entry))) (length (now (bytes .entry))))) ⌝ }
+    ensures { λ _. ⌜ now (bytes .exit) ≡ packed (dimensions n «left_rows» «right_rows») (allTables (now (left .entry)) (now (right .entry))) (runIn (now (run .entry))) (now (bytes .entry)) ⌝ }
 {
     let d = codes::dimensions(n, left_rows, right_rows);
     codes::code(wires::pack(d, left, right, stored::load(run), bytes))
@@ -122,11 +123,11 @@ pub extern "C" fn forkhemit_apply(
     wires: &mut [u8],
     mark: &mut [u64],
 ) -> u8
-    ensures { λ r. ⌜ r ≡ codeOf (applyIn (dimensions n «left_rows» «right_rows») (now (left .entry)) (now (right .entry)) (now (gates .entry)) (now (run .entry)) (now (bytes .entry)) (now (wires .entry)) .outcome) ⌝ }
-    ensures { λ _. ⌜ now (run .exit) ≡ applyStored (applyIn (dimensions n «left_rows» «right_rows») (now (left .entry)) (now (right .entry)) (now (gates .entry)) (now (run .entry)) (now (bytes .entry)) (now (wires .entry))) (now (run .entry)) ⌝ }
-    ensures { λ _. ⌜ now (bytes .exit) ≡ bytesAfter (dimensions n «left_rows» «right_rows») (now (left .entry)) (now (right .entry)) (now (gates .entry)) (runIn (now (run .entry))) (now (bytes .entry)) (now (wires .entry)) ⌝ }
-    ensures { λ _. ⌜ now (wires .exit) ≡ wiresAfter (dimensions n «left_rows» «right_rows») (now (left .entry)) (now (right .entry)) (now (gates .entry)) (runIn (now (run .entry))) (now (bytes .entry)) (now (wires .entry)) ⌝ }
-    ensures { λ _. ⌜ now (mark .exit) ≡ applyMarked (applyIn (dimensions n «left_rows» «right_rows») (now (left .entry)) (now (right .entry)) (now (gates .entry)) (now (run .entry)) (now (bytes .entry)) (now (wires .entry))) (now (mark .entry)) ⌝ }
+    ensures { λ r. ⌜ r ≡ codeOf (applyIn (dimensions n «left_rows» «right_rows») (allTables (now (left .entry)) (now (right .entry))) (now (gates .entry)) (now (run .entry)) (now (bytes .entry)) (now (wires .entry)) .outcome) ⌝ }
+    ensures { λ _. ⌜ now (run .exit) ≡ applyStored (applyIn (dimensions n «left_rows» «right_rows») (allTables (now (left .entry)) (now (right .entry))) (now (gates .entry)) (now (run .entry)) (now (bytes .entry)) (now (wires .entry))) (now (run .entry)) ⌝ }
+    ensures { λ _. ⌜ now (bytes .exit) ≡ bytesAfter (dimensions n «left_rows» «right_rows») (allTables (now (left .entry)) (now (right .entry))) (now (gates .entry)) (runIn (now (run .entry))) (now (bytes .entry)) (now (wires .entry)) ⌝ }
+    ensures { λ _. ⌜ now (wires .exit) ≡ wiresAfter (dimensions n «left_rows» «right_rows») (allTables (now (left .entry)) (now (right .entry))) (now (gates .entry)) (runIn (now (run .entry))) (now (bytes .entry)) (now (wires .entry)) ⌝ }
+    ensures { λ _. ⌜ now (mark .exit) ≡ applyMarked (applyIn (dimensions n «left_rows» «right_rows») (allTables (now (left .entry)) (now (right .entry))) (now (gates .entry)) (now (run .entry)) (now (bytes .entry)) (now (wires .entry))) (now (mark .entry)) ⌝ }
 {
     let d = codes::dimensions(n, left_rows, right_rows);
     let applied = repeats::apply(d, left, right, gates, stored::load(run), bytes, wires);

@@ -1,18 +1,17 @@
 -- What acceptance, step and budgeted run give on a host's numbers as bytes is what they give on the numbers: refused sizes are refused alike, since the checks begin with those.
 -- Assumes nothing.
 use mathlib.Core.Path.{_≡_, ap, _∙_}
-use mathlib.Core.List.{List, [], _∷_}
-use mathlib.Core.Bool.{_||_}
+use mathlib.Core.List.{List}
 use Prim.Native.Nat.{ℕ}
-use Rattle.refusals.specs.Checks.{check, outcome}
+use Rattle.refusals.specs.Checks.{outcome}
 use Rattle.refusals.specs.declared.Refusal.{Refusal}
-use Rattle.refusals.specs.declared.Refusal.the-variants.{RowBuffer, RowBit}
 use Rattle.refusals.specs.declared.Outcome.{Outcome}
 use Rattle.refusals.specs.declared.Outcome.the-variants.{Refused}
 use Rattle.refusals.proofs.Outcomes.{outcome-refused}
 use Rattle.dimensions.specs.declared.Dimensions.{Dimensions}
 use Rattle.dimensions.specs.Sizes.{sizeChecks}
-use Rattle.tables.specs.Acceptance.{short, high, tableChecks}
+use Rattle.tables.specs.Tables.{Tables}
+use Rattle.tables.specs.Acceptance.{wordChecks, tableChecks}
 use Rattle.state.specs.declared.Run.{Run}
 use Rattle.state.specs.WellFormed.{stateChecks}
 use Rattle.solver.specs.declared.Stepped.{Stepped}
@@ -26,33 +25,31 @@ use Rattle.host_runs.specs.Runs.{stepIn}
 
 -- ---- refused sizes
 
-module _ (left right : List ℕ) (d : Dimensions) (q : Refusal) (h : outcome (sizeChecks (d .n) (d .left) (d .right)) ≡ Refused q) where
-  accept-refused : outcome (tableChecks d left right) ≡ Refused q
-  accept-refused =
-      outcome-refused (sizeChecks (d .n) (d .left) (d .right))
-      (check (short (d .left) left || short (d .right) right) RowBuffer ∷ (check (high (d .n) (d .left) left || high (d .n) (d .right) right) RowBit ∷ [])) q h
+module _ (tables : Tables) (d : Dimensions) (q : Refusal) (h : outcome (sizeChecks (d .n) (d .left) (d .right)) ≡ Refused q) where
+  accept-refused : outcome (tableChecks d tables) ≡ Refused q
+  accept-refused = outcome-refused (sizeChecks (d .n) (d .left) (d .right)) (wordChecks d tables) q h
 
-  step-refused : (run : Run) → stepped d left right run ≡ record { outcome = Refused q; run = run }
+  step-refused : (run : Run) → stepped d tables run ≡ record { outcome = Refused q; run = run }
   unfolding stepped
-  step-refused run = rw (outcome-refused (tableChecks d left right) (stateChecks d run) q accept-refused)
+  step-refused run = rw (outcome-refused (tableChecks d tables) (stateChecks d run) q accept-refused)
 
-  solve-refused : (budget : ℕ) → solved d left right budget ≡ solved′.Refused q
+  solve-refused : (budget : ℕ) → solved d tables budget ≡ solved′.Refused q
   unfolding solved
   solve-refused budget = rw accept-refused
 
 -- ---- any sizes
 
-module _ (n left-rows right-rows : ℕ) (d : Dimensions) (e : d ≡ asBytes n left-rows right-rows) (left right : List ℕ) where
+module _ (n left-rows right-rows : ℕ) (d : Dimensions) (e : d ≡ asBytes n left-rows right-rows) (tables : Tables) where
   abbrev asked : Dimensions
   asked = dimensions n left-rows right-rows
 
-  pub accept-is : (o : Outcome) → o ≡ outcome (tableChecks d left right) → o ≡ outcome (tableChecks asked left right)
-  accept-is = on-numbers n left-rows right-rows (λ x. outcome (tableChecks x left right)) Refused (accept-refused left right) d e
+  pub accept-is : (o : Outcome) → o ≡ outcome (tableChecks d tables) → o ≡ outcome (tableChecks asked tables)
+  accept-is = on-numbers n left-rows right-rows (λ x. outcome (tableChecks x tables)) Refused (accept-refused tables) d e
 
-  pub solve-is : (budget : ℕ) (s : Solved) → s ≡ solved d left right budget → s ≡ solved asked left right budget
-  solve-is budget = on-numbers n left-rows right-rows (λ x. solved x left right budget) solved′.Refused (λ x q h. solve-refused left right x q h budget) d e
+  pub solve-is : (budget : ℕ) (s : Solved) → s ≡ solved d tables budget → s ≡ solved asked tables budget
+  solve-is budget = on-numbers n left-rows right-rows (λ x. solved x tables budget) solved′.Refused (λ x q h. solve-refused tables x q h budget) d e
 
-  pub step-is : (words : List ℕ) (run : Run) → run ≡ runIn words → (s : Stepped) → s ≡ stepped d left right run → s ≡ stepIn asked left right words
+  pub step-is : (words : List ℕ) (run : Run) → run ≡ runIn words → (s : Stepped) → s ≡ stepped d tables run → s ≡ stepIn asked tables words
   step-is words run held s r =
-      on-numbers n left-rows right-rows (λ x. stepped x left right run) (λ q. record { outcome = Refused q; run = run }) (λ x q h. step-refused left right x q h run) d e s r
-      ∙ ap (λ (x : Run). stepped asked left right x) held
+      on-numbers n left-rows right-rows (λ x. stepped x tables run) (λ q. record { outcome = Refused q; run = run }) (λ x q h. step-refused tables x q h run) d e s r
+      ∙ ap (λ (x : Run). stepped asked tables x) held

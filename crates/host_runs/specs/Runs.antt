@@ -6,6 +6,7 @@ use Rattle.refusals.specs.Checks.{Check, check}
 use Rattle.refusals.specs.declared.Refusal.the-variants.{Variables}
 use Rattle.dimensions.specs.Sizes.{outside}
 use Rattle.dimensions.specs.declared.Dimensions.{Dimensions}
+use Rattle.tables.specs.Tables.{Tables}
 use Rattle.verdicts.specs.declared.Modelled.{Modelled}
 use Rattle.verdicts.specs.declared.Modelled.the-variants as modelled
 use Rattle.solver.specs.declared.Solved.{Solved}
@@ -21,8 +22,8 @@ abbrev pub freshChecks : ℕ → List ℕ → List Check
 freshChecks n words = check (outside 32 n) Variables ∷ (roomCheck words ∷ [])
 
 -- one giant step of the run in lent words
-abbrev pub stepIn : Dimensions → List ℕ → List ℕ → List ℕ → Stepped
-stepIn d left right words = stepped d left right (runIn words)
+abbrev pub stepIn : Dimensions → Tables → List ℕ → Stepped
+stepIn d tables words = stepped d tables (runIn words)
 
 -- the lent words after it
 abbrev pub stepStored : Stepped → List ℕ → List ℕ

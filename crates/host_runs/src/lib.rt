@@ -7,6 +7,7 @@ use state::Run;
 use verdicts::Modelled;
 ghost use mathlib.Core.Path.{_≡_};
 ghost use Rattle.refusals.specs.Checks.{outcome};
+ghost use Rattle.tables.specs.Tables.{allTables};
 ghost use Rattle.tables.specs.Acceptance.{tableChecks};
 ghost use Rattle.solver.specs.Entries.{solved};
 ghost use Rattle.verdicts.specs.Verdicts.{modelOf};
@@ -26,7 +27,7 @@ pub extern "C" fn forkhemit_accept(
     left: &[u32],
     right: &[u32],
 ) -> u8
-    ensures { λ r. ⌜ r ≡ codeOf (outcome (tableChecks (dimensions n «left_rows» «right_rows») (now (left .entry)) (now (right .entry)))) ⌝ }
+    ensures { λ r. ⌜ r ≡ codeOf (outcome (tableChecks (dimensions n «left_rows» «right_rows») (allTables (now (left .entry)) (now (right .entry))))) ⌝ }
 {
     let d = codes::dimensions(n, left_rows, right_rows);
     codes::code(tables::accept(d, left, right))
@@ -57,8 +58,8 @@ pub extern "C" fn forkhemit_step(
     right: &[u32],
     run: &mut [u32],
 ) -> u8
-    ensures { λ r. ⌜ r ≡ codeOf (stepIn (dimensions n «left_rows» «right_rows») (now (left .entry)) (now (right .entry)) (now (run .entry)) .outcome) ⌝ }
-    ensures { λ _. ⌜ now (run .exit) ≡ stepStored (stepIn (dimensions n «left_rows» «right_rows») (now (left .entry)) (now (right .entry)) (now (run .entry))) (now (run .entry)) ⌝ }
+    ensures { λ r. ⌜ r ≡ codeOf (stepIn (dimensions n «left_rows» «right_rows») (allTables (now (left .entry)) (now (right .entry))) (now (run .entry)) .outcome) ⌝ }
+    ensures { λ _. ⌜ now (run .exit) ≡ stepStored (stepIn (dimensions n «left_rows» «right_rows») (allTables (now (left .entry)) (now (right .entry))) (now (run .entry))) (now (run .entry)) ⌝ }
 {
     let d = codes::dimensions(n, left_rows, right_rows);
     let stepped = solver::step(d, left, right, stored::load(run));
@@ -79,8 +80,8 @@ pub extern "C" fn forkhemit_solve(
     budget: u64,
     answer: &mut [u64],
 ) -> u8
-    ensures { λ r. ⌜ r ≡ solvedCode (solved (dimensions n «left_rows» «right_rows») (now (left .entry)) (now (right .entry)) budget) ⌝ }
-    ensures { λ _. ⌜ now (answer .exit) ≡ front (solvedNumbers (solved (dimensions n «left_rows» «right_rows») (now (left .entry)) (now (right .entry)) budget)) (now (answer .entry)) ⌝ }
+    ensures { λ r. ⌜ r ≡ solvedCode (solved (dimensions n «left_rows» «right_rows») (allTables (now (left .entry)) (now (right .entry))) budget) ⌝ }
+    ensures { λ _. ⌜ now (answer .exit) ≡ front (solvedNumbers (solved (dimensions n «left_rows» «right_rows») (allTables (now (left .entry)) (now (right .entry))) budget)) (now (answer .entry)) ⌝ }
 {
     let d = codes::dimensions(n, left_rows, right_rows);
     match solver::solve(d, left, right, budget) {

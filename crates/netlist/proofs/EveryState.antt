@@ -13,6 +13,7 @@ use Rattle.refusals.specs.Checks.{outcome}
 use Rattle.words.specs.Booleans.{digit}
 use Rattle.dimensions.specs.declared.Dimensions.{Dimensions}
 use Rattle.dimensions.specs.Sizes.{rowCount, stateWires, inputWires}
+use Rattle.tables.specs.Tables.{Tables}
 use Rattle.tables.specs.Rows.{rowsOf}
 use Rattle.state.specs.State.{State}
 use Rattle.state.specs.WellFormed.{wellFormedState}
@@ -49,39 +50,39 @@ gates-ordered d = ap (λ (k : ℕ). ordered k (circuit (addresses (d .n) (rowCou
 pub gates-accepted : (d : Dimensions) → accepted (inputWires d) (wordsOf (gatesOn d)) ≡ true
 gates-accepted d = accepted-words (inputWires d) (gatesOn d) ∙ gates-ordered d
 
-module _ (d : Dimensions) (left right : List ℕ) (s : State) where
+module _ (d : Dimensions) (tables : Tables) (s : State) where
   abbrev bits : List Bool
-  bits = inputBits d left right s
+  bits = inputBits d tables s
 
   -- its last wires
   pub every-state : wellFormedState (d .n) s ≡ true
-      → drop (inputWires d + length (gatesOn d) - suc (stateWires (d .n))) (wiresOf bits (gatesOn d)) ≡ outputBits (d .n) (rowsOf d left right) s
+      → drop (inputWires d + length (gatesOn d) - suc (stateWires (d .n))) (wiresOf bits (gatesOn d)) ≡ outputBits (d .n) (rowsOf d tables) s
   unfolding gatesFor inputBits
   every-state formed =
-      let rows = rowsOf d left right in
+      let rows = rowsOf d tables in
       let a = addresses (d .n) (rowCount d) in
       let e : inputWires d + length (circuit a) - suc (stateWires (d .n)) ≡ a .outputs = omega (arith, circuit-length a) in
       ap (λ (k : ℕ). drop k (wiresOf bits (circuit a))) e
       ∙ subst (λ (m : ℕ). length bits ≡ addresses (d .n) m .inputs → drop (addresses (d .n) m .outputs) (wiresOf bits (circuit (addresses (d .n) m))) ≡ outputBits (d .n) rows s)
-      (both-length d left right) (λ l. circuit-outputs (d .n) rows s l formed) (input-length d left right s ∙ inputs-at d)
+      (both-length d tables) (λ l. circuit-outputs (d .n) rows s l formed) (input-length d tables s ∙ inputs-at d)
 
-  outputs-length : length (bytesOf (outputBits (d .n) (rowsOf d left right) s)) ≡ stateWires (d .n) + 1
+  outputs-length : length (bytesOf (outputBits (d .n) (rowsOf d tables) s)) ≡ stateWires (d .n) + 1
   unfolding outputBits
   outputs-length =
-      let next = step (d .n) (rowsOf d left right) s in
+      let next = step (d .n) (rowsOf d tables) s in
       length-map (stateBits (d .n) next ++ (closed next ∷ [])) digit ∙ length-append (stateBits (d .n) next) (closed next ∷ [])
       ∙ ap (λ (k : ℕ). k + 1) (state-length (d .n) next)
 
   -- in a buffer whose front holds the wires' bytes
   pub outputs-filled : wellFormedState (d .n) s ≡ true → (wires : List ℕ)
-      → outputsIn d (wordsOf (gatesOn d)) (over (bytesOf (wiresOf bits (gatesOn d))) wires) ≡ bytesOf (outputBits (d .n) (rowsOf d left right) s)
+      → outputsIn d (wordsOf (gatesOn d)) (over (bytesOf (wiresOf bits (gatesOn d))) wires) ≡ bytesOf (outputBits (d .n) (rowsOf d tables) s)
   outputs-filled formed wires =
       let values = wiresOf bits (gatesOn d) in
       let k = stateWires (d .n) + 1 in
       let at = inputWires d + length (gatesOn d) - suc (stateWires (d .n)) in
       let same : inputWires d + length (wordsOf (gatesOn d)) / 3 - k ≡ at = omega (arith, words-length (gatesOn d)) in
       let long : length (bytesOf values) ≡ inputWires d + length (gatesOn d) =
-      length-map values digit ∙ wires-length bits (gatesOn d) ∙ ap (λ (j : ℕ). j + length (gatesOn d)) (input-length d left right s) in
+      length-map values digit ∙ wires-length bits (gatesOn d) ∙ ap (λ (j : ℕ). j + length (gatesOn d)) (input-length d tables s) in
       ap (λ (j : ℕ). take k (drop j (over (bytesOf values) wires))) same
       ∙ ap (take k)
       (drop-append-le at (bytesOf values) _ (omega arith)
@@ -93,14 +94,14 @@ module _ (d : Dimensions) (left right : List ℕ) (s : State) where
       → (outcome (checks (wordsOf (gatesOn d)) (bytesOf bits) wires) ≡ Taken)
       × (filled (wordsOf (gatesOn d)) (bytesOf bits) wires ≡ over (bytesOf (wiresOf bits (gatesOn d))) wires)
   evaluated wires h =
-      let l = input-length d left right s in
+      let l = input-length d tables s in
       evaluates bits (gatesOn d) wires (ap (λ (k : ℕ). ordered k (gatesOn d)) l ∙ gates-ordered d) (subst (λ (k : ℕ). k + length (gatesOn d) ≤ length wires) (sym l) h)
 
 pub gates-carry-out : (d : Dimensions) → CarriesOut d (wordsOf (gatesOn d))
 gates-carry-out d = record {
   few = omega (arith, words-length (gatesOn d), gates-length (d .n) (d .left) (d .right));
   taken = gates-accepted d;
-  steps = λ left right s wires formed h.
-      let e = evaluated d left right s wires (omega (arith, words-length (gatesOn d))) in
-      (e .0, ap (outputsIn d (wordsOf (gatesOn d))) (e .1) ∙ outputs-filled d left right s formed wires);
+  steps = λ tables s wires formed h.
+      let e = evaluated d tables s wires (omega (arith, words-length (gatesOn d))) in
+      (e .0, ap (outputsIn d (wordsOf (gatesOn d))) (e .1) ∙ outputs-filled d tables s formed wires);
 }

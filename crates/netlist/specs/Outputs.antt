@@ -9,6 +9,7 @@ use Rattle.refusals.specs.Checks.{outcome}
 use Rattle.dimensions.specs.declared.Dimensions.{Dimensions}
 use Rattle.tables.specs.declared.Row.{Row}
 use Rattle.dimensions.specs.Sizes.{ceiling, stateWires, inputWires}
+use Rattle.tables.specs.Tables.{Tables}
 use Rattle.tables.specs.Rows.{rowsOf}
 use Rattle.state.specs.State.{State, ifOpen}
 use Rattle.state.specs.WellFormed.{wellFormedState}
@@ -35,6 +36,6 @@ outputsIn d gates wires = take (stateWires (d .n) + 1) (drop (inputWires d + len
 pub record CarriesOut (d : Dimensions) (gates : List ℕ) : Type 0 where
   pub few : length gates ≤ 3 * ceiling d
   pub taken : accepted (inputWires d) gates ≡ true
-  pub steps : (left right : List ℕ) (s : State) (wires : List ℕ) → wellFormedState (d .n) s ≡ true → inputWires d + length gates / 3 ≤ length wires
-      → (outcome (checks gates (bytesOf (inputBits d left right s)) wires) ≡ Taken)
-      × (outputsIn d gates (filled gates (bytesOf (inputBits d left right s)) wires) ≡ bytesOf (outputBits (d .n) (rowsOf d left right) s))
+  pub steps : (tables : Tables) (s : State) (wires : List ℕ) → wellFormedState (d .n) s ≡ true → inputWires d + length gates / 3 ≤ length wires
+      → (outcome (checks gates (bytesOf (inputBits d tables s)) wires) ≡ Taken)
+      × (outputsIn d gates (filled gates (bytesOf (inputBits d tables s)) wires) ≡ bytesOf (outputBits (d .n) (rowsOf d tables) s))

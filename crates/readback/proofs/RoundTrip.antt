@@ -21,6 +21,7 @@ use Rattle.words.specs.Sameness.{same}
 use Rattle.words.proofs.Truth.{and-l, and-r, and-i}
 use Rattle.words.proofs.Sameness.{same-self, same-true}
 use Rattle.dimensions.specs.declared.Dimensions.{Dimensions}
+use Rattle.tables.specs.Tables.{Tables}
 use Rattle.tables.specs.Rows.{rowsOf}
 use Rattle.dimensions.specs.Sizes.{outside, rowCount, stateWires}
 use Rattle.state.specs.declared.Run.{Run}
@@ -121,40 +122,40 @@ module _ (n : ℕ) (bytes : List ℕ) where
 
 -- ---- by the entries
 
-module _ (d : Dimensions) (left right : List ℕ) (run : Run) (bytes : List ℕ) (e : outcome (packChecks d left right run (length bytes)) ≡ Taken) where
+module _ (d : Dimensions) (tables : Tables) (run : Run) (bytes : List ℕ) (e : outcome (packChecks d tables run (length bytes)) ≡ Taken) where
   abbrev rowBytes : List ℕ
-  rowBytes = bytesOf (rowsBits (d .n) (rowsOf d left right))
+  rowBytes = bytesOf (rowsBits (d .n) (rowsOf d tables))
 
   abbrev stateBytes : List ℕ
   stateBytes = bytesOf (stateBits (d .n) (stateOf run))
 
-  split : packed d left right run bytes ≡ rowBytes ++ (stateBytes ++ drop (length (bytesOf (inputBits d left right (stateOf run)))) bytes)
+  split : packed d tables run bytes ≡ rowBytes ++ (stateBytes ++ drop (length (bytesOf (inputBits d tables (stateOf run)))) bytes)
   unfolding inputBits
   split =
-      sym (pack-taken d left right run bytes e)
-      ∙ ap (λ (l : List ℕ). l ++ drop (length (bytesOf (inputBits d left right (stateOf run)))) bytes)
-      (map-append digit (rowsBits (d .n) (rowsOf d left right)) (stateBits (d .n) (stateOf run)))
+      sym (pack-taken d tables run bytes e)
+      ∙ ap (λ (l : List ℕ). l ++ drop (length (bytesOf (inputBits d tables (stateOf run)))) bytes)
+      (map-append digit (rowsBits (d .n) (rowsOf d tables)) (stateBits (d .n) (stateOf run)))
       ∙ append-assoc rowBytes stateBytes _
 
   -- behind the rows, a packed run is read back
   pub read-behind-rows : length (run .levels) ≡ 32
-      → readBack (d .n) (drop (2 * d .n * rowCount d) (packed d left right run bytes)) ≡ record { outcome = Taken; run = run }
+      → readBack (d .n) (drop (2 * d .n * rowCount d) (packed d tables run bytes)) ≡ record { outcome = Taken; run = run }
   read-behind-rows room =
-      let o = passed d left right run (length bytes) e in
+      let o = passed d tables run (length bytes) e in
       let f = formed-run-e run (o .formed) in
       ap (readBack (d .n)) (ap (drop (2 * d .n * rowCount d)) split ∙ drop-at rowBytes _ (2 * d .n * rowCount d) rows-wide)
-      ∙ read-packed (d .n) (stateOf run) _ (ap (λ (k : ℕ). wellFormedState k (stateOf run)) (sym (o .same)) ∙ f .state) (o .tables .n-least) (o .tables .n-most)
+      ∙ read-packed (d .n) (stateOf run) _ (ap (λ (k : ℕ). wellFormedState k (stateOf run)) (sym (o .same)) ∙ f .state) (o .allowed .n-least) (o .allowed .n-most)
       ∙ ap (λ (r : Run). record { outcome = Taken; run = r }) (ap (λ (k : ℕ). runOf k (stateOf run)) (sym (o .same)) ∙ sym (run-back run (formed-tidy run room f)))
     where
       rows-wide : length rowBytes ≡ 2 * d .n * rowCount d
       rows-wide =
-          length-map (rowsBits (d .n) (rowsOf d left right)) digit ∙ rows-length (d .n) (rowsOf d left right)
-          ∙ ap (λ (k : ℕ). (d .n + d .n) * k) (both-length d left right) ∙ twice (d .n) (rowCount d)
+          length-map (rowsBits (d .n) (rowsOf d tables)) digit ∙ rows-length (d .n) (rowsOf d tables)
+          ∙ ap (λ (k : ℕ). (d .n + d .n) * k) (both-length d tables) ∙ twice (d .n) (rowCount d)
 
   -- a run that was read from some bytes puts those bytes behind the rows
-  pub pack-read : (from : List ℕ) → Held (d .n) from run → packed d left right run bytes ≡ over (rowBytes ++ take (stateWires (d .n)) from) bytes
+  pub pack-read : (from : List ℕ) → Held (d .n) from run → packed d tables run bytes ≡ over (rowBytes ++ take (stateWires (d .n)) from) bytes
   unfolding inputBits
   pack-read from h =
-      sym (pack-taken d left right run bytes e)
+      sym (pack-taken d tables run bytes e)
       ∙ ap (λ (l : List ℕ). over l bytes)
-      (map-append digit (rowsBits (d .n) (rowsOf d left right)) (stateBits (d .n) (stateOf run)) ∙ ap (λ (l : List ℕ). rowBytes ++ l) (h .again))
+      (map-append digit (rowsBits (d .n) (rowsOf d tables)) (stateBits (d .n) (stateOf run)) ∙ ap (λ (l : List ℕ). rowBytes ++ l) (h .again))

@@ -18,6 +18,7 @@ use Rattle.words.specs.Booleans.{digit}
 use Rattle.words.proofs.Truth.{on, digit-bit}
 use Rattle.dimensions.specs.declared.Dimensions.{Dimensions}
 use Rattle.dimensions.specs.Sizes.{stateWires, inputWires}
+use Rattle.tables.specs.Tables.{Tables}
 use Rattle.tables.specs.Rows.{rowsOf}
 use Rattle.tables.proofs.Accepted.{accepted}
 use Rattle.state.specs.declared.Run.{Run}
@@ -63,32 +64,32 @@ module _ (d : Dimensions) where
 
 -- ---- a run that is a well-formed state of n
 
-module _ (d : Dimensions) (left right : List ℕ) (acc : Accepts d left right) (run : Run) (ok : outcome (stateChecks d run) ≡ Taken) (bytes wires : List ℕ) where
+module _ (d : Dimensions) (tables : Tables) (acc : Accepts d tables) (run : Run) (ok : outcome (stateChecks d run) ≡ Taken) (bytes wires : List ℕ) where
   abbrev next : State
-  next = step (d .n) (rowsOf d left right) (stateOf run)
+  next = step (d .n) (rowsOf d tables) (stateOf run)
 
   -- too few bytes
-  few-bytes : length bytes < inputWires d → judged d left right (circuitWords d) run bytes wires ≡ Refused Wires
-  few-bytes h = refuse-packing d left right (circuitWords d) run bytes wires Wires (sym (refuse-room d left right run (length bytes) acc h))
+  few-bytes : length bytes < inputWires d → judged d tables (circuitWords d) run bytes wires ≡ Refused Wires
+  few-bytes h = refuse-packing d tables (circuitWords d) run bytes wires Wires (sym (refuse-room d tables run (length bytes) acc h))
 
   module _ (room : inputWires d ≤ length bytes) where
-    packs : outcome (packChecks d left right run (length bytes)) ≡ Taken
-    packs = sym (state-decides d left right run (length bytes) acc room) ∙ ok
+    packs : outcome (packChecks d tables run (length bytes)) ≡ Taken
+    packs = sym (state-decides d tables run (length bytes) acc room) ∙ ok
 
-    held : Passed d left right run (length bytes)
-    held = passed d left right run (length bytes) packs
+    held : Passed d tables run (length bytes)
+    held = passed d tables run (length bytes) packs
 
     formed : wellFormedState (d .n) (stateOf run) ≡ true
     formed = ap (λ (k : ℕ). wellFormedState k (stateOf run)) (sym (held .same)) ∙ formed-run-e run (held .formed) .state
 
     -- too few wires
-    few-wires : length wires < inputWires d + length (gatesOn d) → judged d left right (circuitWords d) run bytes wires ≡ Refused Wires
-    few-wires h = refuse-wires d left right (circuitWords d) run bytes wires packs (words-accepted d) (omega (arith, words-third d))
+    few-wires : length wires < inputWires d + length (gatesOn d) → judged d tables (circuitWords d) run bytes wires ≡ Refused Wires
+    few-wires h = refuse-wires d tables (circuitWords d) run bytes wires packs (words-accepted d) (omega (arith, words-third d))
 
     -- enough of both
     module _ (space : inputWires d + length (gatesOn d) ≤ length wires) where
       abbrev bits : List Bool
-      bits = inputBits d left right (stateOf run)
+      bits = inputBits d tables (stateOf run)
 
       abbrev values : List Bool
       values = wiresOf bits (gatesOn d)
@@ -96,43 +97,43 @@ module _ (d : Dimensions) (left right : List ℕ) (acc : Accepts d left right) (
       enough : inputWires d + length (circuitWords d) / 3 ≤ length wires
       enough = omega (arith, words-third d)
 
-      all-taken : judged d left right (circuitWords d) run bytes wires ≡ Taken
-      all-taken = take-all d left right (circuitWords d) run bytes wires packs (words-accepted d) enough
+      all-taken : judged d tables (circuitWords d) run bytes wires ≡ Taken
+      all-taken = take-all d tables (circuitWords d) run bytes wires packs (words-accepted d) enough
 
-      wires-are : wiresAfter d left right (circuitWords d) run bytes wires ≡ over (bytesOf values) wires
+      wires-are : wiresAfter d tables (circuitWords d) run bytes wires ≡ over (bytesOf values) wires
       wires-are =
-          wires-then d left right (circuitWords d) run bytes wires packs (words-accepted d) enough
+          wires-then d tables (circuitWords d) run bytes wires packs (words-accepted d) enough
           ∙ ap (λ (gs : List Gate). over (bytesOf (wiresOf bits gs)) wires) (words-gates d)
 
-      outputs-are : outputsIn d (circuitWords d) (wiresAfter d left right (circuitWords d) run bytes wires)
-          ≡ bytesOf (outputBits (d .n) (rowsOf d left right) (stateOf run))
+      outputs-are : outputsIn d (circuitWords d) (wiresAfter d tables (circuitWords d) run bytes wires)
+          ≡ bytesOf (outputBits (d .n) (rowsOf d tables) (stateOf run))
       unfolding circuitWords
       outputs-are =
           ap (outputsIn d (circuitWords d)) wires-are
-          ∙ outputs-filled d left right (stateOf run) formed wires
+          ∙ outputs-filled d tables (stateOf run) formed wires
 
       -- the outputs, read back
-      next-is : applied d left right (circuitWords d) run bytes wires ≡ record { outcome = Taken; run = runOf (d .n) next; mark = closed next }
+      next-is : applied d tables (circuitWords d) run bytes wires ≡ record { outcome = Taken; run = runOf (d .n) next; mark = closed next }
       unfolding applied nextRun outputBits
       next-is =
           let s = bytesOf (stateBits (d .n) next) in
-          let e : bytesOf (outputBits (d .n) (rowsOf d left right) (stateOf run)) ≡ s ++ (digit (closed next) ∷ []) =
+          let e : bytesOf (outputBits (d .n) (rowsOf d tables) (stateOf run)) ≡ s ++ (digit (closed next) ∷ []) =
           map-append digit (stateBits (d .n) next) (closed next ∷ []) in
           let r =
-          read-packed (d .n) next (digit (closed next) ∷ []) (step-well-formed (d .n) (rowsOf d left right) (stateOf run) formed) (held .tables .n-least) (held .tables .n-most) in
+          read-packed (d .n) next (digit (closed next) ∷ []) (step-well-formed (d .n) (rowsOf d tables) (stateOf run) formed) (held .allowed .n-least) (held .allowed .n-most) in
           let m : eqb (getD (s ++ (digit (closed next) ∷ [])) (stateWires (d .n)) 0) 1 ≡ closed next =
           ap (λ (x : ℕ). eqb x 1) (getD-at s (digit (closed next)) [] 0 (stateWires (d .n)) (length-map (stateBits (d .n) next) digit ∙ state-length (d .n) next))
           ∙ digit-bit (closed next) in
-          ap (λ (o : Outcome). given o (nextRun (d .n) run (outputsIn d (circuitWords d) (wiresAfter d left right (circuitWords d) run bytes wires))) (turnedBack run)) all-taken
+          ap (λ (o : Outcome). given o (nextRun (d .n) run (outputsIn d (circuitWords d) (wiresAfter d tables (circuitWords d) run bytes wires))) (turnedBack run)) all-taken
           ∙ ap (nextRun (d .n) run) (outputs-are ∙ e)
           ∙ ap₂ (λ (x : Read) (b : Bool). given (x .outcome) (record { outcome = Taken; run = x .run; mark = b }) (turnedBack run)) r m
 
 -- ---- one attempt at a state
 
-module _ (d : Dimensions) (left right : List ℕ) (acc : Accepts d left right) where
+module _ (d : Dimensions) (tables : Tables) (acc : Accepts d tables) where
   abbrev pub attempted : State → Bool → Applied
   attempted s true =
-      let next = step (d .n) (rowsOf d left right) s in
+      let next = step (d .n) (rowsOf d tables) s in
       record { outcome = Taken; run = runOf (d .n) next; mark = closed next }
   attempted s false = turnedBack (runOf (d .n) s) Wires
 
@@ -142,20 +143,20 @@ module _ (d : Dimensions) (left right : List ℕ) (acc : Accepts d left right) w
 
     fine : outcome (stateChecks d run) ≡ Taken
     unfolding runOf
-    fine = let k = accepted d left right acc in sym (take-state d run (run-of-formed (d .n) s (k .n-least) (k .n-most) formed) refl)
+    fine = let k = accepted d tables acc in sym (take-state d run (run-of-formed (d .n) s (k .n-least) (k .n-most) formed) refl)
 
-    back : judged d left right (circuitWords d) run (a .bytes) (a .wires) ≡ Refused Wires
-        → applied d left right (circuitWords d) run (a .bytes) (a .wires) ≡ turnedBack run Wires
-    back e = sym (refused d left right (circuitWords d) run (a .bytes) (a .wires) Wires e (turnedBack run Wires) refl .0)
+    back : judged d tables (circuitWords d) run (a .bytes) (a .wires) ≡ Refused Wires
+        → applied d tables (circuitWords d) run (a .bytes) (a .wires) ≡ turnedBack run Wires
+    back e = sym (refused d tables (circuitWords d) run (a .bytes) (a .wires) Wires e (turnedBack run Wires) refl .0)
 
-    pub attempt-is : applied d left right (circuitWords d) run (a .bytes) (a .wires) ≡ attempted s (longEnough d a)
+    pub attempt-is : applied d tables (circuitWords d) run (a .bytes) (a .wires) ≡ attempted s (longEnough d a)
     attempt-is =
         on (leb (inputWires d) (length (a .bytes)))
         (λ p.
         let room = leb-true (inputWires d) (length (a .bytes)) p in
         on (leb (inputWires d + length (gatesOn d)) (length (a .wires)))
         (λ q.
-        next-is d left right acc run fine (a .bytes) (a .wires) room (leb-true _ _ q)
+        next-is d tables acc run fine (a .bytes) (a .wires) room (leb-true _ _ q)
         ∙ ap (λ (x : State). attempted x true) (state-back (d .n) s) ∙ rw (p, q))
-        (λ q. back (few-wires d left right acc run fine (a .bytes) (a .wires) room (leb-false _ _ q)) ∙ rw (p, q)))
-        (λ p. back (few-bytes d left right acc run fine (a .bytes) (a .wires) (leb-false _ _ p)) ∙ rw p)
+        (λ q. back (few-wires d tables acc run fine (a .bytes) (a .wires) room (leb-false _ _ q)) ∙ rw (p, q)))
+        (λ p. back (few-bytes d tables acc run fine (a .bytes) (a .wires) (leb-false _ _ p)) ∙ rw p)

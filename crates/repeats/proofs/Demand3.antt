@@ -14,6 +14,7 @@ use Rattle.words.proofs.Last.{any-false}
 use Rattle.words.proofs.Upto.{any-i}
 use Rattle.dimensions.specs.declared.Dimensions.{Dimensions}
 use Rattle.tables.specs.declared.Row.{Row}
+use Rattle.tables.specs.Tables.{Tables}
 use Rattle.solver.specs.declared.Answer.{Answer}
 use Rattle.state.specs.declared.Run.{Run}
 use Rattle.state.specs.declared.Standing.{Standing}
@@ -33,7 +34,7 @@ use Rattle.netlist.specs.Outputs.{closed}
 use Rattle.netlist.proofs.EveryState.{gates-carry-out}
 use Rattle.answers.specs.Printed.{answerText}
 use Rattle.bristol.specs.Text.{circuitText}
-use Rattle.repeats.specs.Repeats.{Attempt, History, Tables, circuitWords, ended, longOnes}
+use Rattle.repeats.specs.Repeats.{Attempt, History, circuitWords, ended, longOnes}
 use Rattle.repeats.specs.Demand3.{rowsIn, AllAccepts, historyOf, Follows, answerFor, Ends, seen, Demand3}
 use Rattle.repeats.proofs.Histories.{closed-open, open-closed, repeated, number, repeats-are}
 

@@ -8,6 +8,7 @@ use Prim.Native.Nat.{ℕ, zero, suc, min}
 use native.Mathlib.Omega.{arith}
 use Rattle.dimensions.specs.declared.Dimensions.{Dimensions}
 use Rattle.tables.specs.declared.Row.{Row}
+use Rattle.tables.specs.Tables.{Tables}
 use Rattle.state.specs.declared.Standing.{Standing}
 use Rattle.state.specs.declared.Standing.the-variants.{Open, Satisfied, Refuted}
 use Rattle.state.specs.State.{State, runOf, ifOpen}
@@ -18,7 +19,7 @@ use Rattle.solver.proofs.StepLaws.{step-well-formed}
 use Rattle.wires.specs.Layout.{upto}
 use Rattle.netlist.specs.Outputs.{closed}
 use Rattle.repeats.specs.declared.Applied.{Applied}
-use Rattle.repeats.specs.Repeats.{Attempt, History, Tables, laterTables, marked, noRepeat, comesOf, repeats, longEnough, longOnes}
+use Rattle.repeats.specs.Repeats.{Attempt, History, laterTables, marked, noRepeat, comesOf, repeats, longEnough, longOnes}
 use Rattle.repeats.specs.Demand3.{rowsIn, AllAccepts}
 use Rattle.repeats.proofs.Applying.{attempted, attempt-is}
 
@@ -109,14 +110,14 @@ module _ (d : Dimensions) where
   repeats-are [] tables acc budget s w o = none tables s _ (omega arith)
   repeats-are (a ∷ more) tables acc zero s w o = none tables s _ (no-budget tables (a ∷ more) s)
   repeats-are (a ∷ more) tables acc (suc rest) s w o =
-      ap (afterwards tables rest more) (attempt-is d (tables 0 .left) (tables 0 .right) (acc 0) s w a)
+      ap (afterwards tables rest more) (attempt-is d (tables 0) (acc 0) s w a)
       ∙ go (repeats-are more tables acc (suc rest) s w o)
       (λ h. repeats-are more (laterTables tables) (λ i. acc (suc i)) rest (first tables s) (step-well-formed (d .n) (rowsIn d tables 0) s w) h) (longEnough d a)
     where
       go : repeats d tables (suc rest) (runOf (d .n) s) more ≡ repeated tables s (number tables more (suc rest) s)
           → (first tables s .standing ≡ Open
           → repeats d (laterTables tables) rest (runOf (d .n) (first tables s)) more ≡ repeated (laterTables tables) (first tables s) (number (laterTables tables) more rest (first tables s)))
-          → (long : Bool) → afterwards tables rest more (attempted d (tables 0 .left) (tables 0 .right) (acc 0) s long)
+          → (long : Bool) → afterwards tables rest more (attempted d (tables 0) (acc 0) s long)
           ≡ repeated tables s (min (cond long (suc (longOnes d more)) (longOnes d more)) (runFrom (d .n) (rowsIn d tables) (suc rest) s .steps))
       go same further true = repeat tables more rest s o (first tables s) refl further (closed (first tables s)) refl
       go same further false = same

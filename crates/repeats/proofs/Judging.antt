@@ -18,6 +18,7 @@ use Rattle.words.specs.Booleans.{digit}
 use Rattle.dimensions.specs.declared.Dimensions.{Dimensions}
 use Rattle.dimensions.specs.Sizes.{rowCount, stateWires, inputWires}
 use Rattle.tables.proofs.Accepted.{Accepted}
+use Rattle.tables.specs.Tables.{Tables}
 use Rattle.state.specs.declared.Run.{Run}
 use Rattle.state.specs.State.{stateOf}
 use Rattle.gates.specs.Gates.{wiresOf}
@@ -36,62 +37,62 @@ use Rattle.repeats.specs.declared.Applied.{Applied}
 use Rattle.repeats.specs.Application.{turnedBack, nextRun, inputs, judged, bytesAfter, wiresAfter, applied}
 
 -- behind a state's wires there is room for the closing one: a row of each station has two wires at least
-pub outputs-fit : (d : Dimensions) (left right : List ℕ) → Accepted d left right → stateWires (d .n) + 4 ≤ inputWires d
-outputs-fit d left right a =
+pub outputs-fit : (d : Dimensions) (tables : Tables) → Accepted d tables → stateWires (d .n) + 4 ≤ inputWires d
+outputs-fit d tables a =
     omega (arith, mul-le-mul {n₁ = 2} {m₁ = 2} {n₂ = 2 * d .n} {m₂ = rowCount d} (omega (arith, a .n-least)) (omega (arith, a .left-least, a .right-least)))
 
-module _ (d : Dimensions) (left right gates : List ℕ) (run : Run) (bytes wires : List ℕ) where
+module _ (d : Dimensions) (tables : Tables) (gates : List ℕ) (run : Run) (bytes wires : List ℕ) where
   -- ---- refused
 
-  pub refused : (r : Refusal) → judged d left right gates run bytes wires ≡ Refused r → (x : Applied) → x ≡ turnedBack run r
-      → (x ≡ applied d left right gates run bytes wires)
-      × ((bytes ≡ bytesAfter d left right gates run bytes wires) × (wires ≡ wiresAfter d left right gates run bytes wires))
+  pub refused : (r : Refusal) → judged d tables gates run bytes wires ≡ Refused r → (x : Applied) → x ≡ turnedBack run r
+      → (x ≡ applied d tables gates run bytes wires)
+      × ((bytes ≡ bytesAfter d tables gates run bytes wires) × (wires ≡ wiresAfter d tables gates run bytes wires))
   unfolding applied bytesAfter wiresAfter
   refused r e x q = rw e (q, (refl, refl))
 
-  pub refuse-packing : (r : Refusal) → outcome (packChecks d left right run (length bytes)) ≡ Refused r → judged d left right gates run bytes wires ≡ Refused r
+  pub refuse-packing : (r : Refusal) → outcome (packChecks d tables run (length bytes)) ≡ Refused r → judged d tables gates run bytes wires ≡ Refused r
   unfolding judged
-  refuse-packing r e = outcome-refused (packChecks d left right run (length bytes)) (checks gates (inputs d left right run bytes) wires) r e
+  refuse-packing r e = outcome-refused (packChecks d tables run (length bytes)) (checks gates (inputs d tables run bytes) wires) r e
 
   -- ---- packed
 
-  module _ (e : outcome (packChecks d left right run (length bytes)) ≡ Taken) where
+  module _ (e : outcome (packChecks d tables run (length bytes)) ≡ Taken) where
     abbrev bits : List Bool
-    bits = inputBits d left right (stateOf run)
+    bits = inputBits d tables (stateOf run)
 
-    inputs-are : inputs d left right run bytes ≡ bytesOf bits
-    inputs-are = packed-front d left right run bytes e
+    inputs-are : inputs d tables run bytes ≡ bytesOf bits
+    inputs-are = packed-front d tables run bytes e
 
-    inputs-length : length (inputs d left right run bytes) ≡ inputWires d
-    inputs-length = ap length inputs-are ∙ length-map bits digit ∙ input-length d left right (stateOf run)
+    inputs-length : length (inputs d tables run bytes) ≡ inputWires d
+    inputs-length = ap length inputs-are ∙ length-map bits digit ∙ input-length d tables (stateOf run)
 
-    evaluation-decides : judged d left right gates run bytes wires ≡ outcome (checks gates (inputs d left right run bytes) wires)
+    evaluation-decides : judged d tables gates run bytes wires ≡ outcome (checks gates (inputs d tables run bytes) wires)
     unfolding judged
-    evaluation-decides = outcome-taken (packChecks d left right run (length bytes)) (checks gates (inputs d left right run bytes) wires) e
+    evaluation-decides = outcome-taken (packChecks d tables run (length bytes)) (checks gates (inputs d tables run bytes) wires) e
 
-    pub refuse-gates : accepted (inputWires d) gates ≡ false → judged d left right gates run bytes wires ≡ Refused Gates
+    pub refuse-gates : accepted (inputWires d) gates ≡ false → judged d tables gates run bytes wires ≡ Refused Gates
     refuse-gates a =
         evaluation-decides
-        ∙ sym (Evaluation.no-gates gates (inputs d left right run bytes) wires (ap (λ (k : ℕ). accepted k gates) inputs-length ∙ a) .0)
+        ∙ sym (Evaluation.no-gates gates (inputs d tables run bytes) wires (ap (λ (k : ℕ). accepted k gates) inputs-length ∙ a) .0)
 
     module _ (a : accepted (inputWires d) gates ≡ true) where
-      good : accepted (length (inputs d left right run bytes)) gates ≡ true
+      good : accepted (length (inputs d tables run bytes)) gates ≡ true
       good = ap (λ (k : ℕ). accepted k gates) inputs-length ∙ a
 
-      pub refuse-wires : length wires < inputWires d + length gates / 3 → judged d left right gates run bytes wires ≡ Refused Wires
+      pub refuse-wires : length wires < inputWires d + length gates / 3 → judged d tables gates run bytes wires ≡ Refused Wires
       refuse-wires h =
-          evaluation-decides ∙ sym (Evaluation.no-room gates (inputs d left right run bytes) wires good (omega (arith, inputs-length)) .0)
+          evaluation-decides ∙ sym (Evaluation.no-room gates (inputs d tables run bytes) wires good (omega (arith, inputs-length)) .0)
 
       module _ (h : inputWires d + length gates / 3 ≤ length wires) where
-        evaluated : (Taken ≡ outcome (checks gates (inputs d left right run bytes) wires))
-            × (over (bytesOf (wiresOf (bitsOf (inputs d left right run bytes)) (gatesOf gates))) wires ≡ filled gates (inputs d left right run bytes) wires)
+        evaluated : (Taken ≡ outcome (checks gates (inputs d tables run bytes) wires))
+            × (over (bytesOf (wiresOf (bitsOf (inputs d tables run bytes)) (gatesOf gates))) wires ≡ filled gates (inputs d tables run bytes) wires)
         evaluated =
-            Evaluation.taken gates (inputs d left right run bytes) wires good (omega (arith, inputs-length)) (ap Memory.bits inputs-are ∙ bits-bytes bits)
+            Evaluation.taken gates (inputs d tables run bytes) wires good (omega (arith, inputs-length)) (ap Memory.bits inputs-are ∙ bits-bytes bits)
 
-        pub take-all : judged d left right gates run bytes wires ≡ Taken
+        pub take-all : judged d tables gates run bytes wires ≡ Taken
         take-all = evaluation-decides ∙ sym (evaluated .0)
 
-        pub wires-then : wiresAfter d left right gates run bytes wires ≡ over (bytesOf (wiresOf bits (gatesOf gates))) wires
+        pub wires-then : wiresAfter d tables gates run bytes wires ≡ over (bytesOf (wiresOf bits (gatesOf gates))) wires
         unfolding wiresAfter
         wires-then =
             rw take-all
@@ -100,14 +101,14 @@ module _ (d : Dimensions) (left right gates : List ℕ) (run : Run) (bytes wires
 
   -- ---- taken
 
-  pub taken : judged d left right gates run bytes wires ≡ Taken
-      → (b w : List ℕ) → b ≡ packed d left right run bytes → w ≡ filled gates (take (inputWires d) b) wires
+  pub taken : judged d tables gates run bytes wires ≡ Taken
+      → (b w : List ℕ) → b ≡ packed d tables run bytes → w ≡ filled gates (take (inputWires d) b) wires
       → (x : Applied) → x ≡ nextRun (d .n) run (outputsIn d gates w)
-      → (x ≡ applied d left right gates run bytes wires)
-      × ((b ≡ bytesAfter d left right gates run bytes wires) × (w ≡ wiresAfter d left right gates run bytes wires))
+      → (x ≡ applied d tables gates run bytes wires)
+      × ((b ≡ bytesAfter d tables gates run bytes wires) × (w ≡ wiresAfter d tables gates run bytes wires))
   unfolding applied bytesAfter wiresAfter
   taken t b w p q x r =
-      let v : w ≡ filled gates (inputs d left right run bytes) wires = q ∙ ap (λ (l : List ℕ). filled gates (take (inputWires d) l) wires) p in
+      let v : w ≡ filled gates (inputs d tables run bytes) wires = q ∙ ap (λ (l : List ℕ). filled gates (take (inputWires d) l) wires) p in
       rw t (r ∙ ap (λ (l : List ℕ). nextRun (d .n) run (outputsIn d gates l)) v, (p, v))
 
 -- ---- reading the outputs

@@ -10,6 +10,7 @@ use Rattle.refusals.specs.declared.Outcome.the-variants.{Taken, Refused}
 use Rattle.refusals.specs.declared.Refusal.{Refusal}
 use Rattle.dimensions.specs.declared.Dimensions.{Dimensions}
 use Rattle.dimensions.specs.Sizes.{stateWires, inputWires}
+use Rattle.tables.specs.Tables.{Tables}
 use Rattle.state.specs.declared.Run.{Run}
 use Rattle.two_pass.specs.Evaluation.{checks, filled}
 use Rattle.wires.specs.Packing.{packChecks, packed}
@@ -28,23 +29,23 @@ nextRun n run outputs =
     given (read .outcome) (record { outcome = Taken; run = read .run; mark = eqb (getD outputs (stateWires n) 0) 1 }) (turnedBack run)
 
 -- the packed bytes, the evaluator's inputs
-abbrev pub inputs : Dimensions → List ℕ → List ℕ → Run → List ℕ → List ℕ
-inputs d left right run bytes = take (inputWires d) (packed d left right run bytes)
+abbrev pub inputs : Dimensions → Tables → Run → List ℕ → List ℕ
+inputs d tables run bytes = take (inputWires d) (packed d tables run bytes)
 
-module _ (d : Dimensions) (left right gates : List ℕ) (run : Run) (bytes wires : List ℕ) where
+module _ (d : Dimensions) (tables : Tables) (gates : List ℕ) (run : Run) (bytes wires : List ℕ) where
   -- what packing and evaluation say, before a byte is written
   unfoldable pub judged : Outcome
-  judged = outcome (packChecks d left right run (length bytes) ++ checks gates (inputs d left right run bytes) wires)
+  judged = outcome (packChecks d tables run (length bytes) ++ checks gates (inputs d tables run bytes) wires)
 
   -- the lent bytes afterwards, and so the wires: as they were, if packing or evaluation refuses; what reading back refuses leaves the packed bytes and the wires' values
   unfoldable pub bytesAfter : List ℕ
   unfolding judged
-  bytesAfter = given judged (packed d left right run bytes) (λ r. bytes)
+  bytesAfter = given judged (packed d tables run bytes) (λ r. bytes)
 
   -- the lent wires afterwards
   unfoldable pub wiresAfter : List ℕ
   unfolding judged
-  wiresAfter = given judged (filled gates (inputs d left right run bytes) wires) (λ r. wires)
+  wiresAfter = given judged (filled gates (inputs d tables run bytes) wires) (λ r. wires)
 
   -- the next run and its mark; refused, the run as it was
   unfoldable pub applied : Applied

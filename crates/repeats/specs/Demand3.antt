@@ -8,6 +8,7 @@ use Rattle.refusals.specs.Checks.{outcome}
 use Rattle.refusals.specs.declared.Outcome.the-variants.{Taken}
 use Rattle.dimensions.specs.declared.Dimensions.{Dimensions}
 use Rattle.tables.specs.declared.Row.{Row}
+use Rattle.tables.specs.Tables.{Tables}
 use Rattle.tables.specs.Rows.{rowsOf}
 use Rattle.tables.specs.Acceptance.{tableChecks}
 use Rattle.solver.specs.declared.Answer.{Answer}
@@ -19,13 +20,13 @@ use Rattle.gates.specs.Memory.{gatesOf}
 use Rattle.netlist.specs.Outputs.{closed, CarriesOut}
 use Rattle.answers.specs.Printed.{answerText}
 use Rattle.bristol.specs.Text.{circuitText}
-use Rattle.repeats.specs.Repeats.{Attempt, History, Tables, circuitWords, repeats, ended, longOnes}
+use Rattle.repeats.specs.Repeats.{Attempt, History, circuitWords, repeats, ended, longOnes}
 
 -- ---- history
 
 -- the rows at each step
 abbrev pub rowsIn : Dimensions → (ℕ → Tables) → ℕ → List Row
-rowsIn d tables = λ i. rowsOf d (tables i .left) (tables i .right)
+rowsIn d tables = λ i. rowsOf d (tables i)
 
 -- the attempts from the fresh run on
 abbrev pub historyOf : Dimensions → (ℕ → Tables) → ℕ → List Attempt → History
@@ -59,12 +60,12 @@ seen d tables budget attempts =
 -- ---- the demand
 
 -- tables of these dimensions that none of 1 to 4 turns back
-abbrev pub Accepts : Dimensions → List ℕ → List ℕ → Type 0
-Accepts d left right = outcome (tableChecks d left right) ≡ Taken
+abbrev pub Accepts : Dimensions → Tables → Type 0
+Accepts d tables = outcome (tableChecks d tables) ≡ Taken
 
 -- at every step
 abbrev pub AllAccepts : Dimensions → (ℕ → Tables) → Type 0
-AllAccepts d tables = (i : ℕ) → Accepts d (tables i .left) (tables i .right)
+AllAccepts d tables = (i : ℕ) → Accepts d (tables i)
 
 -- demand 3, for circuits of these dimensions
 pub record Demand3 (d : Dimensions) : Type 0 where

@@ -8,6 +8,7 @@ use Rattle.refusals.specs.Checks.{given}
 use Rattle.words.specs.Sets.{any}
 use Rattle.dimensions.specs.declared.Dimensions.{Dimensions}
 use Rattle.dimensions.specs.Sizes.{inputWires}
+use Rattle.tables.specs.Tables.{Tables}
 use Rattle.state.specs.declared.Run.{Run}
 use Rattle.gates.specs.Memory.{wordsOf}
 use Rattle.netlist.specs.Netlist.{gatesOn}
@@ -44,11 +45,6 @@ comesOf r again further =
     (marked (r .mark) (cond (r .mark) (noRepeat (r .run)) (further (r .run))))
     (λ refusal. again (r .run))
 
--- both stations' tables
-pub record Tables : Type 0 where
-  pub left : List ℕ
-  pub right : List ℕ
-
 -- the tables from the second repeat on
 abbrev pub laterTables : (ℕ → Tables) → ℕ → Tables
 laterTables tables = λ i. tables (suc i)
@@ -59,7 +55,7 @@ unfolding applied circuitWords
 repeats d tables budget run [] = noRepeat run
 repeats d tables zero run (a ∷ later) = noRepeat run
 repeats d tables (suc rest) run (a ∷ later) =
-    comesOf (applied d (tables 0 .left) (tables 0 .right) (circuitWords d) run (a .bytes) (a .wires))
+    comesOf (applied d (tables 0) (circuitWords d) run (a .bytes) (a .wires))
     (λ next. repeats d tables (suc rest) next later)
     (λ next. repeats d (laterTables tables) rest next later)
 

@@ -8,6 +8,7 @@ ghost use mathlib.Core.Path.{_≡_};
 ghost use Prim.Native.Nat.{_+_};
 ghost use lib.ListN.{length};
 ghost use Rattle.dimensions.specs.Sizes.{stateWires};
+ghost use Rattle.tables.specs.Tables.{allTables};
 ghost use Rattle.repeats.specs.Application.{turnedBack, nextRun, bytesAfter, wiresAfter, applied};
 
 // The next run and its mark, whether that run is closed; refused, the run as it was and no mark.
@@ -57,9 +58,9 @@ pub fn apply(
     bytes: &mut [u8],
     wires: &mut [u8],
 ) -> Applied
-    ensures { λ r. ⌜ r ≡ applied d (now (left .entry)) (now (right .entry)) (now (gates .entry)) run (now (bytes .entry)) (now (wires .entry)) ⌝ }
-    ensures { λ _. ⌜ now (bytes .exit) ≡ bytesAfter d (now (left .entry)) (now (right .entry)) (now (gates .entry)) run (now (bytes .entry)) (now (wires .entry)) ⌝ }
-    ensures { λ _. ⌜ now (wires .exit) ≡ wiresAfter d (now (left .entry)) (now (right .entry)) (now (gates .entry)) run (now (bytes .entry)) (now (wires .entry)) ⌝ }
+    ensures { λ r. ⌜ r ≡ applied d (allTables (now (left .entry)) (now (right .entry))) (now (gates .entry)) run (now (bytes .entry)) (now (wires .entry)) ⌝ }
+    ensures { λ _. ⌜ now (bytes .exit) ≡ bytesAfter d (allTables (now (left .entry)) (now (right .entry))) (now (gates .entry)) run (now (bytes .entry)) (now (wires .entry)) ⌝ }
+    ensures { λ _. ⌜ now (wires .exit) ≡ wiresAfter d (allTables (now (left .entry)) (now (right .entry))) (now (gates .entry)) run (now (bytes .entry)) (now (wires .entry)) ⌝ }
 {
     let inputs = d.input_wires();
     match wires::check(d, left, right, run, bytes.len()) {

@@ -12,6 +12,7 @@ use Rattle.words.proofs.Truth.{and-i}
 use Rattle.refusals.specs.Checks.{given, outcome}
 use Rattle.refusals.specs.declared.Outcome.{Outcome}
 use Rattle.refusals.specs.declared.Outcome.the-variants.{Taken, Refused}
+use Rattle.tables.specs.Tables.{allTables}
 use Rattle.tables.specs.Rows.{rowsOf}
 use Rattle.tables.specs.Acceptance.{allBelow, tableChecks}
 use Rattle.dimacs.specs.declared.Pair.{Pair}
@@ -58,7 +59,7 @@ all-below n (suc k) [] h = refl
 all-below n (suc k) (w ∷ ws) h = and-i (lt-ltb w (2 ^ n) (h zero)) (all-below n k ws (λ i. h (suc i)))
 
 pub tables-taken : (p : Pair) → Within (p .n) (p .«left_rows») (p .left) × Within (p .n) (p .«right_rows») (p .right)
-    → outcome (tableChecks (dimensionsOf p) (p .left) (p .right)) ≡ Taken
+    → outcome (tableChecks (dimensionsOf p) (allTables (p .left) (p .right))) ≡ Taken
 tables-taken p w =
     let l = w .0 in
     let r = w .1 in
@@ -77,21 +78,21 @@ tables-taken p w =
 
 -- where both texts and the line are taken, the reply is the answer of the budgeted run over their rows
 pub reply-answers : (left right line : List ℕ) (steps : ℕ) → readOf left right .outcome ≡ Taken → budgetOf line ≡ budget.Of steps
-    → let p = readOf left right in replied p line ≡ solved′.Of (answerOf (p .n) (always (rowsOf (dimensionsOf p) (p .left) (p .right))) steps)
+    → let p = readOf left right in replied p line ≡ solved′.Of (answerOf (p .n) (always (rowsOf (dimensionsOf p) (allTables (p .left) (p .right)))) steps)
 unfolding solved
 reply-answers left right line steps taken e =
     let p = readOf left right in
     ap (λ (o : Outcome). given o (answered p (budgetOf line)) solved′.Refused) taken
     ∙ ap (answered p) e
-    ∙ ap (λ (o : Outcome). given o (solved′.Of (answerOf (p .n) (always (rowsOf (dimensionsOf p) (p .left) (p .right))) steps)) solved′.Refused)
+    ∙ ap (λ (o : Outcome). given o (solved′.Of (answerOf (p .n) (always (rowsOf (dimensionsOf p) (allTables (p .left) (p .right)))) steps)) solved′.Refused)
     (tables-taken p (accepted-pair left right p refl taken))
 
 -- and demand 2 holds of it
 pub reply-demand2 : (left right : List ℕ) (steps : ℕ) → readOf left right .outcome ≡ Taken
-    → let p = readOf left right in let rows = always (rowsOf (dimensionsOf p) (p .left) (p .right)) in Demand2 (p .n) rows steps (answerOf (p .n) rows steps)
+    → let p = readOf left right in let rows = always (rowsOf (dimensionsOf p) (allTables (p .left) (p .right))) in Demand2 (p .n) rows steps (answerOf (p .n) rows steps)
 reply-demand2 left right steps taken =
     let p = readOf left right in
-    demand2 (dimensionsOf p) (p .left) (p .right) steps (tables-taken p (accepted-pair left right p refl taken))
+    demand2 (dimensionsOf p) (allTables (p .left) (p .right)) steps (tables-taken p (accepted-pair left right p refl taken))
 
 -- ---- the text
 

@@ -7,6 +7,7 @@ use Prim.Native.Nat.{ℕ}
 use Rattle.refusals.specs.Checks.{given}
 use Rattle.refusals.specs.declared.Outcome.{Outcome}
 use Rattle.refusals.specs.declared.Outcome.the-variants.{Taken, Refused}
+use Rattle.tables.specs.Tables.{allTables}
 use Rattle.tables.specs.Rows.{rowsOf}
 use Rattle.solver.specs.Step.{always}
 use Rattle.dimacs.specs.declared.Pair.{Pair}
@@ -29,7 +30,7 @@ reply-within left right line = texts (p .outcome) refl
     number : (b : Budget) → p .outcome ≡ Taken → budgetOf line ≡ b → solvedWithin (p .n) (replied p line)
     number (budget.Of steps) taken e =
         subst (solvedWithin (p .n)) (sym (reply-answers left right line steps taken e))
-        (run-within (p .n) (always (rowsOf (dimensionsOf p) (p .left) (p .right))) steps (budget-below line steps e))
+        (run-within (p .n) (always (rowsOf (dimensionsOf p) (allTables (p .left) (p .right)))) steps (budget-below line steps e))
     number (budget.Refused r) taken e =
         subst (solvedWithin (p .n)) (sym (ap (λ (o : Outcome). given o (answered p (budgetOf line)) solved.Refused) taken ∙ ap (answered p) e)) tt
 

@@ -3,6 +3,7 @@ use Prim.Native.Nat.{ℕ}
 use mathlib.Core.List.{List}
 use Rattle.refusals.specs.Checks.{given}
 use Rattle.dimensions.specs.declared.Dimensions.{Dimensions}
+use Rattle.tables.specs.Tables.{allTables}
 use Rattle.dimacs.specs.Pair.{pairOf}
 use Rattle.dimacs.specs.Text.{tableOf}
 use Rattle.dimacs.specs.declared.Pair.{Pair}
@@ -20,7 +21,7 @@ dimensionsOf p = record { n = p .n; left = p .«left_rows»; right = p .«right_
 
 -- the budgeted run over the tables, or 8
 abbrev pub answered : Pair → Budget → Solved
-answered p (budget.Of steps) = solved (dimensionsOf p) (p .left) (p .right) steps
+answered p (budget.Of steps) = solved (dimensionsOf p) (allTables (p .left) (p .right)) steps
 answered p (budget.Refused r) = Refused r
 
 -- the left text's refusal, then the right's, then 6, and only then 8

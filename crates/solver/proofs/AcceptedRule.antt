@@ -10,6 +10,7 @@ use Rattle.refusals.specs.Checks.{outcome}
 use Rattle.refusals.specs.declared.Outcome.the-variants.{Taken}
 use Rattle.dimensions.specs.declared.Dimensions.{Dimensions}
 use Rattle.tables.specs.declared.Row.{Row}
+use Rattle.tables.specs.Tables.{Tables}
 use Rattle.tables.specs.Rows.{rowsFrom, rowsOf}
 use Rattle.tables.specs.Acceptance.{tableChecks}
 use Rattle.tables.proofs.Accepted.{accepted}
@@ -33,9 +34,9 @@ rows-in-front words m h =
 
 -- ---- accepted tables
 
-pub rule-of-fronts : (d : Dimensions) (left right : List ℕ) → outcome (tableChecks d left right) ≡ Taken → (t f : ℕ)
-    → rule 32 (rowsIn (take (2 * d .left) left) ++ rowsIn (take (2 * d .right) right)) t f ≡ rule (d .n) (rowsOf d left right) t f
-rule-of-fronts d left right ok t f =
-    let a = accepted d left right ok in
-    ap₂ (λ (x y : List Row). rule 32 (x ++ y) t f) (rows-in-front left (d .left) (a .left-length)) (rows-in-front right (d .right) (a .right-length))
-    ∙ rule-width (d .n) 32 (a .n-most) t f (rowsOf d left right) (accepted-low d left right ok)
+pub rule-of-fronts : (d : Dimensions) (tables : Tables) → outcome (tableChecks d tables) ≡ Taken → (t f : ℕ)
+    → rule 32 (rowsIn (take (2 * d .left) (tables .left)) ++ rowsIn (take (2 * d .right) (tables .right))) t f ≡ rule (d .n) (rowsOf d tables) t f
+rule-of-fronts d tables ok t f =
+    let a = accepted d tables ok in
+    ap₂ (λ (x y : List Row). rule 32 (x ++ y) t f) (rows-in-front (tables .left) (d .left) (a .left-length)) (rows-in-front (tables .right) (d .right) (a .right-length))
+    ∙ rule-width (d .n) 32 (a .n-most) t f (rowsOf d tables) (accepted-low d tables ok)

@@ -14,6 +14,7 @@ use Rattle.refusals.specs.declared.Outcome.the-variants.{Taken}
 use Rattle.words.specs.Sets.{bit}
 use Rattle.dimensions.specs.declared.Dimensions.{Dimensions}
 use Rattle.tables.specs.declared.Row.{Row}
+use Rattle.tables.specs.Tables.{Tables}
 use Rattle.tables.specs.Rows.{rowsOf}
 use Rattle.tables.specs.Acceptance.{tableChecks}
 use Rattle.tables.proofs.Accepted.{accepted}
@@ -142,17 +143,17 @@ module _ (n : ℕ) (rows : ℕ → List Row) (few : n ≤ 32) (low : (i : ℕ) �
 -- ---- accepted tables
 
 -- with late conditions
-pub demand2-late : (d : Dimensions) (left right : List ℕ) (late : List Late) (budget : ℕ) → outcome (tableChecks d left right) ≡ Taken
-    → let rows = rowsAt (d .n) (rowsOf d left right) late in Demand2 (d .n) rows budget (answerOf (d .n) rows budget)
-demand2-late d left right late budget e =
-    let few = accepted d left right e .n-most in
-    demand2-rows (d .n) (rowsAt (d .n) (rowsOf d left right) late) few
-    (rows-low (d .n) few late (rowsOf d left right) (accepted-low d left right e))
-    (rows-grow (d .n) few late (rowsOf d left right)) budget
+pub demand2-late : (d : Dimensions) (tables : Tables) (late : List Late) (budget : ℕ) → outcome (tableChecks d tables) ≡ Taken
+    → let rows = rowsAt (d .n) (rowsOf d tables) late in Demand2 (d .n) rows budget (answerOf (d .n) rows budget)
+demand2-late d tables late budget e =
+    let few = accepted d tables e .n-most in
+    demand2-rows (d .n) (rowsAt (d .n) (rowsOf d tables) late) few
+    (rows-low (d .n) few late (rowsOf d tables) (accepted-low d tables e))
+    (rows-grow (d .n) few late (rowsOf d tables)) budget
 
 -- and without
-pub demand2 : (d : Dimensions) (left right : List ℕ) (budget : ℕ) → outcome (tableChecks d left right) ≡ Taken
-    → let rows = always (rowsOf d left right) in Demand2 (d .n) rows budget (answerOf (d .n) rows budget)
-demand2 d left right budget e =
-    demand2-rows (d .n) (always (rowsOf d left right)) (accepted d left right e .n-most) (λ i. accepted-low d left right e)
-    (λ i j b. grows-same (d .n) (rowsOf d left right)) budget
+pub demand2 : (d : Dimensions) (tables : Tables) (budget : ℕ) → outcome (tableChecks d tables) ≡ Taken
+    → let rows = always (rowsOf d tables) in Demand2 (d .n) rows budget (answerOf (d .n) rows budget)
+demand2 d tables budget e =
+    demand2-rows (d .n) (always (rowsOf d tables)) (accepted d tables e .n-most) (λ i. accepted-low d tables e)
+    (λ i j b. grows-same (d .n) (rowsOf d tables)) budget

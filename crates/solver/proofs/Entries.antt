@@ -10,6 +10,7 @@ use Rattle.refusals.specs.declared.Outcome.the-variants.{Taken, Refused}
 use Rattle.refusals.specs.declared.Refusal.{Refusal}
 use Rattle.refusals.specs.declared.Refusal.the-variants as refusal
 use Rattle.refusals.proofs.Outcomes.{outcome-taken, outcome-refused, refused-taken}
+use Rattle.tables.specs.Tables.{Tables}
 use Rattle.tables.specs.Acceptance.{tableChecks}
 use Rattle.tables.specs.Rows.{rowsOf}
 use Rattle.dimensions.specs.declared.Dimensions.{Dimensions}
@@ -25,30 +26,30 @@ use Rattle.state.proofs.Checks.{state-formed, state-same}
 
 -- ---- the checks of tables and run
 
-module _ (d : Dimensions) (left right : List ℕ) (run : Run) where
-  pub refuse-tables : (r : Refusal) → Refused r ≡ outcome (tableChecks d left right) → Refused r ≡ outcome (tableChecks d left right ++ stateChecks d run)
-  refuse-tables r e = sym (outcome-refused (tableChecks d left right) (stateChecks d run) r (sym e))
+module _ (d : Dimensions) (tables : Tables) (run : Run) where
+  pub refuse-tables : (r : Refusal) → Refused r ≡ outcome (tableChecks d tables) → Refused r ≡ outcome (tableChecks d tables ++ stateChecks d run)
+  refuse-tables r e = sym (outcome-refused (tableChecks d tables) (stateChecks d run) r (sym e))
 
-  pub state-decides : Taken ≡ outcome (tableChecks d left right) → outcome (stateChecks d run) ≡ outcome (tableChecks d left right ++ stateChecks d run)
-  state-decides e = sym (outcome-taken (tableChecks d left right) (stateChecks d run) (sym e))
+  pub state-decides : Taken ≡ outcome (tableChecks d tables) → outcome (stateChecks d run) ≡ outcome (tableChecks d tables ++ stateChecks d run)
+  state-decides e = sym (outcome-taken (tableChecks d tables) (stateChecks d run) (sym e))
 
   -- the tables are accepted, and the run passes its checks
   pub record Passed : Type 0 where
-    pub tables : outcome (tableChecks d left right) ≡ Taken
+    pub taken : outcome (tableChecks d tables) ≡ Taken
     pub formed : wellFormed run ≡ true
     pub same : run .n ≡ d .n
 
-  pub passed : (o : Outcome) → o ≡ outcome (tableChecks d left right ++ stateChecks d run) → o ≡ Taken → Passed
-  passed o f t = go (outcome (tableChecks d left right)) refl
+  pub passed : (o : Outcome) → o ≡ outcome (tableChecks d tables ++ stateChecks d run) → o ≡ Taken → Passed
+  passed o f t = go (outcome (tableChecks d tables)) refl
     where
-      e : Taken ≡ outcome (tableChecks d left right ++ stateChecks d run)
+      e : Taken ≡ outcome (tableChecks d tables ++ stateChecks d run)
       e = sym t ∙ f
 
-      go : (o : Outcome) → outcome (tableChecks d left right) ≡ o → Passed
+      go : (o : Outcome) → outcome (tableChecks d tables) ≡ o → Passed
       go Taken q =
           let s : outcome (stateChecks d run) ≡ Taken = state-decides (sym q) ∙ sym e in
           record {
-            tables = q;
+            taken = q;
             formed = state-formed d run s;
             same = state-same d run s;
           }
@@ -56,28 +57,28 @@ module _ (d : Dimensions) (left right : List ℕ) (run : Run) where
 
   -- ---- the step's entry
 
-  pub step-taken : (o : Outcome) → o ≡ outcome (tableChecks d left right ++ stateChecks d run) → o ≡ Taken
-      → (r : Run) → r ≡ runOf (d .n) (step (d .n) (rowsOf d left right) (stateOf run))
-      → _≡_ {A = Stepped} (record { outcome = o; run = r }) (stepped d left right run)
+  pub step-taken : (o : Outcome) → o ≡ outcome (tableChecks d tables ++ stateChecks d run) → o ≡ Taken
+      → (r : Run) → r ≡ runOf (d .n) (step (d .n) (rowsOf d tables) (stateOf run))
+      → _≡_ {A = Stepped} (record { outcome = o; run = r }) (stepped d tables run)
   unfolding stepped
   step-taken o e t r q = ap₂ (λ (x : Outcome) (y : Run). record { outcome = x; run = y }) t q
-      ∙ ap (λ (x : Outcome). given x (record { outcome = Taken; run = runOf (d .n) (step (d .n) (rowsOf d left right) (stateOf run)) }) (λ y. record { outcome = Refused y; run = run })) (sym t ∙ e)
+      ∙ ap (λ (x : Outcome). given x (record { outcome = Taken; run = runOf (d .n) (step (d .n) (rowsOf d tables) (stateOf run)) }) (λ y. record { outcome = Refused y; run = run })) (sym t ∙ e)
 
-  pub step-refused : (o : Outcome) → o ≡ outcome (tableChecks d left right ++ stateChecks d run) → (r : Refusal) → o ≡ Refused r
-      → _≡_ {A = Stepped} (record { outcome = o; run = run }) (stepped d left right run)
+  pub step-refused : (o : Outcome) → o ≡ outcome (tableChecks d tables ++ stateChecks d run) → (r : Refusal) → o ≡ Refused r
+      → _≡_ {A = Stepped} (record { outcome = o; run = run }) (stepped d tables run)
   unfolding stepped
   step-refused o e r t = ap (λ (x : Outcome). record { outcome = x; run = run }) t
-      ∙ ap (λ (x : Outcome). given x (record { outcome = Taken; run = runOf (d .n) (step (d .n) (rowsOf d left right) (stateOf run)) }) (λ y. record { outcome = Refused y; run = run })) (sym t ∙ e)
+      ∙ ap (λ (x : Outcome). given x (record { outcome = Taken; run = runOf (d .n) (step (d .n) (rowsOf d tables) (stateOf run)) }) (λ y. record { outcome = Refused y; run = run })) (sym t ∙ e)
 
 -- ---- the budgeted run's entry
 
-module _ (d : Dimensions) (left right : List ℕ) (budget : ℕ) where
-  solve-as : (o : Outcome) → o ≡ outcome (tableChecks d left right) → given o (solved′.Of (answerOf (d .n) (always (rowsOf d left right)) budget)) solved′.Refused ≡ solved d left right budget
+module _ (d : Dimensions) (tables : Tables) (budget : ℕ) where
+  solve-as : (o : Outcome) → o ≡ outcome (tableChecks d tables) → given o (solved′.Of (answerOf (d .n) (always (rowsOf d tables)) budget)) solved′.Refused ≡ solved d tables budget
   unfolding solved
-  solve-as o e = ap (λ (x : Outcome). given x (solved′.Of (answerOf (d .n) (always (rowsOf d left right)) budget)) solved′.Refused) e
+  solve-as o e = ap (λ (x : Outcome). given x (solved′.Of (answerOf (d .n) (always (rowsOf d tables)) budget)) solved′.Refused) e
 
-  pub solve-taken : Taken ≡ outcome (tableChecks d left right) → (a : Answer) → a ≡ answerOf (d .n) (always (rowsOf d left right)) budget → solved′.Of a ≡ solved d left right budget
+  pub solve-taken : Taken ≡ outcome (tableChecks d tables) → (a : Answer) → a ≡ answerOf (d .n) (always (rowsOf d tables)) budget → solved′.Of a ≡ solved d tables budget
   solve-taken e a q = ap solved′.Of q ∙ solve-as Taken e
 
-  pub solve-refused : (r : Refusal) → Refused r ≡ outcome (tableChecks d left right) → solved′.Refused r ≡ solved d left right budget
+  pub solve-refused : (r : Refusal) → Refused r ≡ outcome (tableChecks d tables) → solved′.Refused r ≡ solved d tables budget
   solve-refused r e = solve-as (Refused r) e

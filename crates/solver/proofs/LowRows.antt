@@ -13,6 +13,7 @@ use Rattle.refusals.specs.declared.Outcome.the-variants.{Taken}
 use Rattle.words.proofs.Truth.{and-l, and-r, and-i}
 use Rattle.dimensions.specs.declared.Dimensions.{Dimensions}
 use Rattle.tables.specs.declared.Row.{Row}
+use Rattle.tables.specs.Tables.{Tables}
 use Rattle.tables.specs.Rows.{rowsFrom, rowsOf}
 use Rattle.tables.specs.Acceptance.{tableChecks}
 use Rattle.tables.proofs.Accepted.{accepted}
@@ -38,9 +39,9 @@ low-rows n words i (suc k) h =
     (and-i (lt-ltb _ (2 ^ n) (h (2 * i) (omega arith))) (lt-ltb _ (2 ^ n) (h (2 * i + 1) (omega arith))))
     (low-rows n words (suc i) k (λ j b. h j (omega arith)))
 
-pub accepted-low : (d : Dimensions) (left right : List ℕ) → outcome (tableChecks d left right) ≡ Taken → allRows (lowRow (d .n)) (rowsOf d left right) ≡ true
-accepted-low d left right e =
-    let a = accepted d left right e in
-    all-rows-append (lowRow (d .n)) (rowsFrom left 0 (d .left)) (rowsFrom right 0 (d .right))
-    (low-rows (d .n) left 0 (d .left) (λ j b. a .left-words j (omega arith)))
-    (low-rows (d .n) right 0 (d .right) (λ j b. a .right-words j (omega arith)))
+pub accepted-low : (d : Dimensions) (tables : Tables) → outcome (tableChecks d tables) ≡ Taken → allRows (lowRow (d .n)) (rowsOf d tables) ≡ true
+accepted-low d tables e =
+    let a = accepted d tables e in
+    all-rows-append (lowRow (d .n)) (rowsFrom (tables .left) 0 (d .left)) (rowsFrom (tables .right) 0 (d .right))
+    (low-rows (d .n) (tables .left) 0 (d .left) (λ j b. a .left-words j (omega arith)))
+    (low-rows (d .n) (tables .right) 0 (d .right) (λ j b. a .right-words j (omega arith)))

@@ -6,6 +6,7 @@ use Rattle.refusals.specs.declared.Outcome.the-variants.{Taken}
 use Rattle.refusals.specs.declared.Outcome.the-variants as outcomes
 use Rattle.dimensions.specs.declared.Dimensions.{Dimensions}
 use Rattle.tables.specs.declared.Row.{Row}
+use Rattle.tables.specs.Tables.{Tables}
 use Rattle.tables.specs.Rows.{rowsOf}
 use Rattle.tables.specs.Acceptance.{tableChecks}
 use Rattle.solver.specs.declared.Answer.{Answer}
@@ -47,14 +48,14 @@ answerOf n rows budget =
 -- ---- the entries
 
 -- the step's entry: 1, 2, 4, 3, 12, 13, and then the run is as it was
-unfoldable pub stepped : Dimensions → List ℕ → List ℕ → Run → Stepped
+unfoldable pub stepped : Dimensions → Tables → Run → Stepped
 unfolding step runOf wellFormed
-stepped d left right run =
-    given (outcome (tableChecks d left right ++ stateChecks d run))
-    (record { outcome = Taken; run = runOf (d .n) (step (d .n) (rowsOf d left right) (stateOf run)) })
+stepped d tables run =
+    given (outcome (tableChecks d tables ++ stateChecks d run))
+    (record { outcome = Taken; run = runOf (d .n) (step (d .n) (rowsOf d tables) (stateOf run)) })
     (λ r. record { outcome = outcomes.Refused r; run = run })
 
 -- the budgeted run's entry: 1, 2, 4, 3
-unfoldable pub solved : Dimensions → List ℕ → List ℕ → ℕ → Solved
+unfoldable pub solved : Dimensions → Tables → ℕ → Solved
 unfolding answerOf
-solved d left right budget = given (outcome (tableChecks d left right)) (solved′.Of (answerOf (d .n) (always (rowsOf d left right)) budget)) solved′.Refused
+solved d tables budget = given (outcome (tableChecks d tables)) (solved′.Of (answerOf (d .n) (always (rowsOf d tables)) budget)) solved′.Refused

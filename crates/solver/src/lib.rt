@@ -10,6 +10,7 @@ ghost use mathlib.Core.Path.{_≡_};
 ghost use mathlib.Core.List.{_++_};
 ghost use Rattle.refusals.specs.Checks.{outcome};
 ghost use Rattle.refusals.specs.declared.Outcome.the-variants.{Taken};
+ghost use Rattle.tables.specs.Tables.{allTables};
 ghost use Rattle.tables.specs.Acceptance.{tableChecks};
 ghost use Rattle.tables.specs.Rows.{rowsOf};
 ghost use Rattle.state.specs.WellFormed.{stateChecks};
@@ -36,7 +37,7 @@ pub enum Solved {
 
 // Whether the tables are accepted and the run is a well-formed state of their n: 1, 2, 4, 3, 12 or 13 if not.
 fn check_all(d: Dimensions, left: &[u32], right: &[u32], run: Run) -> Outcome
-    ensures { λ r. ⌜ r ≡ outcome (tableChecks d (now (left .entry)) (now (right .entry)) ++ stateChecks d run) ⌝ }
+    ensures { λ r. ⌜ r ≡ outcome (tableChecks d (allTables (now (left .entry)) (now (right .entry))) ++ stateChecks d run) ⌝ }
 {
     let checked = tables::accept(d, left, right);
     match checked {
@@ -47,7 +48,7 @@ fn check_all(d: Dimensions, left: &[u32], right: &[u32], run: Run) -> Outcome
 
 // The run after one giant step; as it was where the call is turned back.
 pub fn step(d: Dimensions, left: &[u32], right: &[u32], run: Run) -> Stepped
-    ensures { λ r. ⌜ r ≡ stepped d (now (left .entry)) (now (right .entry)) run ⌝ }
+    ensures { λ r. ⌜ r ≡ stepped d (allTables (now (left .entry)) (now (right .entry))) run ⌝ }
 {
     let outcome = check_all(d, left, right, run);
     match outcome {
@@ -61,8 +62,8 @@ pub fn step(d: Dimensions, left: &[u32], right: &[u32], run: Run) -> Stepped
 
 // One giant step of the host's own run, which a refusal leaves as it was.
 pub fn step_in_place(d: Dimensions, left: &[u32], right: &[u32], run: &mut Run) -> Outcome
-    ensures { λ r. ⌜ r ≡ stepped d (now (left .entry)) (now (right .entry)) (now (run .entry)) .outcome ⌝ }
-    ensures { λ _. ⌜ now (run .exit) ≡ stepped d (now (left .entry)) (now (right .entry)) (now (run .entry)) .run ⌝ }
+    ensures { λ r. ⌜ r ≡ stepped d (allTables (now (left .entry)) (now (right .entry))) (now (run .entry)) .outcome ⌝ }
+    ensures { λ _. ⌜ now (run .exit) ≡ stepped d (allTables (now (left .entry)) (now (right .entry))) (now (run .entry)) .run ⌝ }
 {
     let next = step(d, left, right, *run);
     *run = next.run;
@@ -71,8 +72,8 @@ pub fn step_in_place(d: Dimensions, left: &[u32], right: &[u32], run: &mut Run) 
 
 // The answer of a fresh run over accepted tables.
 fn run_to_close(d: Dimensions, left: &[u32], right: &[u32], budget: u64) -> Answer
-    requires { ⌜ outcome (tableChecks d (now left) (now right)) ≡ Taken ⌝ }
-    ensures { λ r. ⌜ r ≡ answerOf (d .n) (always (rowsOf d (now (left .entry)) (now (right .entry)))) budget ⌝ }
+    requires { ⌜ outcome (tableChecks d (allTables (now left) (now right))) ≡ Taken ⌝ }
+    ensures { λ r. ⌜ r ≡ answerOf (d .n) (always (rowsOf d (allTables (now (left .entry)) (now (right .entry))))) budget ⌝ }
 {
     let mut run = Run::fresh(d.n);
     let mut count = 0;
@@ -88,7 +89,7 @@ fn run_to_close(d: Dimensions, left: &[u32], right: &[u32], budget: u64) -> Answ
 
 // The answer of a fresh run that stops when it is closed or the budget is spent; 1, 2, 4 or 3 if the tables are not accepted.
 pub fn solve(d: Dimensions, left: &[u32], right: &[u32], budget: u64) -> Solved
-    ensures { λ r. ⌜ r ≡ solved d (now (left .entry)) (now (right .entry)) budget ⌝ }
+    ensures { λ r. ⌜ r ≡ solved d (allTables (now (left .entry)) (now (right .entry))) budget ⌝ }
 {
     let checked = tables::accept(d, left, right);
     match checked {

@@ -9,6 +9,7 @@ ghost use mathlib.Core.Bool.{true};
 ghost use Prim.Native.Nat.{_<_};
 ghost use Rattle.refusals.specs.Checks.{outcome};
 ghost use Rattle.refusals.specs.declared.Outcome.the-variants.{Taken};
+ghost use Rattle.tables.specs.Tables.{allTables};
 ghost use Rattle.tables.specs.Acceptance.{tableChecks};
 ghost use Rattle.tables.specs.Rows.{rowsOf};
 ghost use Rattle.scan.specs.declared.Rule.the-variants.{AllSatisfied, Conflict, Unit, Choice};
@@ -20,8 +21,8 @@ ghost use Rattle.state.specs.WellFormed.{wellFormed};
 
 // The rule that applies to accepted tables at T and F.
 fn rule(d: Dimensions, left: &[u32], right: &[u32], t: u32, f: u32) -> Rule
-    requires { ⌜ outcome (tableChecks d (now left) (now right)) ≡ Taken ⌝ }
-    ensures { λ r. ⌜ r ≡ Rules.rule (d .n) (rowsOf d (now (left .entry)) (now (right .entry))) t f ⌝ }
+    requires { ⌜ outcome (tableChecks d (allTables (now left) (now right))) ≡ Taken ⌝ }
+    ensures { λ r. ⌜ r ≡ Rules.rule (d .n) (rowsOf d (allTables (now (left .entry)) (now (right .entry)))) t f ⌝ }
 {
     let left_words = 2 * (d.left as usize);
     let right_words = 2 * (d.right as usize);
@@ -128,10 +129,10 @@ fn choose(run: Run, variable: u32) -> Run
 
 // One giant step of a well-formed run over accepted tables of its n.
 pub(crate) fn giant_step(d: Dimensions, left: &[u32], right: &[u32], run: Run) -> Run
-    requires { ⌜ outcome (tableChecks d (now left) (now right)) ≡ Taken ⌝ }
+    requires { ⌜ outcome (tableChecks d (allTables (now left) (now right))) ≡ Taken ⌝ }
     requires { ⌜ wellFormed run ≡ true ⌝ }
     requires { ⌜ run .n ≡ d .n ⌝ }
-    ensures { λ r. ⌜ r ≡ runOf (d .n) (Step.step (d .n) (rowsOf d (now (left .entry)) (now (right .entry))) (stateOf run)) ⌝ }
+    ensures { λ r. ⌜ r ≡ runOf (d .n) (Step.step (d .n) (rowsOf d (allTables (now (left .entry)) (now (right .entry)))) (stateOf run)) ⌝ }
 {
     let standing = run.standing;
     match standing {

@@ -4,6 +4,7 @@ use refusals::Outcome;
 use refusals::Refusal;
 ghost use mathlib.Core.Path.{_≡_};
 ghost use Rattle.refusals.specs.Checks.{outcome};
+ghost use Rattle.tables.specs.Tables.{allTables};
 ghost use Rattle.tables.specs.Rows.{judged};
 ghost use Rattle.tables.specs.Acceptance.{tableChecks, allBelow};
 
@@ -52,7 +53,7 @@ fn all_below(words: &[u32], n: u32) -> bool
 
 // Whether the two tables are accepted: 1, 2, 4 or 3 if not.
 pub fn accept(d: Dimensions, left: &[u32], right: &[u32]) -> Outcome
-    ensures { λ r. ⌜ r ≡ outcome (tableChecks d (now (left .entry)) (now (right .entry))) ⌝ }
+    ensures { λ r. ⌜ r ≡ outcome (tableChecks d (allTables (now (left .entry)) (now (right .entry)))) ⌝ }
 {
     match d.check() {
         Outcome::Taken => {}

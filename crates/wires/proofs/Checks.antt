@@ -17,6 +17,7 @@ use Rattle.refusals.proofs.Outcomes.{outcome-taken, outcome-refused, check-pass
 use Rattle.words.specs.Booleans.{digit}
 use Rattle.dimensions.specs.declared.Dimensions.{Dimensions}
 use Rattle.dimensions.specs.Sizes.{stateWires, inputWires}
+use Rattle.tables.specs.Tables.{Tables}
 use Rattle.tables.specs.Acceptance.{tableChecks}
 use Rattle.tables.proofs.Accepted.{Accepted, accepted}
 use Rattle.state.specs.declared.Run.{Run}
@@ -29,41 +30,41 @@ use Rattle.wires.specs.Packing.{inputBits, packChecks, packed}
 use Rattle.wires.specs.StatePacking.{packable, packedState}
 use Rattle.wires.proofs.Lengths.{input-length}
 
-module _ (d : Dimensions) (left right : List ℕ) (run : Run) (room : ℕ) where
+module _ (d : Dimensions) (tables : Tables) (run : Run) (room : ℕ) where
   abbrev later : List Check
   later = check (ltb room (inputWires d)) Wires ∷ stateChecks d run
 
-  pub refuse-tables : (r : Refusal) → outcome (tableChecks d left right) ≡ Refused r → Refused r ≡ outcome (packChecks d left right run room)
-  refuse-tables r e = sym (outcome-refused (tableChecks d left right) later r e)
+  pub refuse-tables : (r : Refusal) → outcome (tableChecks d tables) ≡ Refused r → Refused r ≡ outcome (packChecks d tables run room)
+  refuse-tables r e = sym (outcome-refused (tableChecks d tables) later r e)
 
-  module _ (e : outcome (tableChecks d left right) ≡ Taken) where
-    rest : outcome (packChecks d left right run room) ≡ outcome later
-    rest = outcome-taken (tableChecks d left right) later e
+  module _ (e : outcome (tableChecks d tables) ≡ Taken) where
+    rest : outcome (packChecks d tables run room) ≡ outcome later
+    rest = outcome-taken (tableChecks d tables) later e
 
-    pub refuse-room : room < inputWires d → Refused Wires ≡ outcome (packChecks d left right run room)
+    pub refuse-room : room < inputWires d → Refused Wires ≡ outcome (packChecks d tables run room)
     refuse-room h = sym (rest ∙ rw (lt-ltb room (inputWires d) h))
 
-    pub state-decides : inputWires d ≤ room → outcome (stateChecks d run) ≡ outcome (packChecks d left right run room)
+    pub state-decides : inputWires d ≤ room → outcome (stateChecks d run) ≡ outcome (packChecks d tables run room)
     state-decides h = sym (rest ∙ rw (le-ltb room (inputWires d) h))
 
 -- ---- what a passed check gives
 
 -- tables, room and run were taken
-pub record Passed (d : Dimensions) (left right : List ℕ) (run : Run) (room : ℕ) : Type 0 where
-  pub tables : Accepted d left right
+pub record Passed (d : Dimensions) (tables : Tables) (run : Run) (room : ℕ) : Type 0 where
+  pub allowed : Accepted d tables
   pub enough : inputWires d ≤ room
   pub formed : wellFormed run ≡ true
   pub same : run .n ≡ d .n
 
-pub passed : (d : Dimensions) (left right : List ℕ) (run : Run) (room : ℕ) → outcome (packChecks d left right run room) ≡ Taken → Passed d left right run room
-passed d left right run room e = go (outcome (tableChecks d left right)) refl
+pub passed : (d : Dimensions) (tables : Tables) (run : Run) (room : ℕ) → outcome (packChecks d tables run room) ≡ Taken → Passed d tables run room
+passed d tables run room e = go (outcome (tableChecks d tables)) refl
   where
-    go : (o : Outcome) → outcome (tableChecks d left right) ≡ o → Passed d left right run room
-    go (Refused r) q = absurd (refused-taken (refuse-tables d left right run room r q ∙ e))
+    go : (o : Outcome) → outcome (tableChecks d tables) ≡ o → Passed d tables run room
+    go (Refused r) q = absurd (refused-taken (refuse-tables d tables run room r q ∙ e))
     go Taken q =
-        let k = sym (rest d left right run room q) ∙ e in
+        let k = sym (rest d tables run room q) ∙ e in
         let s = checks-taken (ltb room (inputWires d)) Wires _ k in record {
-          tables = accepted d left right q;
+          allowed = accepted d tables q;
           enough = ltb-false room (inputWires d) (check-passed (ltb room (inputWires d)) Wires _ k);
           formed = state-formed d run s;
           same = state-same d run s;
@@ -71,21 +72,21 @@ passed d left right run room e = go (outcome (tableChecks d left right)) refl
 
 -- ---- the entries
 
-module _ (d : Dimensions) (left right : List ℕ) (run : Run) (bytes : List ℕ) where
-  pub pack-refused : (r : Refusal) → outcome (packChecks d left right run (length bytes)) ≡ Refused r → bytes ≡ packed d left right run bytes
+module _ (d : Dimensions) (tables : Tables) (run : Run) (bytes : List ℕ) where
+  pub pack-refused : (r : Refusal) → outcome (packChecks d tables run (length bytes)) ≡ Refused r → bytes ≡ packed d tables run bytes
   unfolding packed
   pack-refused r e = rw e
 
-  pub pack-taken : outcome (packChecks d left right run (length bytes)) ≡ Taken → over (bytesOf (inputBits d left right (stateOf run))) bytes ≡ packed d left right run bytes
+  pub pack-taken : outcome (packChecks d tables run (length bytes)) ≡ Taken → over (bytesOf (inputBits d tables (stateOf run))) bytes ≡ packed d tables run bytes
   unfolding packed
   pack-taken e = rw e
 
   -- the front then holds the input values, as many bytes as there are input wires
-  pub packed-front : outcome (packChecks d left right run (length bytes)) ≡ Taken → take (inputWires d) (packed d left right run bytes) ≡ bytesOf (inputBits d left right (stateOf run))
+  pub packed-front : outcome (packChecks d tables run (length bytes)) ≡ Taken → take (inputWires d) (packed d tables run bytes) ≡ bytesOf (inputBits d tables (stateOf run))
   packed-front e =
       ap (take (inputWires d)) (sym (pack-taken e))
-      ∙ take-at (bytesOf (inputBits d left right (stateOf run))) _ (inputWires d)
-      (length-map (inputBits d left right (stateOf run)) digit ∙ input-length d left right (stateOf run))
+      ∙ take-at (bytesOf (inputBits d tables (stateOf run))) _ (inputWires d)
+      (length-map (inputBits d tables (stateOf run)) digit ∙ input-length d tables (stateOf run))
 
 module _ (run : Run) (bytes : List ℕ) where
   pub state-no-room : length bytes < stateWires (run .n) → (false ≡ packable run (length bytes)) × (bytes ≡ packedState run bytes)

@@ -9,6 +9,7 @@ use native.Mathlib.Omega.{arith}
 use lib.ListN.{length, length-append}
 use Rattle.dimensions.specs.declared.Dimensions.{Dimensions}
 use Rattle.tables.specs.declared.Row.{Row}
+use Rattle.tables.specs.Tables.{Tables}
 use Rattle.tables.specs.Rows.{rowsFrom, rowsOf}
 use Rattle.dimensions.specs.Sizes.{rowCount, stateWires, inputWires}
 use Rattle.state.specs.State.{State}
@@ -54,8 +55,8 @@ pub table-length : (words : List ℕ) (i k : ℕ) → length (rowsFrom words i k
 table-length words i zero = refl
 table-length words i (suc k) = ap suc (table-length words (suc i) k)
 
-pub both-length : (d : Dimensions) (left right : List ℕ) → length (rowsOf d left right) ≡ rowCount d
-both-length d left right = length-append (rowsFrom left 0 (d .left)) _ ∙ ap₂ _+_ (table-length left 0 (d .left)) (table-length right 0 (d .right))
+pub both-length : (d : Dimensions) (tables : Tables) → length (rowsOf d tables) ≡ rowCount d
+both-length d tables = length-append (rowsFrom (tables .left) 0 (d .left)) _ ∙ ap₂ _+_ (table-length (tables .left) 0 (d .left)) (table-length (tables .right) 0 (d .right))
 
 pub twice : (n m : ℕ) → (n + n) * m ≡ 2 * n * m
 twice n m = ap (λ (k : ℕ). k * m) (two n)
@@ -64,11 +65,11 @@ twice n m = ap (λ (k : ℕ). k * m) (two n)
     two n = omega arith
 
 -- the input wires
-pub input-length : (d : Dimensions) (left right : List ℕ) (s : State) → length (inputBits d left right s) ≡ inputWires d
+pub input-length : (d : Dimensions) (tables : Tables) (s : State) → length (inputBits d tables s) ≡ inputWires d
 unfolding inputBits
-input-length d left right s =
-    length-append (rowsBits (d .n) (rowsOf d left right)) (stateBits (d .n) s)
-    ∙ ap₂ _+_ (rows-length (d .n) (rowsOf d left right) ∙ ap (λ (k : ℕ). (d .n + d .n) * k) (both-length d left right) ∙ twice (d .n) (rowCount d)) (state-length (d .n) s)
+input-length d tables s =
+    length-append (rowsBits (d .n) (rowsOf d tables)) (stateBits (d .n) s)
+    ∙ ap₂ _+_ (rows-length (d .n) (rowsOf d tables) ∙ ap (λ (k : ℕ). (d .n + d .n) * k) (both-length d tables) ∙ twice (d .n) (rowCount d)) (state-length (d .n) s)
 
 -- left rows, right rows and state, one behind the other
 pub input-parts : (d : Dimensions) → inputWires d ≡ (d .n + d .n) * d .left + (d .n + d .n) * d .right + stateWires (d .n)

@@ -9,6 +9,7 @@ use native.Mathlib.Omega.{arith}
 use lib.ListN.{length}
 use Rattle.dimensions.specs.declared.Dimensions.{Dimensions}
 use Rattle.tables.specs.declared.Row.{Row}
+use Rattle.tables.specs.Tables.{Tables}
 use Rattle.tables.specs.Rows.{rowAt, rowsFrom}
 use Rattle.dimensions.specs.Sizes.{inputWires}
 use Rattle.state.specs.declared.Run.{Run}
@@ -42,20 +43,20 @@ table-joined n words k =
     front j = omega arith
 
 -- left rows, right rows and state, stored one behind the other at the front
-pub inputs-stored : (d : Dimensions) (left right : List ℕ) (run : Run) (b b₁ b₂ b₃ : List ℕ) (p q : ℕ)
-    → b₁ ≡ stored b 0 (rowsBits (d .n) (rowsFrom left 0 (d .left))) → p ≡ 0 + (d .n + d .n) * d .left
-    → b₂ ≡ stored b₁ p (rowsBits (d .n) (rowsFrom right 0 (d .right))) → q ≡ p + (d .n + d .n) * d .right
+pub inputs-stored : (d : Dimensions) (tables : Tables) (run : Run) (b b₁ b₂ b₃ : List ℕ) (p q : ℕ)
+    → b₁ ≡ stored b 0 (rowsBits (d .n) (rowsFrom (tables .left) 0 (d .left))) → p ≡ 0 + (d .n + d .n) * d .left
+    → b₂ ≡ stored b₁ p (rowsBits (d .n) (rowsFrom (tables .right) 0 (d .right))) → q ≡ p + (d .n + d .n) * d .right
     → b₃ ≡ stored b₂ q (stateBits (d .n) (stateOf run)) → inputWires d ≤ length b
-    → b₃ ≡ over (bytesOf (inputBits d left right (stateOf run))) b
+    → b₃ ≡ over (bytesOf (inputBits d tables (stateOf run))) b
 unfolding inputBits
-inputs-stored d left right run b b₁ b₂ b₃ p q e₁ h₁ e₂ h₂ e₃ room =
-    let L = rowsBits (d .n) (rowsFrom left 0 (d .left)) in
-    let R = rowsBits (d .n) (rowsFrom right 0 (d .right)) in
+inputs-stored d tables run b b₁ b₂ b₃ p q e₁ h₁ e₂ h₂ e₃ room =
+    let L = rowsBits (d .n) (rowsFrom (tables .left) 0 (d .left)) in
+    let R = rowsBits (d .n) (rowsFrom (tables .right) 0 (d .right)) in
     let S = stateBits (d .n) (stateOf run) in
-    stored-then b 0 p L (R ++ S) e₁ (h₁ ∙ ap (λ (k : ℕ). 0 + k) (sym (table-wires left (d .left))))
-    (stored-then b₁ p q R S e₂ (h₂ ∙ ap (λ (k : ℕ). p + k) (sym (table-wires right (d .right)))) e₃)
-    ∙ ap (stored b 0) (sym (append-assoc L R S) ∙ ap (λ (l : List Bool). l ++ S) (sym (rows-append (d .n) (rowsFrom left 0 (d .left)) (rowsFrom right 0 (d .right)))))
-    ∙ stored-front b (inputBits d left right (stateOf run)) (omega (arith, input-length d left right (stateOf run)))
+    stored-then b 0 p L (R ++ S) e₁ (h₁ ∙ ap (λ (k : ℕ). 0 + k) (sym (table-wires (tables .left) (d .left))))
+    (stored-then b₁ p q R S e₂ (h₂ ∙ ap (λ (k : ℕ). p + k) (sym (table-wires (tables .right) (d .right)))) e₃)
+    ∙ ap (stored b 0) (sym (append-assoc L R S) ∙ ap (λ (l : List Bool). l ++ S) (sym (rows-append (d .n) (rowsFrom (tables .left) 0 (d .left)) (rowsFrom (tables .right) 0 (d .right)))))
+    ∙ stored-front b (inputBits d tables (stateOf run)) (omega (arith, input-length d tables (stateOf run)))
   where
     table-wires : (words : List ℕ) (k : ℕ) → length (rowsBits (d .n) (rowsFrom words 0 k)) ≡ (d .n + d .n) * k
     table-wires words k = rows-length (d .n) (rowsFrom words 0 k) ∙ ap (λ (m : ℕ). (d .n + d .n) * m) (table-length words 0 k)

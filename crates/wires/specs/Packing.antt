@@ -8,6 +8,7 @@ use Rattle.refusals.specs.Checks.{Check, check, outcome, given}
 use Rattle.refusals.specs.declared.Refusal.the-variants.{Wires}
 use Rattle.dimensions.specs.declared.Dimensions.{Dimensions}
 use Rattle.dimensions.specs.Sizes.{inputWires}
+use Rattle.tables.specs.Tables.{Tables}
 use Rattle.tables.specs.Rows.{rowsOf}
 use Rattle.tables.specs.Acceptance.{tableChecks}
 use Rattle.state.specs.declared.Run.{Run}
@@ -17,14 +18,14 @@ use Rattle.gates.specs.Memory.{bytesOf, over}
 use Rattle.wires.specs.Layout.{rowsBits, stateBits}
 
 -- the input values: left rows, right rows, state
-unfoldable pub inputBits : Dimensions → List ℕ → List ℕ → State → List Bool
-inputBits d left right s = rowsBits (d .n) (rowsOf d left right) ++ stateBits (d .n) s
+unfoldable pub inputBits : Dimensions → Tables → State → List Bool
+inputBits d tables s = rowsBits (d .n) (rowsOf d tables) ++ stateBits (d .n) s
 
 -- 1, 2, 4, 3, then 10 where so many lent bytes are too few, then 12, 13
-abbrev pub packChecks : Dimensions → List ℕ → List ℕ → Run → ℕ → List Check
-packChecks d left right run room = tableChecks d left right ++ (check (ltb room (inputWires d)) Wires ∷ stateChecks d run)
+abbrev pub packChecks : Dimensions → Tables → Run → ℕ → List Check
+packChecks d tables run room = tableChecks d tables ++ (check (ltb room (inputWires d)) Wires ∷ stateChecks d run)
 
 -- the lent bytes afterwards: the input values, then what stood there; refused, as they were
-unfoldable pub packed : Dimensions → List ℕ → List ℕ → Run → List ℕ → List ℕ
-packed d left right run bytes =
-    given (outcome (packChecks d left right run (length bytes))) (over (bytesOf (inputBits d left right (stateOf run))) bytes) (λ r. bytes)
+unfoldable pub packed : Dimensions → Tables → Run → List ℕ → List ℕ
+packed d tables run bytes =
+    given (outcome (packChecks d tables run (length bytes))) (over (bytesOf (inputBits d tables (stateOf run))) bytes) (λ r. bytes)

@@ -8,12 +8,13 @@ use state::Run;
 ghost use mathlib.Core.Path.{_≡_};
 ghost use lib.ListN.{length};
 ghost use Rattle.refusals.specs.Checks.{outcome};
+ghost use Rattle.tables.specs.Tables.{allTables};
 ghost use Rattle.wires.specs.Packing.{packChecks, packed};
 ghost use Rattle.wires.specs.StatePacking.{packable, packedState};
 
 // Whether rows and run can be packed into so many bytes: 1, 2, 4, 3, 10, 12 or 13 if not.
 pub fn check(d: Dimensions, left: &[u32], right: &[u32], run: Run, room: usize) -> Outcome
-    ensures { λ r. ⌜ r ≡ outcome (packChecks d (now (left .entry)) (now (right .entry)) run room) ⌝ }
+    ensures { λ r. ⌜ r ≡ outcome (packChecks d (allTables (now (left .entry)) (now (right .entry))) run room) ⌝ }
 {
     match tables::accept(d, left, right) {
         Outcome::Taken => {}
@@ -27,8 +28,8 @@ pub fn check(d: Dimensions, left: &[u32], right: &[u32], run: Run, room: usize) 
 
 // Packs left rows, right rows and run into the front of the bytes; later bytes stay. Refused, it changes no byte.
 pub fn pack(d: Dimensions, left: &[u32], right: &[u32], run: Run, bytes: &mut [u8]) -> Outcome
-    ensures { λ r. ⌜ r ≡ outcome (packChecks d (now (left .entry)) (now (right .entry)) run (length (now (bytes .entry)))) ⌝ }
-    ensures { λ _. ⌜ now (bytes .exit) ≡ packed d (now (left .entry)) (now (right .entry)) run (now (bytes .entry)) ⌝ }
+    ensures { λ r. ⌜ r ≡ outcome (packChecks d (allTables (now (left .entry)) (now (right .entry))) run (length (now (bytes .entry)))) ⌝ }
+    ensures { λ _. ⌜ now (bytes .exit) ≡ packed d (allTables (now (left .entry)) (now (right .entry))) run (now (bytes .entry)) ⌝ }
 {
     match check(d, left, right, run, bytes.len()) {
         Outcome::Taken => {}

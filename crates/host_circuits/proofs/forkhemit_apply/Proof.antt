@@ -61,14 +61,14 @@ returns c = let s = c .before .before .before .before .before .before .before .b
     let at = c .before .before .before .before .before .before .before .before .before .before .before .before .before .before .before .before in
     let dims = at .before .before .before .before .before .dimensions .ensures in
     let held = at .before .before .before .load .ensures in
-    let e = apply-is (a .n) (a .left-rows) (a .right-rows) _ dims (a .left .now) (a .right .now) (a .run .now) _ held (a .gates .now) (a .bytes .now) (a .wires .now) _ (at .apply .ensures .0) in (
+    let e = apply-is (a .n) (a .left-rows) (a .right-rows) _ dims _ (a .run .now) _ held (a .gates .now) (a .bytes .now) (a .wires .now) _ (at .apply .ensures .0) in (
       c .code .ensures ∙ ap (λ (x : Applied). codeOf (x .outcome)) e,
       (
         c .before .before .before .store-if .ensures ∙ ap (λ (x : Applied). storedIf (x .outcome) (x .run) (a .run .now)) e,
         (
-          bytes-are (a .n) (a .left-rows) (a .right-rows) _ dims (a .left .now) (a .right .now) (a .run .now) _ held (a .gates .now) (a .bytes .now) (a .wires .now) _ (at .apply .ensures .1 .0),
+          bytes-are (a .n) (a .left-rows) (a .right-rows) _ dims _ (a .run .now) _ held (a .gates .now) (a .bytes .now) (a .wires .now) _ (at .apply .ensures .1 .0),
           (
-            wires-are (a .n) (a .left-rows) (a .right-rows) _ dims (a .left .now) (a .right .now) (a .run .now) _ held (a .gates .now) (a .bytes .now) (a .wires .now) _ (at .apply .ensures .1 .1),
+            wires-are (a .n) (a .left-rows) (a .right-rows) _ dims _ (a .run .now) _ held (a .gates .now) (a .bytes .now) (a .wires .now) _ (at .apply .ensures .1 .1),
             c .before .before .before .before .before .before .before .put-if .ensures ∙ ap (λ (k : ℕ). frontIf (at .apply .result .outcome) (k ∷ []) (a .mark .now)) (bool-digit (at .apply .result .mark)) ∙ ap (λ (x : Applied). frontIf (x .outcome) (digit (x .mark) ∷ []) (a .mark .now)) e,
           ),
         ),

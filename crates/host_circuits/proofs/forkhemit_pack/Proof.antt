@@ -3,6 +3,7 @@
 use mathlib.Core.Path.{ap, _∙_}
 use lib.ListN.{length}
 use Rattle.refusals.specs.Numbers.{codeOf}
+use Rattle.tables.specs.Tables.{allTables}
 use Rattle.host_circuits.proofs.HostNumbers.{check-is, packed-is}
 use borrow.Author.Needs.{needs}
 use Rattle.host_circuits.proofs.forkhemit_pack.Statement.{statement}
@@ -29,8 +30,8 @@ returns c = let s = c .before .before .before .before .before .before .before .b
     let dims = c .before .before .before .before .before .before .dimensions .ensures in
     let held = c .before .before .before .before .before .load .ensures in
     let pack = c .before .before .before .pack .ensures in (
-      c .code .ensures ∙ ap codeOf (check-is (a .n) (a .left-rows) (a .right-rows) _ dims (a .left .now) (a .right .now) (a .run .now) _ held (length (a .bytes .now)) _ (pack .0)),
-      packed-is (a .n) (a .left-rows) (a .right-rows) _ dims (a .left .now) (a .right .now) (a .run .now) _ held (a .bytes .now) _ (pack .1),
+      c .code .ensures ∙ ap codeOf (check-is (a .n) (a .left-rows) (a .right-rows) _ dims (allTables (a .left .now) (a .right .now)) (a .run .now) _ held (length (a .bytes .now)) _ (pack .0)),
+      packed-is (a .n) (a .left-rows) (a .right-rows) _ dims _ (a .run .now) _ held (a .bytes .now) _ (pack .1),
     )
 
 pub forkhemit-pack-spec : {M : Type 1} → statement M

@@ -2,6 +2,7 @@
 -- Assumes nothing.
 use mathlib.Core.Path.{ap, _∙_}
 use Rattle.refusals.specs.Numbers.{codeOf}
+use Rattle.tables.specs.Tables.{allTables}
 use Rattle.host_runs.proofs.HostNumbers.{accept-is}
 use borrow.Author.Needs.{needs}
 use Rattle.host_runs.proofs.forkhemit_accept.Statement.{statement}
@@ -19,7 +20,7 @@ code-requires c κs = search needs
 returns : tie.Need-returns
 returns c = let s = c .before .before .before .before .before in
     let a = s .args in
-    c .code .ensures ∙ ap codeOf (accept-is (a .n) (a .left-rows) (a .right-rows) _ (c .before .before .dimensions .ensures) (a .left .now) (a .right .now) _ (c .before .accept .ensures))
+    c .code .ensures ∙ ap codeOf (accept-is (a .n) (a .left-rows) (a .right-rows) _ (c .before .before .dimensions .ensures) (allTables (a .left .now) (a .right .now)) _ (c .before .accept .ensures))
 
 pub forkhemit-accept-spec : {M : Type 1} → statement M
 forkhemit-accept-spec =

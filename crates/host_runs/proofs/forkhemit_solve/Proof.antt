@@ -37,7 +37,7 @@ same-length c = search needs
 returns : tie.Need-returns
 returns c = let s = c .before .before .before .before .before .before .before .before .before .before .before .before .before .before .before in
     let a = s .args in
-    let e = solve-is (a .n) (a .left-rows) (a .right-rows) _ (c .before .before .before .before .before .before .before .before .before .before .before .dimensions .ensures) (a .left .now) (a .right .now) (a .budget) _ (c .before .before .before .before .before .before .before .before .before .before .solve .ensures) in
+    let e = solve-is (a .n) (a .left-rows) (a .right-rows) _ (c .before .before .before .before .before .before .before .before .before .before .before .dimensions .ensures) _ (a .budget) _ (c .before .before .before .before .before .before .before .before .before .before .solve .ensures) in
     let told = c .before .before .before .before .before .before .before .before .given .given .1 in
     (sym (ap solvedCode (sym e ∙ told)), c .before .before .put .ensures ∙ (λ i. front (c .before .before .before .before .before .before .before .before .given .given .0 .0 .count ∷ (c .before .before .before .before .before .before .verdict-number .ensures i ∷ (c .before .before .before .before .before .model-word .ensures i ∷ []))) (a .answer .now)) ∙ ap (λ (g : Solved). front (solvedNumbers g) (a .answer .now)) (sym told ∙ e))
 
@@ -50,7 +50,7 @@ number-requires c κs = search needs
 returns-2 : tie.Need-returns-2
 returns-2 c = let s = c .before .before .before .before .before .before .before .before .before in
     let a = s .args in
-    let e = solve-is (a .n) (a .left-rows) (a .right-rows) _ (c .before .before .before .before .before .dimensions .ensures) (a .left .now) (a .right .now) (a .budget) _ (c .before .before .before .before .solve .ensures) in
+    let e = solve-is (a .n) (a .left-rows) (a .right-rows) _ (c .before .before .before .before .before .dimensions .ensures) _ (a .budget) _ (c .before .before .before .before .solve .ensures) in
     let told = c .before .before .refusal .given .1 in
     (c .number .ensures ∙ sym (ap solvedCode (sym e ∙ told)), ap (λ (g : Solved). front (solvedNumbers g) (a .answer .now)) (sym told ∙ e))
 

@@ -30,7 +30,7 @@ same-length c = search needs
 returns : tie.Need-returns
 returns c = let s = c .before .before .before .before .before .before .before .before .before .before .before .before .before in
     let a = s .args in
-    let e = step-is (a .n) (a .left-rows) (a .right-rows) _ (c .before .before .before .before .before .before .before .before .before .dimensions .ensures) (a .left .now) (a .right .now) (a .run .now) _ (c .before .before .before .before .before .before .before .load .ensures) _ (c .before .before .before .before .before .before .step .ensures) in
+    let e = step-is (a .n) (a .left-rows) (a .right-rows) _ (c .before .before .before .before .before .before .before .before .before .dimensions .ensures) _ (a .run .now) _ (c .before .before .before .before .before .before .before .load .ensures) _ (c .before .before .before .before .before .before .step .ensures) in
     (c .code .ensures ∙ ap (λ (x : Stepped). codeOf (x .outcome)) e, c .before .before .before .store-if .ensures ∙ ap (λ (x : Stepped). storedIf (x .outcome) (x .run) (a .run .now)) e)
 
 pub forkhemit-step-spec : {M : Type 1} → statement M

@@ -11,6 +11,7 @@ use lib.Seq.{length-take-le}
 use Rattle.refusals.specs.Checks.{outcome}
 use Rattle.refusals.specs.declared.Outcome.the-variants.{Taken}
 use Rattle.dimensions.specs.Sizes.{inputWires}
+use Rattle.tables.specs.Tables.{Tables, allTables}
 use Rattle.gates.specs.Memory.{accepted}
 use Rattle.two_pass.specs.Evaluation.{filled}
 use Rattle.wires.specs.Packing.{packChecks}
@@ -20,16 +21,20 @@ use Rattle.repeats.proofs.Judging.{outputs-fit, refused, refuse-packing
 use Rattle.repeats.proofs.apply.Statement.{statement}
 use Rattle.repeats.proofs.apply.Tie as tie
 
+-- the tables at the start
+abbrev tables : tie.Start → Tables
+tables s = allTables (s .args .left .now) (s .args .right .now)
+
 -- packing was taken
 packs : (c : tie.After-enum-told) → let s = c .before .before .before .before .before .before .before .before .before in
-    outcome (packChecks (s .args .d) (s .args .left .now) (s .args .right .now) (s .args .run) (length (s .args .bytes .now))) ≡ Taken
+    outcome (packChecks (s .args .d) (tables s) (s .args .run) (length (s .args .bytes .now))) ≡ Taken
 packs c = sym (c .before .before .check .ensures) ∙ c .enum-told .given .1
 
 allowed : (c : tie.After-enum-told) → let s = c .before .before .before .before .before .before .before .before .before in
-    Passed (s .args .d) (s .args .left .now) (s .args .right .now) (s .args .run) (length (s .args .bytes .now))
+    Passed (s .args .d) (tables s) (s .args .run) (length (s .args .bytes .now))
 allowed c =
     let s = c .before .before .before .before .before .before .before .before .before in
-    passed (s .args .d) (s .args .left .now) (s .args .right .now) (s .args .run) (length (s .args .bytes .now)) (packs c)
+    passed (s .args .d) (tables s) (s .args .run) (length (s .args .bytes .now)) (packs c)
 
 -- and so were the gates
 good : (c : tie.Else1) → let s = c .before .before .before .before .before .before .before .before .before .before .before in
@@ -58,7 +63,7 @@ returns : tie.Need-returns
 returns c =
     let s = c .before .before .before .before .before .before .before .before .before .before .before in
     let e = sym (c .before .before .before .before .check .ensures) ∙ c .before .before .refusal .given .1 in
-    refused (s .args .d) (s .args .left .now) (s .args .right .now) (s .args .gates .now) (s .args .run) (s .args .bytes .now) (s .args .wires .now) _ (refuse-packing (s .args .d) (s .args .left .now) (s .args .right .now) (s .args .gates .now) (s .args .run) (s .args .bytes .now) (s .args .wires .now) _ e) _ (c .turned-back .ensures)
+    refused (s .args .d) (tables s) (s .args .gates .now) (s .args .run) (s .args .bytes .now) (s .args .wires .now) _ (refuse-packing (s .args .d) (tables s) (s .args .gates .now) (s .args .run) (s .args .bytes .now) (s .args .wires .now) _ e) _ (c .turned-back .ensures)
 
 accepted-requires : tie.Need-accepted-requires
 accepted-requires c κs = search needs
@@ -70,7 +75,7 @@ returns-2 : tie.Need-returns-2
 returns-2 c =
     let s = c .before .before .before .before .before .before .before .before .before .before .before .before in
     let a = ap (λ (k : ℕ). accepted k (s .args .gates .now)) (sym (c .before .before .before .before .before .before .input-wires .ensures)) ∙ sym (c .before .before .accepted .ensures) ∙ not-true _ (c .before .if1 .taken) in
-    refused (s .args .d) (s .args .left .now) (s .args .right .now) (s .args .gates .now) (s .args .run) (s .args .bytes .now) (s .args .wires .now) _ (refuse-gates (s .args .d) (s .args .left .now) (s .args .right .now) (s .args .gates .now) (s .args .run) (s .args .bytes .now) (s .args .wires .now) (packs (c .before .before .before)) a) _ (c .turned-back2 .ensures)
+    refused (s .args .d) (tables s) (s .args .gates .now) (s .args .run) (s .args .bytes .now) (s .args .wires .now) _ (refuse-gates (s .args .d) (tables s) (s .args .gates .now) (s .args .run) (s .args .bytes .now) (s .args .wires .now) (packs (c .before .before .before)) a) _ (c .turned-back2 .ensures)
 
 add-end : tie.Need-add-end
 add-end c =
@@ -83,7 +88,7 @@ turned-back-requires-3 c κs = search needs
 returns-3 : tie.Need-returns-3
 returns-3 c =
     let s = c .before .before .before .before .before .before .before .before .before .before .before .before .before in
-    refused (s .args .d) (s .args .left .now) (s .args .right .now) (s .args .gates .now) (s .args .run) (s .args .bytes .now) (s .args .wires .now) _ (refuse-wires (s .args .d) (s .args .left .now) (s .args .right .now) (s .args .gates .now) (s .args .run) (s .args .bytes .now) (s .args .wires .now) (packs (c .before .before .before .before)) (good (c .before .before)) (omega (arith, c .before .if2 .taken, c .before .before .before .before .before .before .before .input-wires .ensures))) _ (c .turned-back3 .ensures)
+    refused (s .args .d) (tables s) (s .args .gates .now) (s .args .run) (s .args .bytes .now) (s .args .wires .now) _ (refuse-wires (s .args .d) (tables s) (s .args .gates .now) (s .args .run) (s .args .bytes .now) (s .args .wires .now) (packs (c .before .before .before .before)) (good (c .before .before)) (omega (arith, c .before .if2 .taken, c .before .before .before .before .before .before .before .input-wires .ensures))) _ (c .turned-back3 .ensures)
 
 pack-requires : tie.Need-pack-requires
 pack-requires c κs = search needs
@@ -111,13 +116,13 @@ add-start : tie.Need-add-start
 add-start c =
     let s = c .before .before .before .before .before .before .before .before .before .before .before .before .before .before .before .before .before .before .before .before .before .before in
     let o = allowed (c .before .before .before .before .before .before .before .before .before .before .before .before .before) in
-    omega (arith, outputs-fit (s .args .d) (s .args .left .now) (s .args .right .now) (o .tables), o .enough, s .good .1 .1 .1 .1 .1 .0 .1, c .state-wires .ensures)
+    omega (arith, outputs-fit (s .args .d) (tables s) (o .allowed), o .enough, s .good .1 .1 .1 .1 .1 .0 .1, c .state-wires .ensures)
 
 sub-start : tie.Need-sub-start
 sub-start c =
     let s = c .before .before .before .before .before .before .before .before .before .before .before .before .before .before .before .before .before .before .before .before .before .before in
     let o = allowed (c .before .before .before .before .before .before .before .before .before .before .before .before .before) in
-    omega (arith, outputs-fit (s .args .d) (s .args .left .now) (s .args .right .now) (o .tables), c .state-wires .ensures, c .before .before .before .before .before .before .before .before .before .before .before .before .before .before .before .before .input-wires .ensures)
+    omega (arith, outputs-fit (s .args .d) (tables s) (o .allowed), c .state-wires .ensures, c .before .before .before .before .before .before .before .before .before .before .before .before .before .before .before .before .input-wires .ensures)
 
 sub-next-run : tie.Need-sub-next-run
 sub-next-run c = search needs
@@ -135,7 +140,7 @@ next-run-requires c κs =
     let v = c .before .before .before .before .before .before .before .before .before .before .before .before .before .before .before .before .before .before in
     let l : length (w .evaluate .last .1 .1 .0) ≡ length (s .args .wires .now) = w .evaluate .kept .1 .1 .0 in
     part-length (s .args .d) (s .args .gates .now) (v .input-wires .result) (c .before .before .state-wires .result) (v .input-wires .ensures) (c .before .before .state-wires .ensures)
-    (outputs-fit (s .args .d) (s .args .left .now) (s .args .right .now) (allowed (c .before .before .before .before .before .before .before .before .before .before .before .before .before .before .before) .tables)) (w .evaluate .last .1 .1 .0) (omega (arith, c .before .before .before .before .before .before .before .before .before .before .before .before .if2 .left))
+    (outputs-fit (s .args .d) (tables s) (allowed (c .before .before .before .before .before .before .before .before .before .before .before .before .before .before .before) .allowed)) (w .evaluate .last .1 .1 .0) (omega (arith, c .before .before .before .before .before .before .before .before .before .before .before .before .if2 .left))
 
 same-length : tie.Need-same-length
 same-length c = search needs
@@ -150,14 +155,14 @@ returns-4 c =
     let p = c .before .before .before .before .before .before .before .before .before .before .before in
     let v = c .before .before .before .before .before .before .before .before .before .before .before .before .before .before .before .before .before .before .before in
     let z = c .before .before .before in
-    let t = take-all (s .args .d) (s .args .left .now) (s .args .right .now) (s .args .gates .now) (s .args .run) (s .args .bytes .now) (s .args .wires .now) (packs (c .before .before .before .before .before .before .before .before .before .before .before .before .before .before .before .before)) (good (c .before .before .before .before .before .before .before .before .before .before .before .before .before .before)) (omega (arith, c .before .before .before .before .before .before .before .before .before .before .before .before .before .if2 .left, v .input-wires .ensures)) in
-    taken (s .args .d) (s .args .left .now) (s .args .right .now) (s .args .gates .now) (s .args .run) (s .args .bytes .now) (s .args .wires .now) t (p .pack .last .1 .1 .1 .1 .0) (w .evaluate .last .1 .1 .0) (p .pack .ensures .1)
+    let t = take-all (s .args .d) (tables s) (s .args .gates .now) (s .args .run) (s .args .bytes .now) (s .args .wires .now) (packs (c .before .before .before .before .before .before .before .before .before .before .before .before .before .before .before .before)) (good (c .before .before .before .before .before .before .before .before .before .before .before .before .before .before)) (omega (arith, c .before .before .before .before .before .before .before .before .before .before .before .before .before .if2 .left, v .input-wires .ensures)) in
+    taken (s .args .d) (tables s) (s .args .gates .now) (s .args .run) (s .args .bytes .now) (s .args .wires .now) t (p .pack .last .1 .1 .1 .1 .0) (w .evaluate .last .1 .1 .0) (p .pack .ensures .1)
     (w .evaluate .ensures .1 ∙ ap (λ (k : ℕ). filled (s .args .gates .now) (take k (p .pack .last .1 .1 .1 .1 .0)) (s .args .wires .now)) (v .input-wires .ensures))
     (c .next-run .result)
     (c .next-run .ensures
     ∙ ap (nextRun (s .args .d .n) (s .args .run))
     (outputs-part (s .args .d) (s .args .gates .now) (v .input-wires .result) (z .state-wires .result) (v .input-wires .ensures) (z .state-wires .ensures)
-    (outputs-fit (s .args .d) (s .args .left .now) (s .args .right .now) (allowed (c .before .before .before .before .before .before .before .before .before .before .before .before .before .before .before .before) .tables)) (w .evaluate .last .1 .1 .0)))
+    (outputs-fit (s .args .d) (tables s) (allowed (c .before .before .before .before .before .before .before .before .before .before .before .before .before .before .before .before) .allowed)) (w .evaluate .last .1 .1 .0)))
 
 pub apply-spec : {M : Type 1} → statement M
 apply-spec =

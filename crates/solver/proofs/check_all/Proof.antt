@@ -2,10 +2,15 @@
 -- Assumes nothing.
 use denote.Ref.{now}
 use mathlib.Core.Path.{sym, _∙_}
+use Rattle.tables.specs.Tables.{Tables, allTables}
 use Rattle.solver.proofs.Entries.{refuse-tables, state-decides}
 use borrow.Author.Needs.{needs}
 use Rattle.solver.proofs.check_all.Statement.{statement}
 use Rattle.solver.proofs.check_all.Tie as tie
+
+-- the tables at the start
+abbrev tables : tie.Start → Tables
+tables s = allTables (now (s .args .left)) (now (s .args .right))
 
 accept-requires : tie.Need-accept-requires
 accept-requires c κs = search needs
@@ -22,12 +27,12 @@ check-state-requires c κs = search needs
 returns : tie.Need-returns
 returns c =
     let start = c .before .before .before .before .before .before in
-    refuse-tables (start .args .d) (now (start .args .left)) (now (start .args .right)) (start .args .run) (c .before .checked .given .0 .0) (sym (c .before .checked .given .1) ∙ c .before .before .before .accept .ensures)
+    refuse-tables (start .args .d) (tables start) (start .args .run) (c .before .checked .given .0 .0) (sym (c .before .checked .given .1) ∙ c .before .before .before .accept .ensures)
 
 returns-2 : tie.Need-returns-2
 returns-2 c =
     let start = c .before .before .before .before .before .before in
-    c .check-state .ensures ∙ state-decides (start .args .d) (now (start .args .left)) (now (start .args .right)) (start .args .run) (sym (c .before .enum-told .given .1) ∙ c .before .before .before .accept .ensures)
+    c .check-state .ensures ∙ state-decides (start .args .d) (tables start) (start .args .run) (sym (c .before .enum-told .given .1) ∙ c .before .before .before .accept .ensures)
 
 pub check-all-spec : {M : Type 1} → statement M
 check-all-spec =

@@ -5,6 +5,7 @@ use mathlib.Core.Path.{sym, _∙_}
 use Prim.Native.Nat.{_-_}
 use native.Mathlib.Omega.{arith}
 use borrow.Author.Needs.{needs}
+use Rattle.tables.specs.Tables.{allTables}
 use Rattle.tables.specs.Rows.{rowsOf}
 use Rattle.tables.proofs.Accepted.{accepted}
 use Rattle.solver.proofs.BudgetedRun.{Running, running-fresh, running-less, running-on, running-end}
@@ -12,7 +13,7 @@ use Rattle.solver.proofs.run_to_close.Statement.{statement}
 use Rattle.solver.proofs.run_to_close.Tie as tie
 
 abbrev Inv-loop : tie.InvT-loop
-Inv-loop d left right budget run₀ count₀ run count = Running (d .n) (rowsOf d left right) budget run count
+Inv-loop d left right budget run₀ count₀ run count = Running (d .n) (rowsOf d (allTables left right)) budget run count
 
 abbrev μ-loop : tie.MeasureT-loop
 μ-loop d left right budget run₀ count₀ run count = budget - count
@@ -23,7 +24,7 @@ fresh-requires c κs = search needs
 loop-holds : tie.Need-loop-holds Inv-loop μ-loop
 loop-holds c =
     let start = c .before .before .before in
-    let a = accepted (start .args .d) (now (start .args .left)) (now (start .args .right)) (start .pre) in
+    let a = accepted (start .args .d) (allTables (now (start .args .left)) (now (start .args .right))) (start .pre) in
     running-fresh _ _ _ (a .n-least) (a .n-most) _ (c .fresh .ensures)
 
 goes-on-requires : tie.Need-goes-on-requires Inv-loop μ-loop

@@ -22,12 +22,12 @@ run-to-close-requires c κs = sym (c .before .before .accept .ensures) ∙ c .en
 returns : tie.Need-returns
 returns c =
     let start = c .before .before .before .before .before .before in
-    solve-refused (start .args .d) (now (start .args .left)) (now (start .args .right)) (start .args .budget) (c .before .checked .given .0 .0) (sym (c .before .checked .given .1) ∙ c .before .before .before .accept .ensures)
+    solve-refused (start .args .d) _ (start .args .budget) (c .before .checked .given .0 .0) (sym (c .before .checked .given .1) ∙ c .before .before .before .accept .ensures)
 
 returns-2 : tie.Need-returns-2
 returns-2 c =
     let start = c .before .before .before .before .before .before in
-    solve-taken (start .args .d) (now (start .args .left)) (now (start .args .right)) (start .args .budget) (sym (c .before .enum-told .given .1) ∙ c .before .before .before .accept .ensures) _ (c .run-to-close .ensures)
+    solve-taken (start .args .d) _ (start .args .budget) (sym (c .before .enum-told .given .1) ∙ c .before .before .before .accept .ensures) _ (c .run-to-close .ensures)
 
 pub solve-spec : {M : Type 1} → statement M
 solve-spec =

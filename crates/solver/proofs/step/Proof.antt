@@ -1,6 +1,7 @@
 -- `step` meets its contract: the outcome of the checks decides.
 -- Assumes nothing.
 use denote.Ref.{now}
+use Rattle.tables.specs.Tables.{allTables}
 use Rattle.solver.proofs.Entries.{passed, step-taken, step-refused}
 use borrow.Author.Needs.{needs}
 use Rattle.solver.proofs.step.Statement.{statement}
@@ -15,7 +16,7 @@ enum-told c = search needs
 giant-step-requires : tie.Need-giant-step-requires
 giant-step-requires c κs =
     let start = c .before .before .before .before .before in
-    let p = passed (start .args .d) (now (start .args .left)) (now (start .args .right)) (start .args .run) _ (c .before .before .check-all .ensures) (c .enum-told .given .1) in (p .tables, (p .formed, p .same))
+    let p = passed (start .args .d) (allTables (now (start .args .left)) (now (start .args .right))) (start .args .run) _ (c .before .before .check-all .ensures) (c .enum-told .given .1) in (p .taken, (p .formed, p .same))
 
 enum-told-2 : tie.Need-enum-told-2
 enum-told-2 c = search needs
@@ -24,13 +25,13 @@ returns : tie.Need-returns
 returns c =
     let start = c .before .before .before .before .before .before in
     let checked = c .before .before .before .check-all in
-    step-taken (start .args .d) (now (start .args .left)) (now (start .args .right)) (start .args .run) (checked .result) (checked .ensures) (c .before .enum-told .given .1) _ (c .giant-step .ensures)
+    step-taken (start .args .d) _ (start .args .run) (checked .result) (checked .ensures) (c .before .enum-told .given .1) _ (c .giant-step .ensures)
 
 returns-2 : tie.Need-returns-2
 returns-2 c =
     let start = c .before .before .before .before .before in
     let checked = c .before .before .check-all in
-    step-refused (start .args .d) (now (start .args .left)) (now (start .args .right)) (start .args .run) (checked .result) (checked .ensures) (c .enum-told2 .given .0 .0) (c .enum-told2 .given .1)
+    step-refused (start .args .d) _ (start .args .run) (checked .result) (checked .ensures) (c .enum-told2 .given .0 .0) (c .enum-told2 .given .1)
 
 pub step-spec : {M : Type 1} → statement M
 step-spec =

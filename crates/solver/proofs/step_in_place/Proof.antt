@@ -48,6 +48,7 @@ use Rattle.refusals.proofs.Outcome.Laws as O′
 use Rattle.dimensions.specs.declared.Dimensions.{Dimensions}
 use Rattle.dimensions.proofs.Dimensions as D
 use Rattle.dimensions.proofs.Dimensions.Laws as D′
+use Rattle.tables.specs.Tables.{allTables}
 use Rattle.solver.specs.Entries.{stepped}
 use Rattle.state.specs.declared.Run.{Run}
 use Rattle.solver.specs.declared.Stepped.{Stepped}
@@ -145,7 +146,7 @@ module _ {M : Type 1} (𝓤 : URA M) (H : Heap 𝓤) (A : Atoms 𝓤) (W : Given
 
   -- what `step` says of its result
   abbrev Says : Stepped → Type 0
-  Says n = n ≡ stepped d (now left) (now right) h
+  Says n = n ≡ stepped d (allTables (now left) (now right)) h
 
   abbrev bound : walkOf 𝓤 H A here.ended stayed (here.clauses 𝓤 H A at-mem run) .Ghost
   bound = (((κ, (κ′, (κ″, tt))), (q, (q′, (q″, tt))), bounds, x, at), tt)

@@ -2,10 +2,15 @@
 -- Assumes nothing.
 use mathlib.Core.Path.{sym, subst, _∙_}
 use Prim.Native.Nat.{ℕ, _≤_, _<_}
+use Rattle.tables.specs.Tables.{Tables, allTables}
 use Rattle.wires.proofs.Checks.{refuse-tables, refuse-room, state-decides}
 use borrow.Author.Needs.{needs}
 use Rattle.wires.proofs.check.Statement.{statement}
 use Rattle.wires.proofs.check.Tie as tie
+
+-- the tables at the start
+abbrev tables : tie.Start → Tables
+tables s = allTables (s .args .left .now) (s .args .right .now)
 
 accept-requires : tie.Need-accept-requires
 accept-requires c κs = search needs
@@ -17,14 +22,14 @@ enum-known-refusal : tie.Need-enum-known-refusal
 enum-known-refusal c = search needs
 
 returns : tie.Need-returns
-returns c = let s = c .before .before .before .before .before .before in refuse-tables (s .args .d) (s .args .left .now) (s .args .right .now) (s .args .run) (s .args .room) _ (sym (c .before .before .before .accept .ensures) ∙ c .before .refusal .given .1)
+returns c = let s = c .before .before .before .before .before .before in refuse-tables (s .args .d) (tables s) (s .args .run) (s .args .room) _ (sym (c .before .before .before .accept .ensures) ∙ c .before .refusal .given .1)
 
 input-wires-requires : tie.Need-input-wires-requires
 input-wires-requires c κs = search needs
 
 returns-2 : tie.Need-returns-2
 returns-2 c = let s = c .before .before .before .before .before .before .before in
-    refuse-room (s .args .d) (s .args .left .now) (s .args .right .now) (s .args .run) (s .args .room) (sym (c .before .before .before .before .accept .ensures) ∙ c .before .before .enum-told .given .1)
+    refuse-room (s .args .d) (tables s) (s .args .run) (s .args .room) (sym (c .before .before .before .before .accept .ensures) ∙ c .before .before .enum-told .given .1)
     (subst (λ (k : ℕ). s .args .room < k) (c .before .input-wires .ensures) (c .if1 .taken))
 
 check-state-requires : tie.Need-check-state-requires
@@ -33,7 +38,7 @@ check-state-requires c κs = search needs
 returns-3 : tie.Need-returns-3
 returns-3 c = let s = c .before .before .before .before .before .before .before .before in
     c .check-state .ensures
-    ∙ state-decides (s .args .d) (s .args .left .now) (s .args .right .now) (s .args .run) (s .args .room) (sym (c .before .before .before .before .before .accept .ensures) ∙ c .before .before .before .enum-told .given .1)
+    ∙ state-decides (s .args .d) (tables s) (s .args .run) (s .args .room) (sym (c .before .before .before .before .before .accept .ensures) ∙ c .before .before .before .enum-told .given .1)
     (subst (λ (k : ℕ). k ≤ s .args .room) (c .before .before .input-wires .ensures) (c .before .if1 .left))
 
 pub check-spec : {M : Type 1} → statement M

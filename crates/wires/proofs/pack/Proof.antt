@@ -3,12 +3,17 @@
 use mathlib.Core.Path.{_≡_, sym, _∙_}
 use native.Mathlib.Omega.{arith}
 use lib.ListN.{length}
+use Rattle.tables.specs.Tables.{Tables, allTables}
 use Rattle.wires.proofs.Lengths.{input-parts}
 use Rattle.wires.proofs.Checks.{passed, pack-refused, pack-taken}
 use Rattle.wires.proofs.Tables.{inputs-stored}
 use borrow.Author.Needs.{needs}
 use Rattle.wires.proofs.pack.Statement.{statement}
 use Rattle.wires.proofs.pack.Tie as tie
+
+-- the tables at the start
+abbrev tables : tie.Start → Tables
+tables s = allTables (s .args .left .now) (s .args .right .now)
 
 check-requires : tie.Need-check-requires
 check-requires c κs = search needs
@@ -22,7 +27,7 @@ enum-known-refusal c = search needs
 returns : tie.Need-returns
 returns c = let s = c .before .before .before .before .before .before .before in
     let e = sym (c .before .before .before .check .ensures) ∙ c .before .refusal .given .1 in
-    (sym e, pack-refused (s .args .d) (s .args .left .now) (s .args .right .now) (s .args .run) (s .args .bytes .now) _ e)
+    (sym e, pack-refused (s .args .d) (tables s) (s .args .run) (s .args .bytes .now) _ e)
 
 cast-n : tie.Need-cast-n
 cast-n c = search needs
@@ -32,8 +37,8 @@ cast-put-rows c = search needs
 
 put-rows-requires : tie.Need-put-rows-requires
 put-rows-requires c κs = let s = c .before .before .before .before .before .before .before .before .before in
-    let o = passed (s .args .d) (s .args .left .now) (s .args .right .now) (s .args .run) (length (s .args .bytes .now)) (sym (c .before .before .before .before .before .check .ensures) ∙ c .before .before .before .enum-told .given .1) in
-    (o .tables .n-most, (o .tables .left-length, omega (arith, o .enough, input-parts (s .args .d))))
+    let o = passed (s .args .d) (tables s) (s .args .run) (length (s .args .bytes .now)) (sym (c .before .before .before .before .before .check .ensures) ∙ c .before .before .before .enum-told .given .1) in
+    (o .allowed .n-most, (o .allowed .left-length, omega (arith, o .enough, input-parts (s .args .d))))
 
 cast-put-rows-2 : tie.Need-cast-put-rows-2
 cast-put-rows-2 c = search needs
@@ -41,18 +46,18 @@ cast-put-rows-2 c = search needs
 put-rows-requires-2 : tie.Need-put-rows-requires-2
 put-rows-requires-2 c κs = let s = c .before .before .before .before .before .before .before .before .before .before .before .before .before .before in
     let p = c .before .before .before .before .put-rows in
-    let o = passed (s .args .d) (s .args .left .now) (s .args .right .now) (s .args .run) (length (s .args .bytes .now)) (sym (c .before .before .before .before .before .before .before .before .before .before .check .ensures) ∙ c .before .before .before .before .before .before .before .before .enum-told .given .1) in
+    let o = passed (s .args .d) (tables s) (s .args .run) (length (s .args .bytes .now)) (sym (c .before .before .before .before .before .before .before .before .before .before .check .ensures) ∙ c .before .before .before .before .before .before .before .before .enum-told .given .1) in
     let l : length (p .last .1 .1 .1 .0) ≡ length (s .args .bytes .now) = p .kept .1 .1 .1 .0 in
-    (o .tables .n-most, (o .tables .right-length, omega (arith, p .ensures .0, o .enough, input-parts (s .args .d))))
+    (o .allowed .n-most, (o .allowed .right-length, omega (arith, p .ensures .0, o .enough, input-parts (s .args .d))))
 
 put-state-requires : tie.Need-put-state-requires
 put-state-requires c κs = let s = c .before .before .before .before .before .before .before .before .before .before .before .before .before .before .before .before .before .before in
     let p = c .before .before .before .before .before .before .before .before .put-rows in
     let q = c .before .before .before .put-rows2 in
-    let o = passed (s .args .d) (s .args .left .now) (s .args .right .now) (s .args .run) (length (s .args .bytes .now)) (sym (c .before .before .before .before .before .before .before .before .before .before .before .before .before .before .check .ensures) ∙ c .before .before .before .before .before .before .before .before .before .before .before .before .enum-told .given .1) in
+    let o = passed (s .args .d) (tables s) (s .args .run) (length (s .args .bytes .now)) (sym (c .before .before .before .before .before .before .before .before .before .before .before .before .before .before .check .ensures) ∙ c .before .before .before .before .before .before .before .before .before .before .before .before .enum-told .given .1) in
     let k : length (p .last .1 .1 .1 .0) ≡ length (s .args .bytes .now) = p .kept .1 .1 .1 .0 in
     let l : length (q .last .1 .1 .1 .0) ≡ length (p .last .1 .1 .1 .0) = q .kept .1 .1 .1 .0 in
-    (o .tables .n-most, omega (arith, p .ensures .0, q .ensures .0, o .enough, input-parts (s .args .d)))
+    (o .allowed .n-most, omega (arith, p .ensures .0, q .ensures .0, o .enough, input-parts (s .args .d)))
 
 same-length : tie.Need-same-length
 same-length c = search needs
@@ -63,8 +68,8 @@ returns-2 c = let s = c .before .before .before .before .before .before .before 
     let q = c .before .before .before .before .before .before .put-rows2 in
     let r = c .before .before .put-state in
     let e = sym (c .before .before .before .before .before .before .before .before .before .before .before .before .before .before .before .before .before .check .ensures) ∙ c .before .before .before .before .before .before .before .before .before .before .before .before .before .before .before .enum-told .given .1 in
-    let o = passed (s .args .d) (s .args .left .now) (s .args .right .now) (s .args .run) (length (s .args .bytes .now)) e in
-    (sym e, inputs-stored (s .args .d) (s .args .left .now) (s .args .right .now) (s .args .run) (s .args .bytes .now) _ _ _ _ _ (p .ensures .1) (p .ensures .0) (q .ensures .1) (q .ensures .0) (r .ensures) (o .enough) ∙ pack-taken (s .args .d) (s .args .left .now) (s .args .right .now) (s .args .run) (s .args .bytes .now) e)
+    let o = passed (s .args .d) (tables s) (s .args .run) (length (s .args .bytes .now)) e in
+    (sym e, inputs-stored (s .args .d) (tables s) (s .args .run) (s .args .bytes .now) _ _ _ _ _ (p .ensures .1) (p .ensures .0) (q .ensures .1) (q .ensures .0) (r .ensures) (o .enough) ∙ pack-taken (s .args .d) (tables s) (s .args .run) (s .args .bytes .now) e)
 
 pub pack-spec : {M : Type 1} → statement M
 pack-spec =

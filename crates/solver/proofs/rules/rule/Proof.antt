@@ -2,11 +2,16 @@
 -- Assumes nothing.
 use mathlib.Core.Path.{sym, _∙_}
 use lib.Seq.{length-take-le}
+use Rattle.tables.specs.Tables.{Tables, allTables}
 use Rattle.tables.proofs.Accepted.{accepted}
 use Rattle.solver.proofs.AcceptedRule.{rule-of-fronts}
 use borrow.Author.Needs.{needs}
 use Rattle.solver.proofs.rules.rule.Statement.{statement}
 use Rattle.solver.proofs.rules.rule.Tie as tie
+
+-- the tables at the start
+abbrev tables : tie.Start → Tables
+tables s = allTables (s .args .left .now) (s .args .right .now)
 
 cast-left-words : tie.Need-cast-left-words
 cast-left-words c = search needs
@@ -23,12 +28,12 @@ mul-right-words c = search needs
 slice-aggregate-find-rule : tie.Need-slice-aggregate-find-rule
 slice-aggregate-find-rule c =
     let s = c .before .before .before .before .before in
-    sym (length-take-le _ _ (accepted (s .args .d) (s .args .left .now) (s .args .right .now) (s .pre) .left-length))
+    sym (length-take-le _ _ (accepted (s .args .d) (tables s) (s .pre) .left-length))
 
 slice-aggregate-find-rule-2 : tie.Need-slice-aggregate-find-rule-2
 slice-aggregate-find-rule-2 c =
     let s = c .before .before .before .before .before .before in
-    sym (length-take-le _ _ (accepted (s .args .d) (s .args .left .now) (s .args .right .now) (s .pre) .right-length))
+    sym (length-take-le _ _ (accepted (s .args .d) (tables s) (s .pre) .right-length))
 
 find-rule-requires : tie.Need-find-rule-requires
 find-rule-requires c κs = search needs
@@ -36,7 +41,7 @@ find-rule-requires c κs = search needs
 returns : tie.Need-returns
 returns c =
     let s = c .before .before .before .before .before .before .before in
-    c .find-rule .ensures ∙ rule-of-fronts (s .args .d) (s .args .left .now) (s .args .right .now) (s .pre) (s .args .t) (s .args .f)
+    c .find-rule .ensures ∙ rule-of-fronts (s .args .d) (tables s) (s .pre) (s .args .t) (s .args .f)
 
 pub rule-spec : {M : Type 1} → statement M
 rule-spec =
