@@ -6,6 +6,7 @@ use mathlib.Core.Option.{Option, none, some}
 use lib.Dec.{eqb, ltb, leb}
 use lib.ListN.{length, take, drop}
 use Rattle.refusals.specs.declared.Refusal.the-variants.{NumberLine}
+use Rattle.refusals.specs.Numbers.{numberOf}
 use Rattle.lexer.specs.Bytes.{run}
 use Rattle.numbers.specs.Numbers.{isDigit, digitsAfter}
 use Rattle.lines.specs.declared.Budget.{Budget}
@@ -42,16 +43,36 @@ abbrev pub onField {ℓ} : {A : Type ℓ} → Field → A → (ℕ → List ℕ 
 onField malformed a f = a
 onField (field v rest) a f = f v rest
 
--- the budget line: digits and LF
-abbrev pub budgetOf : List ℕ → Budget
-budgetOf input =
-    let refused = budget.Refused NumberLine in
-    onField (fieldOf 10 input) refused (λ v rest. cond (short input rest) (budget.Of v) refused)
+-- what the budget line leads to: digits and LF
+abbrev pub onBudget {ℓ} : {A : Type ℓ} → List ℕ → A → (ℕ → A) → A
+onBudget input a f = onField (fieldOf 10 input) a (λ v rest. cond (short input rest) (f v) a)
 
--- the dimension line: n, left and right with single spaces and LF
+-- the budget, or 8
+abbrev pub budgetOf : List ℕ → Budget
+budgetOf input = onBudget input (budget.Refused NumberLine) budget.Of
+
+-- what the budget line's reader returns: 0, or 8 of "Turned back because of the input"
+abbrev pub budgetCode : Budget → ℕ
+budgetCode (budget.Of count) = 0
+budgetCode (budget.Refused r) = numberOf r
+
+-- the budget
+abbrev pub budgetNumbers : Budget → List ℕ
+budgetNumbers (budget.Of count) = count ∷ []
+budgetNumbers (budget.Refused r) = []
+
+-- what the dimension line leads to: n, left and right with single spaces and LF
+abbrev pub onSize {ℓ} : {A : Type ℓ} → List ℕ → A → (ℕ → ℕ → ℕ → A) → A
+onSize input a f =
+    onField (fieldOf 32 input) a (λ n second.
+    onField (fieldOf 32 second) a (λ left third.
+    onField (fieldOf 10 third) a (λ right rest. cond (short input rest) (f n left right) a)))
+
+-- the three numbers, or 8
 abbrev pub sizeOf : List ℕ → Size
-sizeOf input =
-    let refused = size.Refused NumberLine in
-    onField (fieldOf 32 input) refused (λ n second.
-    onField (fieldOf 32 second) refused (λ left third.
-    onField (fieldOf 10 third) refused (λ right rest. cond (short input rest) (size.Of n left right) refused)))
+sizeOf input = onSize input (size.Refused NumberLine) size.Of
+
+-- what reading the dimension line says: 0 and its numbers, or 8
+abbrev pub sizeSaid : Size → List ℕ
+sizeSaid (size.Of n left right) = 0 ∷ (n ∷ (left ∷ (right ∷ [])))
+sizeSaid (size.Refused r) = numberOf r ∷ []

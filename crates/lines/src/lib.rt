@@ -2,10 +2,11 @@
 use refusals::Refusal;
 ghost use mathlib.Core.Path.{_≡_};
 ghost use mathlib.Core.Bool.{_&&_, cond};
+ghost use mathlib.Core.List.{[], _∷_};
 ghost use Prim.Native.Nat.{_+_, _<_};
 ghost use lib.Dec.{ltb};
 ghost use Rattle.lines.specs.declared.Place.the-variants.{Behind, Malformed};
-ghost use Rattle.lines.specs.Numbers.{budgetOf, sizeOf};
+ghost use Rattle.lines.specs.Numbers.{onBudget, budgetOf, budgetCode, budgetNumbers, onSize, sizeOf, sizeSaid};
 ghost use Rattle.lines.specs.Places.{placeAt};
 
 // A line's bytes with its LF.
@@ -66,6 +67,7 @@ fn field(line: &[u8], at: usize, closing: u8) -> Place
 // The budget of a line: digits and LF, at most 100 bytes; bytes after the LF are not looked at.
 pub fn read_budget(input: &[u8]) -> Budget
     ensures { λ r. ⌜ r ≡ budgetOf (now (input .entry)) ⌝ }
+    ensures { λ r. ⌜ budgetCode r ∷ budgetNumbers r ≡ onBudget (now (input .entry)) (8 ∷ []) (λ v. 0 ∷ (v ∷ [])) ⌝ }
 {
     let Place::Behind(value, end) = field(input, 0, b'\n') else {
         return Budget::Refused(Refusal::NumberLine);
@@ -79,6 +81,7 @@ pub fn read_budget(input: &[u8]) -> Budget
 // The three numbers of a dimension line: single spaces and LF, at most 100 bytes; bytes after the LF are not looked at.
 pub fn read_size(input: &[u8]) -> Size
     ensures { λ r. ⌜ r ≡ sizeOf (now (input .entry)) ⌝ }
+    ensures { λ r. ⌜ sizeSaid r ≡ onSize (now (input .entry)) (8 ∷ []) (λ n left right. 0 ∷ (n ∷ (left ∷ (right ∷ [])))) ⌝ }
 {
     let Place::Behind(n, second) = field(input, 0, b' ') else {
         return Size::Refused(Refusal::NumberLine);

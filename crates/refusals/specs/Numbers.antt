@@ -1,5 +1,6 @@
 -- Document 01's numbers: what a refusal is called outside, "Turned back because of the input" and "because of the state".
 use Prim.Native.Nat.{ℕ}
+use mathlib.Core.List.{List, [], _∷_}
 use Rattle.refusals.specs.declared.Refusal.{Refusal}
 use Rattle.refusals.specs.declared.Refusal.the-variants.{Variables, RowCount, RowBit, RowBuffer, Text, TextsDiffer, GateBuffer, NumberLine, Gates, Wires, LineBuffer, State, OtherVariables, NoModel}
 use Rattle.refusals.specs.declared.Outcome.{Outcome}
@@ -26,3 +27,8 @@ numberOf NoModel = 14
 abbrev pub codeOf : Outcome → ℕ
 codeOf Taken = 0
 codeOf (Refused r) = numberOf r
+
+-- what an answer says, its number and then its values: 0 and the values where the call was taken, else the refusal's number alone
+abbrev pub said : Outcome → List ℕ → List ℕ
+said Taken values = 0 ∷ values
+said (Refused r) values = numberOf r ∷ []

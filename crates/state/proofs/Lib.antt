@@ -2,3 +2,4 @@ pub mod WellFormedLaws
 pub mod HeldRun
 pub mod StateTests
 pub mod Checks
+pub mod Examples

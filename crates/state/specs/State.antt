@@ -3,6 +3,7 @@ use Prim.Native.Nat.{ℕ, zero, suc, _-_}
 use mathlib.Core.Bool.{Bool, true, false}
 use mathlib.Core.List.{List, [], _∷_, _++_, reverse}
 use lib.ListN.{length, getD, replicate}
+use Rattle.dimensions.specs.Sizes.{mostVariables}
 use Rattle.state.specs.declared.Level.{Level}
 use Rattle.state.specs.declared.Run.{Run}
 use Rattle.state.specs.declared.Standing.{Standing}
@@ -24,6 +25,12 @@ abbrev pub isSatisfied : Standing → Bool
 isSatisfied Open = false
 isSatisfied Satisfied = true
 isSatisfied Refuted = false
+
+-- the number of a standing, for hosts: "The run holds its standing, one of open, satisfied or refuted", in this order
+abbrev pub standingNumber : Standing → ℕ
+standingNumber Open = 0
+standingNumber Satisfied = 1
+standingNumber Refuted = 2
 
 -- one thing of an open standing, another of a closed one
 abbrev pub ifOpen {ℓ} : {A : Type ℓ} → Standing → A → A → A
@@ -52,5 +59,5 @@ runOf n s = record {
   t = s .t;
   f = s .f;
   depth = length (s .levels);
-  levels = reverse (s .levels) ++ replicate (32 - length (s .levels)) none;
+  levels = reverse (s .levels) ++ replicate (mostVariables - length (s .levels)) none;
 }

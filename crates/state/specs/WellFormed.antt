@@ -9,7 +9,7 @@ use Rattle.refusals.specs.declared.Refusal.the-variants.{OtherVariables}
 use Rattle.refusals.specs.declared.Refusal.the-variants as refusal
 use Rattle.words.specs.Booleans.{imp}
 use Rattle.words.specs.Sets.{bit, all}
-use Rattle.dimensions.specs.Sizes.{outside}
+use Rattle.dimensions.specs.Sizes.{mostVariables, outside}
 use Rattle.tables.specs.Rows.{free}
 use Rattle.dimensions.specs.declared.Dimensions.{Dimensions}
 use Rattle.state.specs.declared.Level.{Level}
@@ -54,7 +54,7 @@ unused (l ∷ ls) = eqb (l .t) 0 && eqb (l .f) 0 && eqb (l .chosen) 0 && unused 
 -- a run is judged by its own n
 unfoldable pub wellFormed : Run → Bool
 unfolding wellFormedState unused
-wellFormed run = not (outside 32 (run .n)) && wellFormedState (run .n) (stateOf run) && unused (drop (run .depth) (run .levels))
+wellFormed run = not (outside mostVariables (run .n)) && wellFormedState (run .n) (stateOf run) && unused (drop (run .depth) (run .levels))
 
 -- refusals 12 and 13
 abbrev pub stateChecks : Dimensions → Run → List Check

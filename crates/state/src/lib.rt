@@ -133,7 +133,7 @@ pub fn well_formed(run: Run) -> bool
     if n < 1 {
         return false;
     }
-    if 32 < n {
+    if Dimensions::VARIABLES < n as u64 {
         return false;
     }
     if !sets(n, run.t, run.f) {

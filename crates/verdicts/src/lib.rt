@@ -3,10 +3,13 @@ use refusals::Refusal;
 use state::Run;
 use state::Standing;
 ghost use mathlib.Core.Path.{_≡_};
-ghost use mathlib.Core.Bool.{false};
+ghost use mathlib.Core.Bool.{false, cond};
+ghost use mathlib.Core.List.{[], _∷_};
 ghost use lib.Dec.{ltb};
-ghost use Rattle.state.specs.State.{ifOpen};
-ghost use Rattle.verdicts.specs.Verdicts.{verdictOf, modelOf};
+ghost use Rattle.refusals.specs.Checks.{outcome};
+ghost use Rattle.refusals.specs.Numbers.{said};
+ghost use Rattle.state.specs.State.{isSatisfied, ifOpen, standingNumber};
+ghost use Rattle.verdicts.specs.Verdicts.{verdictOf, verdictNumber, modelWord, modelChecks, modelOf, modelCode, modelNumbers};
 
 // Satisfiable has its model: the set of the variables that are true.
 pub enum Verdict {
@@ -36,6 +39,7 @@ pub fn goes_on(run: Run, count: u64, budget: u64) -> bool
 // The verdict of a run that goes no further.
 pub fn verdict_of(run: Run) -> Verdict
     ensures { λ r. ⌜ r ≡ verdictOf (run .standing) (run .t) ⌝ }
+    ensures { λ r. ⌜ verdictNumber r ∷ (modelWord r ∷ []) ≡ standingNumber (run .standing) ∷ (cond (isSatisfied (run .standing)) (run .t) 0 ∷ []) ⌝ }
 {
     let standing = run.standing;
     match standing {
@@ -48,6 +52,7 @@ pub fn verdict_of(run: Run) -> Verdict
 // The model of a satisfied run; 12 or 14 if there is none.
 pub fn model(run: Run) -> Modelled
     ensures { λ r. ⌜ r ≡ modelOf run ⌝ }
+    ensures { λ r. ⌜ modelCode r ∷ modelNumbers r ≡ said (outcome (modelChecks run)) (run .t ∷ []) ⌝ }
 {
     if !state::well_formed(run) {
         return Modelled::Refused(Refusal::State);

@@ -8,6 +8,7 @@ use Rattle.refusals.specs.declared.Refusal.the-variants.{NumberLine}
 use Rattle.lines.specs.declared.Budget.the-variants.{Of, Refused}
 use Rattle.lines.specs.Numbers.{budgetOf}
 use Rattle.lines.proofs.Readings.{no-budget, one-budget}
+use Rattle.lines.proofs.Said.{budget-said}
 use borrow.Author.Needs.{needs}
 use Rattle.lines.proofs.read_budget.Statement.{statement}
 use Rattle.lines.proofs.read_budget.Tie as tie
@@ -25,13 +26,13 @@ budget : (c : tie.After-value) → budgetOf (c .before .before .before .before .
 budget c = one-budget _ _ _ (sym (c .before .before .field .ensures) ∙ c .value .given .1)
 
 returns : tie.Need-returns
-returns c = sym (no-budget _ (sym (c .before .before .field .ensures) ∙ c .enum-told .given .1))
+returns c = budget-said _ _ (sym (no-budget _ (sym (c .before .before .field .ensures) ∙ c .enum-told .given .1)))
 
 returns-2 : tie.Need-returns-2
-returns-2 c = sym (budget (c .before .before) ∙ rw (le-leb _ _ (c .if1 .taken)))
+returns-2 c = budget-said _ _ (sym (budget (c .before .before) ∙ rw (le-leb _ _ (c .if1 .taken))))
 
 returns-3 : tie.Need-returns-3
-returns-3 c = sym (budget (c .before .before) ∙ rw (lt-leb _ _ (c .if1 .left)))
+returns-3 c = budget-said _ _ (sym (budget (c .before .before) ∙ rw (lt-leb _ _ (c .if1 .left))))
 
 pub read-budget-spec : {M : Type 1} → statement M
 read-budget-spec =

@@ -12,6 +12,7 @@ use Rattle.lines.specs.declared.Size.the-variants.{Of, Refused}
 use Rattle.lines.specs.Numbers.{fieldOf, sizeOf}
 use Rattle.lines.specs.Places.{secondFrom, thirdFrom}
 use Rattle.lines.proofs.Readings.{lost, no-first, one-first, one-second, one-third}
+use Rattle.lines.proofs.Said.{size-said}
 use borrow.Author.Needs.{needs}
 use Rattle.lines.proofs.read_size.Statement.{statement}
 use Rattle.lines.proofs.read_size.Tie as tie
@@ -56,7 +57,7 @@ enum-told : tie.Need-enum-told
 enum-told c = search needs
 
 returns : tie.Need-returns
-returns c = sym (no-first _ (sym (c .before .before .field .ensures) ∙ c .enum-told .given .1))
+returns c = size-said _ _ (sym (no-first _ (sym (c .before .before .field .ensures) ∙ c .enum-told .given .1)))
 
 field-requires-2 : tie.Need-field-requires-2
 field-requires-2 c κs = search needs
@@ -70,7 +71,7 @@ enum-told-2 c = search needs
 returns-2 : tie.Need-returns-2
 returns-2 c =
     let first = c .before .before .before .before in
-    sym (after-first first ∙ ap (secondFrom (lineOf first) (first .n .given .0 .0)) (lost (lineOf first) (first .n .given .0 .1 .0) 32 (sym (c .before .before .field2 .ensures) ∙ c .enum-told2 .given .1)))
+    size-said _ _ (sym (after-first first ∙ ap (secondFrom (lineOf first) (first .n .given .0 .0)) (lost (lineOf first) (first .n .given .0 .1 .0) 32 (sym (c .before .before .field2 .ensures) ∙ c .enum-told2 .given .1))))
 
 field-requires-3 : tie.Need-field-requires-3
 field-requires-3 c κs = search needs
@@ -85,13 +86,13 @@ returns-3 : tie.Need-returns-3
 returns-3 c =
     let second = c .before .before .before .before in
     let first = firstOf second in
-    sym (after-second second ∙ ap (thirdFrom (lineOf first) (first .n .given .0 .0) (second .left .given .0 .0)) (lost (lineOf first) (second .left .given .0 .1 .0) 10 (sym (c .before .before .field3 .ensures) ∙ c .enum-told3 .given .1)))
+    size-said _ _ (sym (after-second second ∙ ap (thirdFrom (lineOf first) (first .n .given .0 .0) (second .left .given .0 .0)) (lost (lineOf first) (second .left .given .0 .1 .0) 10 (sym (c .before .before .field3 .ensures) ∙ c .enum-told3 .given .1))))
 
 returns-4 : tie.Need-returns-4
-returns-4 c = sym (after-third (c .before .before) ∙ rw (le-leb _ _ (c .if1 .taken)))
+returns-4 c = size-said _ _ (sym (after-third (c .before .before) ∙ rw (le-leb _ _ (c .if1 .taken))))
 
 returns-5 : tie.Need-returns-5
-returns-5 c = sym (after-third (c .before .before) ∙ rw (lt-leb _ _ (c .if1 .left)))
+returns-5 c = size-said _ _ (sym (after-third (c .before .before) ∙ rw (lt-leb _ _ (c .if1 .left))))
 
 pub read-size-spec : {M : Type 1} → statement M
 read-size-spec =

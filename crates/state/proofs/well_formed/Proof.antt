@@ -13,6 +13,9 @@ cast-n c = search needs
 returns : tie.Need-returns
 returns c = too-few _ (c .if1 .taken)
 
+cast-if2 : tie.Need-cast-if2
+cast-if2 c = search needs
+
 returns-2 : tie.Need-returns-2
 returns-2 c = too-many _ (c .before .if1 .left) (c .if2 .taken)
 
@@ -55,6 +58,7 @@ well-formed-spec =
     (tie.spec
     cast-n
     returns
+    cast-if2
     returns-2
     sets-requires
     returns-3

@@ -1,0 +1,90 @@
+-- Tables refused, in document 01's order, and rows that T and F make true or not, computed.
+-- Assumes nothing.
+use mathlib.Core.Path.{_≡_, refl}
+use mathlib.Core.Bool.{Bool, true, false}
+use mathlib.Core.List.{List, [], _∷_}
+use Prim.Native.Nat.{ℕ}
+use Rattle.refusals.specs.Checks.{outcome}
+use Rattle.refusals.specs.Numbers.{codeOf}
+use Rattle.words.specs.Sets.{bit, any, count}
+use Rattle.tables.specs.declared.Row.{Row}
+use Rattle.tables.specs.Tables.{allTables}
+use Rattle.tables.specs.Rows.{rowsOf, padding, satisfied, freeLiterals}
+use Rattle.tables.specs.Acceptance.{allBelow, tableChecks}
+
+-- ---- acceptance: n, row counts, words
+
+code : ℕ → ℕ → ℕ → List ℕ → List ℕ → ℕ
+unfolding allBelow
+code n l r left right = codeOf (outcome (tableChecks (record { n = n; left = l; right = r }) (allTables left right)))
+
+accepted : code 2 1 1 (3 ∷ 0 ∷ []) (0 ∷ 3 ∷ []) ≡ 0
+unfolding code
+accepted = refl
+
+-- words past 2 × rows are not looked at
+past-the-rows : code 2 1 1 (3 ∷ 0 ∷ 4 ∷ []) (0 ∷ 3 ∷ 4 ∷ []) ≡ 0
+unfolding code
+past-the-rows = refl
+
+left-bit : code 2 1 1 (4 ∷ 0 ∷ []) (0 ∷ 3 ∷ []) ≡ 3
+unfolding code
+left-bit = refl
+
+right-bit : code 2 1 1 (3 ∷ 0 ∷ []) (0 ∷ 4 ∷ []) ≡ 3
+unfolding code
+right-bit = refl
+
+-- the right buffer's 4 before the left one's 3
+buffer-before-bit : code 2 1 1 (4 ∷ 0 ∷ []) (0 ∷ []) ≡ 4
+unfolding code
+buffer-before-bit = refl
+
+-- the right count's 2 before the left buffer's 4
+count-before-buffer : code 2 1 129 [] [] ≡ 2
+unfolding code
+count-before-buffer = refl
+
+no-row : code 2 0 1 [] (0 ∷ 3 ∷ []) ≡ 2
+unfolding code
+no-row = refl
+
+variables-before-count : code 33 0 0 [] [] ≡ 1
+unfolding code
+variables-before-count = refl
+
+-- ---- rows
+
+-- positive, then negative word
+abbrev row : ℕ → ℕ → Row
+row positive negative = record { positive = positive; negative = negative }
+
+-- the left station's first
+left-before-right : rowsOf (record { n = 2; left = 2; right = 1 }) (allTables (1 ∷ 0 ∷ 2 ∷ 0 ∷ []) (0 ∷ 3 ∷ [])) ≡ row 1 0 ∷ row 2 0 ∷ row 0 3 ∷ []
+left-before-right = refl
+
+-- (1 -1) is padding, and true whatever T and F are
+padding-satisfied : satisfied 2 (row 1 1) 0 0 ≡ true
+unfolding satisfied bit any
+padding-satisfied = refl
+
+-- () is never true
+empty-unsatisfied : satisfied 2 (row 0 0) 1 2 ≡ false
+unfolding satisfied bit any
+empty-unsatisfied = refl
+
+positive-in-t : satisfied 2 (row 1 2) 1 0 ≡ true
+unfolding satisfied bit any
+positive-in-t = refl
+
+negative-in-f : satisfied 2 (row 1 2) 0 2 ≡ true
+unfolding satisfied bit any
+negative-in-f = refl
+
+both-false : satisfied 2 (row 1 2) 2 1 ≡ false
+unfolding satisfied bit any
+both-false = refl
+
+one-free : freeLiterals 2 (row 1 2) 0 1 ≡ 1
+unfolding freeLiterals bit count
+one-free = refl
