@@ -35,12 +35,12 @@ more-more : (a b : ℕ) (r : Ran) → more a (more b r) ≡ more (a + b) r
 more-more a b r = let e : a + (b + r .steps) ≡ a + b + r .steps = omega arith in ap (λ (x : ℕ). record { steps = x; final = r .final }) e
 
 -- an open run with a budget left
-open-e : (st : Standing) (b : Bool) → ifOpen st b false ≡ true → (st ≡ Open) × (b ≡ true)
+pub open-e : (st : Standing) (b : Bool) → ifOpen st b false ≡ true → (st ≡ Open) × (b ≡ true)
 open-e Open b e = (refl, e)
 open-e Satisfied b e = absurd (true≢false (sym e))
 open-e Refuted b e = absurd (true≢false (sym e))
 
-left-over : (count budget : ℕ) → ltb 0 (budget - count) ≡ ltb count budget
+pub left-over : (count budget : ℕ) → ltb 0 (budget - count) ≡ ltb count budget
 left-over count budget =
     on (ltb count budget)
     (λ e. lt-ltb 0 (budget - count) (omega (arith, ltb-true count budget e)) ∙ sym e)

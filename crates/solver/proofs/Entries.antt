@@ -2,25 +2,27 @@
 -- Assumes nothing.
 use mathlib.Core.Path.{_≡_, refl, sym, ap, ap₂, _∙_}
 use mathlib.Core.Bool.{true, not}
-use mathlib.Core.List.{List, _++_}
+use mathlib.Core.List.{List, _∷_, _++_}
 use Prim.Native.Nat.{ℕ}
 use Rattle.refusals.specs.Checks.{outcome, given}
+use Rattle.refusals.specs.Numbers.{said}
 use Rattle.refusals.specs.declared.Outcome.{Outcome}
 use Rattle.refusals.specs.declared.Outcome.the-variants.{Taken, Refused}
 use Rattle.refusals.specs.declared.Refusal.{Refusal}
 use Rattle.refusals.specs.declared.Refusal.the-variants as refusal
-use Rattle.refusals.proofs.Outcomes.{outcome-taken, outcome-refused, refused-taken}
+use Rattle.refusals.proofs.Outcomes.{outcome-taken, outcome-refused, refused-taken, given-said}
 use Rattle.tables.specs.Tables.{Tables}
 use Rattle.tables.specs.Acceptance.{tableChecks}
 use Rattle.tables.specs.Rows.{rowsOf}
 use Rattle.dimensions.specs.declared.Dimensions.{Dimensions}
 use Rattle.solver.specs.declared.Answer.{Answer}
 use Rattle.state.specs.declared.Run.{Run}
+use Rattle.solver.specs.declared.Solved.{Solved}
 use Rattle.solver.specs.declared.Solved.the-variants as solved′
 use Rattle.solver.specs.declared.Stepped.{Stepped}
 use Rattle.state.specs.State.{stateOf, runOf}
 use Rattle.solver.specs.Step.{always, step}
-use Rattle.solver.specs.Entries.{answerOf, stepped, solved}
+use Rattle.solver.specs.Entries.{answerOf, answerNumbers, stepped, solved, solvedCode, solvedNumbers}
 use Rattle.state.specs.WellFormed.{wellFormed, stateChecks}
 use Rattle.state.proofs.Checks.{state-formed, state-same}
 
@@ -82,3 +84,12 @@ module _ (d : Dimensions) (tables : Tables) (budget : ℕ) where
 
   pub solve-refused : (r : Refusal) → Refused r ≡ outcome (tableChecks d tables) → solved′.Refused r ≡ solved d tables budget
   solve-refused r e = solve-as (Refused r) e
+
+  -- what is given says its number and its values
+  pub with-said : (r : Solved) → r ≡ solved d tables budget
+      → (r ≡ solved d tables budget)
+      × (solvedCode r ∷ solvedNumbers r ≡ said (outcome (tableChecks d tables)) (answerNumbers (answerOf (d .n) (always (rowsOf d tables)) budget)))
+  unfolding solved
+  with-said r e =
+      let says : Solved → List ℕ = λ x. solvedCode x ∷ solvedNumbers x in
+      (e, ap says e ∙ given-said says (outcome (tableChecks d tables)) (solved′.Of (answerOf (d .n) (always (rowsOf d tables)) budget)) solved′.Refused _ refl (λ q. refl))

@@ -11,7 +11,9 @@ pub mod Refutation
 pub mod Growth
 pub mod Bound
 pub mod Demand2
+pub mod Consequences
 pub mod Marked
+pub mod MarkedColumns
 pub mod HeldRules
 pub mod HeldStep
 pub mod BudgetedRun

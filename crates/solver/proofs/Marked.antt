@@ -63,6 +63,10 @@ table =
     ∷ line 1 (pos 1 ∷ []) (pos 1 ∷ []) 0 0 Unknown
     ∷ []
 
-pub ten-marked : map (λ (m : Marked). answerOf (m .n) (always (m .left ++ m .right)) (m .budget)) table ≡ map (λ (m : Marked). m .answer) table
+-- the budgeted run's answer for a line
+abbrev pub asked : Marked → Answer
+asked m = answerOf (m .n) (always (m .left ++ m .right)) (m .budget)
+
+pub ten-marked : map asked table ≡ map (λ (m : Marked). m .answer) table
 unfolding table answerOf freeLiterals padding satisfied bit put any count lowest
 ten-marked = refl

@@ -1,6 +1,7 @@
 -- The budgeted run's answer, and what each entry gives: document 01, "Giant step" and "Turned back".
 use Prim.Native.Nat.{ℕ, zero, suc}
-use mathlib.Core.List.{List, _++_}
+use mathlib.Core.List.{List, [], _∷_, _++_}
+use Rattle.refusals.specs.Numbers.{numberOf}
 use Rattle.refusals.specs.Checks.{outcome, given}
 use Rattle.refusals.specs.declared.Outcome.the-variants.{Taken}
 use Rattle.refusals.specs.declared.Outcome.the-variants as outcomes
@@ -16,7 +17,7 @@ use Rattle.solver.specs.declared.Solved.the-variants as solved′
 use Rattle.state.specs.declared.Standing.the-variants.{Open, Satisfied, Refuted}
 use Rattle.solver.specs.declared.Stepped.{Stepped}
 use Rattle.state.specs.State.{State, fresh, stateOf, runOf}
-use Rattle.verdicts.specs.Verdicts.{verdictOf}
+use Rattle.verdicts.specs.Verdicts.{verdictOf, verdictNumber, modelWord}
 use Rattle.solver.specs.Step.{always, later, step}
 use Rattle.state.specs.WellFormed.{wellFormed, stateChecks}
 
@@ -59,3 +60,17 @@ stepped d tables run =
 unfoldable pub solved : Dimensions → Tables → ℕ → Solved
 unfolding answerOf
 solved d tables budget = given (outcome (tableChecks d tables)) (solved′.Of (answerOf (d .n) (always (rowsOf d tables)) budget)) solved′.Refused
+
+-- what the budgeted run returns: 0, or 1, 2, 3 or 4 of "Turned back because of the input"
+abbrev pub solvedCode : Solved → ℕ
+solvedCode (solved′.Of answer) = 0
+solvedCode (solved′.Refused r) = numberOf r
+
+-- "count, verdict and model"
+abbrev pub answerNumbers : Answer → List ℕ
+answerNumbers answer = answer .count ∷ (verdictNumber (answer .verdict) ∷ (modelWord (answer .verdict) ∷ []))
+
+-- those of the answer
+abbrev pub solvedNumbers : Solved → List ℕ
+solvedNumbers (solved′.Of answer) = answerNumbers answer
+solvedNumbers (solved′.Refused r) = []

@@ -7,15 +7,16 @@ use refusals::Refusal;
 use state::Run;
 use verdicts::Verdict;
 ghost use mathlib.Core.Path.{_≡_};
-ghost use mathlib.Core.List.{_++_};
+ghost use mathlib.Core.List.{_∷_, _++_};
 ghost use Rattle.refusals.specs.Checks.{outcome};
+ghost use Rattle.refusals.specs.Numbers.{said};
 ghost use Rattle.refusals.specs.declared.Outcome.the-variants.{Taken};
 ghost use Rattle.tables.specs.Tables.{allTables};
 ghost use Rattle.tables.specs.Acceptance.{tableChecks};
 ghost use Rattle.tables.specs.Rows.{rowsOf};
 ghost use Rattle.state.specs.WellFormed.{stateChecks};
 ghost use Rattle.solver.specs.Step.{always};
-ghost use Rattle.solver.specs.Entries.{answerOf, stepped, solved};
+ghost use Rattle.solver.specs.Entries.{answerOf, answerNumbers, stepped, solved, solvedCode, solvedNumbers};
 
 // A run after one step, or as it was with the refusal.
 pub struct Stepped {
@@ -70,6 +71,15 @@ pub fn step_in_place(d: Dimensions, left: &[u32], right: &[u32], run: &mut Run) 
     next.outcome
 }
 
+// One giant step of a run that is kept elsewhere, as in a host's words: it is lent to `step_in_place`, and comes back with the outcome.
+pub fn step_lent(d: Dimensions, left: &[u32], right: &[u32], run: Run) -> Stepped
+    ensures { λ r. ⌜ r ≡ stepped d (allTables (now (left .entry)) (now (right .entry))) run ⌝ }
+{
+    let mut next = run;
+    let outcome = step_in_place(d, left, right, &mut next);
+    Stepped { outcome, run: next }
+}
+
 // The answer of a fresh run over accepted tables.
 fn run_to_close(d: Dimensions, left: &[u32], right: &[u32], budget: u64) -> Answer
     requires { ⌜ outcome (tableChecks d (allTables (now left) (now right))) ≡ Taken ⌝ }
@@ -90,6 +100,7 @@ fn run_to_close(d: Dimensions, left: &[u32], right: &[u32], budget: u64) -> Answ
 // The answer of a fresh run that stops when it is closed or the budget is spent; 1, 2, 4 or 3 if the tables are not accepted.
 pub fn solve(d: Dimensions, left: &[u32], right: &[u32], budget: u64) -> Solved
     ensures { λ r. ⌜ r ≡ solved d (allTables (now (left .entry)) (now (right .entry))) budget ⌝ }
+    ensures { λ r. ⌜ solvedCode r ∷ solvedNumbers r ≡ said (outcome (tableChecks d (allTables (now (left .entry)) (now (right .entry))))) (answerNumbers (answerOf (d .n) (always (rowsOf d (allTables (now (left .entry)) (now (right .entry))))) budget)) ⌝ }
 {
     let checked = tables::accept(d, left, right);
     match checked {

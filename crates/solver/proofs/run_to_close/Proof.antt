@@ -46,7 +46,7 @@ verdict-of-requires : tie.Need-verdict-of-requires Inv-loop μ-loop
 verdict-of-requires c κs = search needs
 
 returns : tie.Need-returns Inv-loop μ-loop
-returns c = running-end _ _ _ _ _ (c .before .before .before .loop .inv) (sym (c .before .before .goes-on .ensures) ∙ c .before .if1 .left) _ (c .verdict-of .ensures)
+returns c = running-end _ _ _ _ _ (c .before .before .before .loop .inv) (sym (c .before .before .goes-on .ensures) ∙ c .before .if1 .left) _ (c .verdict-of .ensures .0)
 
 pub run-to-close-spec : {M : Type 1} → statement M
 run-to-close-spec =

@@ -2,7 +2,7 @@
 -- Assumes nothing.
 use denote.Ref.{now}
 use mathlib.Core.Path.{sym, _∙_}
-use Rattle.solver.proofs.Entries.{solve-taken, solve-refused}
+use Rattle.solver.proofs.Entries.{solve-taken, solve-refused, with-said}
 use borrow.Author.Needs.{needs}
 use Rattle.solver.proofs.solve.Statement.{statement}
 use Rattle.solver.proofs.solve.Tie as tie
@@ -22,12 +22,14 @@ run-to-close-requires c κs = sym (c .before .before .accept .ensures) ∙ c .en
 returns : tie.Need-returns
 returns c =
     let start = c .before .before .before .before .before .before in
-    solve-refused (start .args .d) _ (start .args .budget) (c .before .checked .given .0 .0) (sym (c .before .checked .given .1) ∙ c .before .before .before .accept .ensures)
+    with-said (start .args .d) _ (start .args .budget) _
+    (solve-refused (start .args .d) _ (start .args .budget) (c .before .checked .given .0 .0) (sym (c .before .checked .given .1) ∙ c .before .before .before .accept .ensures))
 
 returns-2 : tie.Need-returns-2
 returns-2 c =
     let start = c .before .before .before .before .before .before in
-    solve-taken (start .args .d) _ (start .args .budget) (sym (c .before .enum-told .given .1) ∙ c .before .before .before .accept .ensures) _ (c .run-to-close .ensures)
+    with-said (start .args .d) _ (start .args .budget) _
+    (solve-taken (start .args .d) _ (start .args .budget) (sym (c .before .enum-told .given .1) ∙ c .before .before .before .accept .ensures) _ (c .run-to-close .ensures))
 
 pub solve-spec : {M : Type 1} → statement M
 solve-spec =

@@ -41,7 +41,7 @@ find-rule-requires c κs = search needs
 returns : tie.Need-returns
 returns c =
     let s = c .before .before .before .before .before .before .before in
-    c .find-rule .ensures ∙ rule-of-fronts (s .args .d) (tables s) (s .pre) (s .args .t) (s .args .f)
+    c .find-rule .ensures .0 ∙ rule-of-fronts (s .args .d) (tables s) (s .pre) (s .args .t) (s .args .f)
 
 pub rule-spec : {M : Type 1} → statement M
 rule-spec =
