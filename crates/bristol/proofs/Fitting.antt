@@ -1,6 +1,6 @@
 -- The lines that fit are the longest front of the lines whose bytes have room. By induction on the lines.
 -- Assumes nothing.
-use mathlib.Core.Path.{_≡_, refl, ap, _∙_}
+use mathlib.Core.Path.{_≡_, refl, sym, ap, _∙_, subst}
 use mathlib.Core.Bool.{Bool, true, false, cond}
 use mathlib.Core.List.{List, [], _∷_, flatten}
 use Prim.Native.Nat.{ℕ, zero, suc, _-_, _≤_, _<_}
@@ -8,7 +8,7 @@ use native.Mathlib.Omega.{arith}
 use borrow.Author.Tests.{lt-ltb, le-ltb, ltb-true, ltb-false}
 use lib.Dec.{ltb}
 use lib.ListN.{length, getD, take, drop, length-append, drop-of-length-le}
-use lib.Seq.{drop-cons}
+use lib.Seq.{take-all, take-length, drop-cons}
 use Rattle.bristol.specs.Writing.{fitting}
 
 -- ---- by the next line
@@ -68,3 +68,9 @@ fitting-longest room (l ∷ ls) (suc k) h f = go (ltb room (length l)) refl (fit
         → suc k ≤ length (cond b [] (l ∷ fitting (room - length l) ls))
     go true e rest = absurd (omega (arith, ltb-true room (length l) e, f, length-append l (flatten (take k ls))))
     go false e rest = omega (arith, rest (omega (arith, f, length-append l (flatten (take k ls)))))
+
+-- where all of them have room, they are all
+pub fitting-all : (room : ℕ) (ls : List (List ℕ)) → length (flatten ls) ≤ room → fitting room ls ≡ ls
+fitting-all room ls f =
+    let front = subst (λ (x : List (List ℕ)). length (flatten x) ≤ room) (sym (take-length ls)) f in
+    fitting-front room ls ∙ take-all (length (fitting room ls)) ls (fitting-longest room ls (length ls) (omega arith) front)

@@ -1,6 +1,6 @@
 -- The writer's lines in order are the text: asked from the first line on, each time with room for a line, and each time from where the last request
 -- ended, it leaves in front of the lent bytes what joins to the text, and past the last line nothing. By induction on the requests, once for both
--- entries.
+-- entries. With room for the whole text one request puts it.
 -- Assumes nothing.
 use mathlib.Core.Path.{_≡_, refl, sym, ap, ap₂, _∙_}
 use mathlib.Core.Bool.{Bool, true, false, cond}
@@ -9,7 +9,7 @@ use Prim.Native.Nat.{ℕ, zero, suc, _+_, _/_, _≤_, _<_}
 use native.Mathlib.Omega.{arith}
 use borrow.Author.Tests.{le-ltb, ltb-true, ltb-false}
 use lib.Dec.{ltb}
-use lib.ListN.{length, take, drop, drop-of-length-le}
+use lib.ListN.{length, take, drop, drop-of-length-le, length-append}
 use lib.Seq.{take-append-seam, drop-cons, drop-drop}
 use Rattle.refusals.specs.declared.Refusal.the-variants.{LineBuffer}
 use Rattle.refusals.specs.declared.Outcome.the-variants.{Taken, Refused}
@@ -21,9 +21,9 @@ use Rattle.bristol.specs.declared.Written.the-variants as W
 use Rattle.bristol.specs.declared.WrittenLines.{WrittenLines}
 use Rattle.bristol.specs.declared.WrittenLines.the-variants as lines
 use Rattle.bristol.specs.Text.{linesOf, circuitText}
-use Rattle.bristol.specs.Writing.{circuitChecks, lineAt, written, filled, linesAt, writtenLines, filledLines}
+use Rattle.bristol.specs.Writing.{circuitChecks, lineAt, written, filled, front, requested, linesAt, writtenLines, filledLines}
 use Rattle.bristol.proofs.Numbering.{lines-length}
-use Rattle.bristol.proofs.Fitting.{fitting-past, fitting-next, fitting-front}
+use Rattle.bristol.proofs.Fitting.{fitting-past, fitting-next, fitting-front, fitting-all}
 use Rattle.bristol.proofs.Requests.{taken-lines, past-last, line-put, lines-by-room}
 
 -- ---- requests in a row, whatever each puts
@@ -58,20 +58,10 @@ module _ (ls : List (List ℕ)) (put : ℕ → List ℕ) (count : ℕ → ℕ)
 
 -- ---- a line a request
 
--- what a request put in front of the lent bytes: as many as it says
-abbrev pub front : Written → List ℕ → List ℕ
-front (W.Line k) bytes = take k bytes
-front W.Past bytes = []
-front (W.Refused r) bytes = []
-
--- the fronts of k requests, from a line's number on, each with lent bytes of its own
-abbrev pub requested : Dimensions → List ℕ → (ℕ → List ℕ) → ℕ → ℕ → List ℕ
-requested d ws lent i k = asked (λ j. front (written d ws j (lent j)) (filled d ws j (lent j))) (λ j. 1) i k
-
-module _ (d : Dimensions) (ws : List ℕ) (e : outcome (circuitChecks d ws) ≡ Taken) (lent : ℕ → List ℕ) (room : (i : ℕ) → 127 ≤ length (lent i)) where
-  -- a line has room
+-- the lent bytes have room for the line that is asked
+module _ (d : Dimensions) (ws : List ℕ) (e : outcome (circuitChecks d ws) ≡ Taken) (lent : ℕ → List ℕ) (room : (i : ℕ) → length (lineAt d ws i) ≤ length (lent i)) where
   fits : (i : ℕ) → ltb (length (lent i)) (length (lineAt d ws i)) ≡ false
-  fits i = le-ltb (length (lent i)) (length (lineAt d ws i)) (omega (arith, lines-length d (gatesOf ws) i, room i))
+  fits i = le-ltb (length (lent i)) (length (lineAt d ws i)) (room i)
 
   one-line : (i : ℕ) → front (written d ws i (lent i)) (filled d ws i (lent i)) ≡ flatten (take 1 (drop i (linesOf d (gatesOf ws))))
   unfolding flatten
@@ -89,11 +79,18 @@ module _ (d : Dimensions) (ws : List ℕ) (e : outcome (circuitChecks d ws) ≡ 
           ap (λ (x : Written). front x (filled d ws i (lent i))) (sym (past-last d ws i (lent i) e (ltb-false _ _ q) .0))
           ∙ ap (λ (x : List (List ℕ)). flatten (take 1 x)) (sym (drop-of-length-le (linesOf d (gatesOf ws)) (ltb-false _ _ q)))
 
-  pub requests-join : requested d ws lent 0 (4 + length ws / 3) ≡ circuitText d (gatesOf ws)
+  abbrev put : ℕ → List ℕ
+  put j = front (written d ws j (lent j)) (filled d ws j (lent j))
+
+  -- the next number is one more
+  in-a-row : (i k : ℕ) → requested d ws lent i k ≡ asked put (λ j. 1) i k
+  unfolding requested asked
+  in-a-row i zero = refl
+  in-a-row i (suc k) = ap (λ (x : List ℕ). put i ++ x) (in-a-row (suc i) k ∙ ap (λ (j : ℕ). asked put (λ l. 1) j k) (omega arith))
+
+  pub requests-join : (k : ℕ) → 4 + length ws / 3 ≤ k → requested d ws lent 0 k ≡ circuitText d (gatesOf ws)
   unfolding circuitText
-  requests-join =
-      asked-join (linesOf d (gatesOf ws)) (λ j. front (written d ws j (lent j)) (filled d ws j (lent j))) (λ j. 1) one-line (λ i h. omega arith)
-      0 (4 + length ws / 3) (omega (arith, taken-lines d ws e))
+  requests-join k h = in-a-row 0 k ∙ asked-join (linesOf d (gatesOf ws)) put (λ j. 1) one-line (λ i b. omega arith) 0 k (omega (arith, taken-lines d ws e))
 
   -- and there is no further line
   pub requests-end : (i : ℕ) → 4 + length ws / 3 ≤ i → (written d ws i (lent i) ≡ W.Past) × (filled d ws i (lent i) ≡ lent i)
@@ -147,4 +144,24 @@ module _ (d : Dimensions) (ws : List ℕ) (e : outcome (circuitChecks d ws) ≡ 
       let none : linesAt d ws i (lent i) ≡ [] = fitting-past (linesOf d (gatesOf ws)) i (length (lent i)) (omega (arith, taken-lines d ws e)) in (
         given-lines i .0 ∙ ap (λ (x : List (List ℕ)). lines.Lines (length x) (length (flatten x))) none,
         given-lines i .1 ∙ ap (λ (x : List (List ℕ)). over (flatten x) (lent i)) none,
+      )
+
+-- ---- lent bytes that take the whole text: one request puts it
+
+module _ (d : Dimensions) (ws : List ℕ) (e : outcome (circuitChecks d ws) ≡ Taken) (lent : List ℕ) (room : length (circuitText d (gatesOf ws)) ≤ length lent) where
+  first-fits : length (lineAt d ws 0) ≤ length lent
+  unfolding circuitText linesOf flatten
+  first-fits = omega (arith, room, length-append (lineAt d ws 0) (flatten (drop 1 (linesOf d (gatesOf ws)))))
+
+  all-lines : linesAt d ws 0 lent ≡ linesOf d (gatesOf ws)
+  unfolding circuitText
+  all-lines = fitting-all (length lent) (linesOf d (gatesOf ws)) room
+
+  pub lines-whole : (writtenLines d ws 0 lent ≡ lines.Lines (length (linesOf d (gatesOf ws))) (length (circuitText d (gatesOf ws))))
+      × (filledLines d ws 0 lent ≡ over (circuitText d (gatesOf ws)) lent)
+  unfolding circuitText
+  lines-whole =
+      let p = lines-by-room d ws 0 lent e false (le-ltb (length lent) (length (lineAt d ws 0)) first-fits) in (
+        p .0 ∙ ap (λ (x : List (List ℕ)). lines.Lines (length x) (length (flatten x))) all-lines,
+        p .1 ∙ ap (λ (x : List (List ℕ)). over (flatten x) lent) all-lines,
       )

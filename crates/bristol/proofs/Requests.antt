@@ -17,15 +17,17 @@ use Rattle.refusals.specs.declared.Refusal.the-variants.{Variables, RowCount, G
 use Rattle.refusals.specs.declared.Outcome.{Outcome}
 use Rattle.refusals.specs.declared.Outcome.the-variants.{Taken, Refused}
 use Rattle.refusals.specs.Checks.{check, outcome, given}
-use Rattle.refusals.proofs.Outcomes.{outcome-taken, outcome-refused, check-passed, checks-taken}
+use Rattle.refusals.specs.Numbers.{said}
+use Rattle.refusals.proofs.Outcomes.{outcome-taken, outcome-refused, check-passed, checks-taken, given-said}
 use Rattle.dimensions.specs.declared.Dimensions.{Dimensions}
 use Rattle.dimensions.specs.Sizes.{outside, sizeChecks, inputWires}
 use Rattle.gates.specs.Memory.{gatesOf, accepted, over}
 use Rattle.bristol.specs.declared.Written.{Written}
 use Rattle.bristol.specs.declared.Written.the-variants as W
+use Rattle.bristol.specs.declared.WrittenLines.{WrittenLines}
 use Rattle.bristol.specs.declared.WrittenLines.the-variants as lines
 use Rattle.bristol.specs.Text.{linesOf}
-use Rattle.bristol.specs.Writing.{circuitChecks, lineAt, checks, written, filled, linesAt, writtenLines, filledLines}
+use Rattle.bristol.specs.Writing.{circuitChecks, lineAt, checks, written, lineCode, lineNumbers, filled, linesAt, writtenLines, linesCode, linesNumbers, filledLines}
 use Rattle.bristol.proofs.Written.{the-type}
 use Rattle.bristol.proofs.Numbering.{lines-of-words}
 
@@ -73,6 +75,34 @@ module _ (d : Dimensions) (ws : List ℕ) where
       ap (λ (x : Outcome). given x (lines.Lines (length (linesAt d ws i lent)) (length (flatten (linesAt d ws i lent)))) lines.Refused) e,
       ap (λ (x : Outcome). given x (over (flatten (linesAt d ws i lent)) lent) (λ r. lent)) e,
     )
+
+    -- what is given says its number and its values
+    module _ (out : List ℕ) where
+      pub with-line : (r : Written) → (r ≡ written d ws i lent) × (out ≡ filled d ws i lent)
+          → (r ≡ written d ws i lent)
+          × ((out ≡ filled d ws i lent) × (lineCode r ∷ lineNumbers r ≡ said (outcome (checks d ws i lent)) (length (lineAt d ws i) ∷ [])))
+      with-line r p = (p .0, (p .1, ap says (p .0) ∙ given-said says (outcome (checks d ws i lent)) (at (ltb i all)) W.Refused _ (go (ltb i all) refl) (λ q. refl)))
+        where
+          says : Written → List ℕ
+          says x = lineCode x ∷ lineNumbers x
+
+          all : ℕ
+          all = length (linesOf d (gatesOf ws))
+
+          at : Bool → Written
+          at b = cond b (W.Line (length (lineAt d ws i))) W.Past
+
+          go : (b : Bool) → ltb i all ≡ b → says (at b) ≡ 0 ∷ (length (lineAt d ws i) ∷ [])
+          go true h = refl
+          go false h = ap (λ (l : List ℕ). 0 ∷ (length l ∷ [])) (sym (List·getD-eq-default (linesOf d (gatesOf ws)) [] (ltb-false i all h)))
+
+      pub with-lines : (r : WrittenLines) → (r ≡ writtenLines d ws i lent) × (out ≡ filledLines d ws i lent)
+          → (r ≡ writtenLines d ws i lent)
+          × ((out ≡ filledLines d ws i lent)
+          × (linesCode r ∷ linesNumbers r ≡ said (outcome (checks d ws i lent)) (length (linesAt d ws i lent) ∷ (length (flatten (linesAt d ws i lent)) ∷ []))))
+      with-lines r p =
+          let says : WrittenLines → List ℕ = λ x. linesCode x ∷ linesNumbers x in
+          (p .0, (p .1, ap says (p .0) ∙ given-said says (outcome (checks d ws i lent)) (lines.Lines (length (linesAt d ws i lent)) (length (flatten (linesAt d ws i lent)))) lines.Refused _ refl (λ q. refl)))
 
     module _ (q : Refusal) (e : outcome (circuitChecks d ws) ≡ Refused q) where
       refused : outcome (checks d ws i lent) ≡ Refused q

@@ -1,11 +1,12 @@
 -- What the writer gives when a line, or the lines from one on, are asked for, and what it leaves in the lent bytes: document 01, "Circuit", refusals 1, 2, 9 and 11.
-use Prim.Native.Nat.{ℕ, _-_}
+use Prim.Native.Nat.{ℕ, zero, suc, _-_}
 use mathlib.Core.Bool.{not, cond}
 use mathlib.Core.List.{List, [], _∷_, _++_, flatten}
-use lib.ListN.{length, getD, drop}
+use lib.ListN.{length, getD, take, drop}
 use lib.Dec.{ltb}
 use Rattle.refusals.specs.declared.Refusal.the-variants.{Gates, LineBuffer}
 use Rattle.refusals.specs.Checks.{Check, check, outcome, given}
+use Rattle.refusals.specs.Numbers.{numberOf}
 use Rattle.dimensions.specs.declared.Dimensions.{Dimensions}
 use Rattle.dimensions.specs.Sizes.{sizeChecks, inputWires}
 use Rattle.gates.specs.Memory.{gatesOf, accepted, over}
@@ -33,9 +34,32 @@ written d words number lent =
     given (outcome (checks d words number lent))
     (cond (ltb number (length (linesOf d (gatesOf words)))) (Line (length (lineAt d words number))) Past) Refused
 
+-- what the line writer returns: 0, or 1, 2, 9 or 11 of "Turned back because of the input"
+abbrev pub lineCode : Written → ℕ
+lineCode (Line length) = 0
+lineCode Past = 0
+lineCode (Refused r) = numberOf r
+
+-- the length of the line; "asked past the last line it writes no byte and says so": 0
+abbrev pub lineNumbers : Written → List ℕ
+lineNumbers (Line length) = length ∷ []
+lineNumbers Past = 0 ∷ []
+lineNumbers (Refused r) = []
+
 -- the lent bytes afterwards: the line, then the bytes that stood there; refused, as they were
 abbrev pub filled : Dimensions → List ℕ → ℕ → List ℕ → List ℕ
 filled d words number lent = given (outcome (checks d words number lent)) (over (lineAt d words number) lent) (λ r. lent)
+
+-- what a request put in front of the lent bytes: as many as it says
+abbrev pub front : Written → List ℕ → List ℕ
+front (Line k) bytes = take k bytes
+front Past bytes = []
+front (Refused r) bytes = []
+
+-- what k requests in a row put, a line each, from a number on, each with lent bytes of its own
+unfoldable pub requested : Dimensions → List ℕ → (ℕ → List ℕ) → ℕ → ℕ → List ℕ
+requested d words lent i zero = []
+requested d words lent i (suc k) = front (written d words i (lent i)) (filled d words i (lent i)) ++ requested d words lent (suc i) k
 
 -- ---- several lines
 
@@ -52,6 +76,16 @@ linesAt d words number lent = fitting (length lent) (drop number (linesOf d (gat
 abbrev pub writtenLines : Dimensions → List ℕ → ℕ → List ℕ → WrittenLines
 writtenLines d words number lent =
     given (outcome (checks d words number lent)) (lines.Lines (length (linesAt d words number lent)) (length (flatten (linesAt d words number lent)))) lines.Refused
+
+-- what the writer of several lines returns: as the line writer
+abbrev pub linesCode : WrittenLines → ℕ
+linesCode (lines.Lines count size) = 0
+linesCode (lines.Refused r) = numberOf r
+
+-- how many lines were written, and how many bytes they take
+abbrev pub linesNumbers : WrittenLines → List ℕ
+linesNumbers (lines.Lines count size) = count ∷ (size ∷ [])
+linesNumbers (lines.Refused r) = []
 
 -- the lent bytes afterwards
 abbrev pub filledLines : Dimensions → List ℕ → ℕ → List ℕ → List ℕ

@@ -5,16 +5,18 @@ use refusals::Outcome;
 use refusals::Refusal;
 ghost use mathlib.Core.Path.{_≡_};
 ghost use mathlib.Core.Bool.{true};
-ghost use mathlib.Core.List.{[]};
+ghost use mathlib.Core.List.{[], _∷_, flatten};
 ghost use Prim.Native.Nat.{_+_, _/_, _^_, _<_};
 ghost use lib.ListN.{length, getD};
 ghost use Rattle.refusals.specs.Checks.{outcome};
+ghost use Rattle.refusals.specs.Numbers.{said};
 ghost use Rattle.refusals.specs.declared.Outcome.the-variants.{Taken};
 ghost use Rattle.dimensions.specs.Sizes.{inputWires};
 ghost use Rattle.gates.specs.Memory as Memory;
 ghost use Rattle.bristol_line.specs.ByValue.{lineOf};
 ghost use Rattle.bristol.specs.Text.{gateLines};
-ghost use Rattle.bristol.specs.Writing.{circuitChecks, lineAt, written, filled, writtenLines, filledLines};
+ghost use Rattle.bristol.specs.Writing as Writing;
+ghost use Rattle.bristol.specs.Writing.{circuitChecks, lineAt, written, lineCode, lineNumbers, filled, linesAt, writtenLines, linesCode, linesNumbers, filledLines};
 
 // What became of a line that was asked for: written, with its length; none, the number being past the last line; or why not.
 pub enum Written {
@@ -27,6 +29,7 @@ pub enum Written {
 pub fn write_line(d: Dimensions, gates: &[u32], line: usize, bytes: &mut [u8]) -> Written
     ensures { λ r. ⌜ r ≡ written d (now (gates .entry)) line (now (bytes .entry)) ⌝ }
     ensures { λ _. ⌜ now (bytes .exit) ≡ filled d (now (gates .entry)) line (now (bytes .entry)) ⌝ }
+    ensures { λ r. ⌜ lineCode r ∷ lineNumbers r ≡ said (outcome (Writing.checks d (now (gates .entry)) line (now (bytes .entry)))) (length (lineAt d (now (gates .entry)) line) ∷ []) ⌝ }
 {
     match check(d, gates) {
         Outcome::Taken => {}
@@ -48,6 +51,7 @@ pub enum WrittenLines {
 pub fn write_lines(d: Dimensions, gates: &[u32], line: usize, bytes: &mut [u8]) -> WrittenLines
     ensures { λ r. ⌜ r ≡ writtenLines d (now (gates .entry)) line (now (bytes .entry)) ⌝ }
     ensures { λ _. ⌜ now (bytes .exit) ≡ filledLines d (now (gates .entry)) line (now (bytes .entry)) ⌝ }
+    ensures { λ r. ⌜ linesCode r ∷ linesNumbers r ≡ said (outcome (Writing.checks d (now (gates .entry)) line (now (bytes .entry)))) (length (linesAt d (now (gates .entry)) line (now (bytes .entry))) ∷ (length (flatten (linesAt d (now (gates .entry)) line (now (bytes .entry)))) ∷ [])) ⌝ }
 {
     match check(d, gates) {
         Outcome::Taken => {}

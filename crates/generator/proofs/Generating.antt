@@ -1,6 +1,6 @@
 -- What the generator gives, by what its checks find, and that the checks leave room: from the order of the checks.
 -- Assumes nothing.
-use mathlib.Core.Path.{_≡_, ap, sym, _∙_, subst}
+use mathlib.Core.Path.{_≡_, refl, ap, sym, _∙_, subst}
 use mathlib.Core.Bool.{_||_}
 use mathlib.Core.List.{List, [], _∷_, _++_}
 use Prim.Native.Nat.{ℕ, _+_, _*_, _-_, _≤_, _<_}
@@ -15,18 +15,20 @@ use Rattle.refusals.specs.declared.Refusal.the-variants.{Variables, RowCount, G
 use Rattle.refusals.specs.declared.Outcome.{Outcome}
 use Rattle.refusals.specs.declared.Outcome.the-variants.{Taken, Refused as Not}
 use Rattle.refusals.specs.Checks.{Check, check, outcome, given}
-use Rattle.refusals.proofs.Outcomes.{outcome-taken, outcome-refused, check-passed, checks-taken}
+use Rattle.refusals.specs.Numbers.{said}
+use Rattle.refusals.proofs.Outcomes.{outcome-taken, outcome-refused, check-passed, checks-taken, given-said}
 use Rattle.words.proofs.Truth.{or-l, or-r}
 use Rattle.dimensions.specs.declared.Dimensions.{Dimensions}
 use Rattle.dimensions.specs.Sizes.{outside, sizeChecks, ceiling}
 use Rattle.gates.specs.Memory.{wordsOf, over}
 use Rattle.gates.proofs.InMemory.{words-length}
+use Rattle.generator.specs.declared.Generated.{Generated}
 use Rattle.generator.specs.declared.Generated.the-variants.{Of, Refused}
 use Rattle.sections.specs.declared.Addresses.{Addresses}
 use Rattle.sections.specs.Addressing.{addresses}
 use Rattle.netlist.specs.Outputs.{CarriesOut}
 use Rattle.netlist.specs.Netlist.{circuit, gatesFor, gatesOn}
-use Rattle.generator.specs.Generation.{generatorChecks, generated, written, Carried}
+use Rattle.generator.specs.Generation.{generatorChecks, generated, generatedCode, generatedNumbers, written, Carried}
 use Rattle.netlist.proofs.EveryState.{gates-carry-out}
 use Rattle.netlist.proofs.Counts.{circuit-length, gates-length}
 
@@ -52,6 +54,15 @@ counted n m a e = ap (λ (x : Addresses). x .wires - x .inputs) e ∙ omega (ari
 module _ (d : Dimensions) (words : List ℕ) where
   bufferChecks : List Check
   bufferChecks = check (ltb (length words) (3 * ceiling d)) GateBuffer ∷ []
+
+  -- what is given says its number and its values
+  pub with-said : (r : Generated) (w : List ℕ) → (r ≡ generated d words) × ((w ≡ written d words) × Carried d r w)
+      → (r ≡ generated d words)
+      × ((w ≡ written d words)
+      × (Carried d r w × (generatedCode r ∷ generatedNumbers r ≡ said (outcome (generatorChecks d words)) (length (gatesOn d) ∷ []))))
+  with-said r w p =
+      let says : Generated → List ℕ = λ x. generatedCode x ∷ generatedNumbers x in
+      (p .0, (p .1 .0, (p .1 .1, ap says (p .0) ∙ given-said says (outcome (generatorChecks d words)) (Of (length (gatesOn d))) Refused _ refl (λ q. refl))))
 
   -- what follows from the outcome
   by-outcome : (o : Outcome) → outcome (generatorChecks d words) ≡ o

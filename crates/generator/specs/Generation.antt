@@ -5,6 +5,7 @@ use lib.Dec.{ltb}
 use lib.ListN.{length, take}
 use Rattle.refusals.specs.declared.Refusal.the-variants.{GateBuffer}
 use Rattle.refusals.specs.Checks.{Check, check, outcome, given}
+use Rattle.refusals.specs.Numbers.{numberOf}
 use Rattle.dimensions.specs.declared.Dimensions.{Dimensions}
 use Rattle.dimensions.specs.Sizes.{sizeChecks, ceiling}
 use Rattle.gates.specs.Memory.{wordsOf, over}
@@ -20,6 +21,16 @@ generatorChecks d words = sizeChecks (d .n) (d .left) (d .right) ++ (check (ltb 
 -- how many gates there are
 abbrev pub generated : Dimensions → List ℕ → Generated
 generated d words = given (outcome (generatorChecks d words)) (Of (length (gatesOn d))) Refused
+
+-- what the generator returns: 0, or 1, 2 or 7 of "Turned back because of the input"
+abbrev pub generatedCode : Generated → ℕ
+generatedCode (Of count) = 0
+generatedCode (Refused r) = numberOf r
+
+-- the gates: "The generator writes its gates from the front of the lent words and says how many"
+abbrev pub generatedNumbers : Generated → List ℕ
+generatedNumbers (Of count) = count ∷ []
+generatedNumbers (Refused r) = []
 
 -- the words afterwards: the gates, then what stood there; refused, as they were
 abbrev pub written : Dimensions → List ℕ → List ℕ

@@ -8,17 +8,20 @@ use refusals::Refusal;
 use sections::Addresses;
 use sections::Section;
 ghost use mathlib.Core.Path.{_≡_};
+ghost use mathlib.Core.List.{[], _∷_};
 ghost use Prim.Native.Nat.{_+_, _*_, _≤_};
 ghost use lib.ListN.{length};
 ghost use lib.Seq.{sets};
+ghost use Rattle.refusals.specs.Checks as Checks;
+ghost use Rattle.refusals.specs.Numbers.{said};
 ghost use Rattle.gates.specs.Memory.{wordsOf};
 ghost use Rattle.dimensions.specs.Sizes.{rowCount, ceiling};
 ghost use Rattle.sections.specs.Addressing.{addressesOn};
 ghost use Rattle.netlist.specs.Arrays.{rows};
-ghost use Rattle.netlist.specs.Netlist.{circuit};
+ghost use Rattle.netlist.specs.Netlist.{circuit, gatesOn};
 ghost use Rattle.generator.specs.Storing.{gatesAt};
 ghost use Rattle.generator.specs.Generation as Generation;
-ghost use Rattle.generator.specs.Generation.{written, Carried};
+ghost use Rattle.generator.specs.Generation.{generatorChecks, generatedCode, generatedNumbers, written, Carried};
 
 // How many gates were written, or why none.
 pub enum Generated {
@@ -31,6 +34,7 @@ pub fn generate(d: Dimensions, words: &mut [u32]) -> Generated
     ensures { λ r. ⌜ r ≡ Generation.generated d (now (words .entry)) ⌝ }
     ensures { λ _. ⌜ now (words .exit) ≡ written d (now (words .entry)) ⌝ }
     ensures { λ r. ⌜ Carried d r (now (words .exit)) ⌝ }
+    ensures { λ r. ⌜ generatedCode r ∷ generatedNumbers r ≡ said (Checks.outcome (generatorChecks d (now (words .entry)))) (length (gatesOn d) ∷ []) ⌝ }
 {
     let outcome = d.check();
     match outcome {

@@ -18,3 +18,4 @@ pub mod Wiring
 pub mod Accepted
 pub mod CircuitOutputs
 pub mod EveryState
+pub mod Consequences

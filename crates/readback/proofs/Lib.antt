@@ -4,3 +4,4 @@ pub mod RunRead
 pub mod Checks
 pub mod StateBack
 pub mod RoundTrip
+pub mod Examples

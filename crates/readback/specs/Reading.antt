@@ -8,7 +8,7 @@ use Rattle.refusals.specs.Checks.{Check, check, outcome, given}
 use Rattle.refusals.specs.declared.Outcome.the-variants.{Taken, Refused}
 use Rattle.refusals.specs.declared.Refusal.the-variants.{Variables, Wires}
 use Rattle.refusals.specs.declared.Refusal.the-variants as refusal
-use Rattle.dimensions.specs.Sizes.{outside, stateWires}
+use Rattle.dimensions.specs.Sizes.{mostVariables, outside, stateWires}
 use Rattle.state.specs.State.{fresh, runOf}
 use Rattle.readback.specs.declared.Read.{Read}
 use Rattle.readback.specs.Unpacking.{runIn, holdsState}
@@ -16,7 +16,7 @@ use Rattle.readback.specs.Unpacking.{runIn, holdsState}
 -- 12: the first bytes are not the packed ones of any well-formed state of n
 abbrev pub readChecks : ℕ → List ℕ → List Check
 readChecks n bytes =
-    check (outside 32 n) Variables ∷ check (ltb (length bytes) (stateWires n)) Wires ∷ check (not (holdsState n bytes)) refusal.State ∷ []
+    check (outside mostVariables n) Variables ∷ check (ltb (length bytes) (stateWires n)) Wires ∷ check (not (holdsState n bytes)) refusal.State ∷ []
 
 -- the run of the state whose packed bytes these are; refused, the fresh one of n
 unfoldable pub readBack : ℕ → List ℕ → Read

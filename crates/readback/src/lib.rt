@@ -56,7 +56,7 @@ fn refused(n: u8, refusal: Refusal) -> Read
 pub fn read_back(n: u8, bytes: &[u8]) -> Read
     ensures { λ r. ⌜ r ≡ readBack n (now (bytes .entry)) ⌝ }
 {
-    if n < 1 || 32 < n {
+    if n < 1 || Dimensions::VARIABLES < n as u64 {
         return refused(n, Refusal::Variables);
     }
     let d = Dimensions {

@@ -5,3 +5,4 @@ pub mod Stores
 pub mod Tables
 pub mod Levels
 pub mod Checks
+pub mod Examples

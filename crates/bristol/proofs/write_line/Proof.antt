@@ -6,7 +6,7 @@ use denote.Ref.{now}
 use Rattle.refusals.specs.declared.Outcome.the-variants.{Taken}
 use Rattle.refusals.specs.Checks.{outcome}
 use Rattle.bristol.specs.Writing.{circuitChecks}
-use Rattle.bristol.proofs.Requests.{taken-lines, refuse-circuit, past-last}
+use Rattle.bristol.proofs.Requests.{taken-lines, with-line, refuse-circuit, past-last}
 use borrow.Author.Needs.{needs}
 use Rattle.bristol.proofs.write_line.Statement.{statement}
 use Rattle.bristol.proofs.write_line.Tie as tie
@@ -23,7 +23,8 @@ enum-known-refusal c = search needs
 returns : tie.Need-returns
 returns c =
     let start = c .before .before .before .before .before .before .args in
-    refuse-circuit (start .d) (now (start .gates)) (start .line) (now (start .bytes)) _ (sym (c .before .before .before .check .ensures) ∙ c .before .refusal .given .1)
+    with-line (start .d) (now (start .gates)) (start .line) (now (start .bytes)) _ _
+    (refuse-circuit (start .d) (now (start .gates)) (start .line) (now (start .bytes)) _ (sym (c .before .before .before .check .ensures) ∙ c .before .refusal .given .1))
 
 -- the circuit was taken
 taken : (c : tie.After-enum-told) → let start = c .before .before .before .before .before .args in outcome (circuitChecks (start .d) (now (start .gates))) ≡ Taken
@@ -35,7 +36,8 @@ add-if1 c = search needs
 returns-2 : tie.Need-returns-2
 returns-2 c =
     let start = c .before .before .before .before .before .before .args in
-    past-last (start .d) (now (start .gates)) (start .line) (now (start .bytes)) (taken (c .before)) (omega (arith, taken-lines (start .d) (now (start .gates)) (taken (c .before))))
+    with-line (start .d) (now (start .gates)) (start .line) (now (start .bytes)) _ _
+    (past-last (start .d) (now (start .gates)) (start .line) (now (start .bytes)) (taken (c .before)) (omega (arith, taken-lines (start .d) (now (start .gates)) (taken (c .before)))))
 
 put-line-requires : tie.Need-put-line-requires
 put-line-requires c κs = (taken (c .before .before), omega arith)
@@ -44,7 +46,9 @@ same-length : tie.Need-same-length
 same-length c = search needs
 
 returns-3 : tie.Need-returns-3
-returns-3 c = c .before .before .put-line .ensures
+returns-3 c =
+    let start = c .before .before .before .before .before .before .before .before .before .before .args in
+    with-line (start .d) (now (start .gates)) (start .line) (now (start .bytes)) _ _ (c .before .before .put-line .ensures)
 
 pub write-line-spec : {M : Type 1} → statement M
 write-line-spec =

@@ -2,7 +2,7 @@
 -- Assumes nothing.
 use mathlib.Core.Path.{sym, _∙_}
 use denote.Ref.{now}
-use Rattle.bristol.proofs.Requests.{refuse-lines}
+use Rattle.bristol.proofs.Requests.{with-lines, refuse-lines}
 use borrow.Author.Needs.{needs}
 use Rattle.bristol.proofs.write_lines.Statement.{statement}
 use Rattle.bristol.proofs.write_lines.Tie as tie
@@ -19,7 +19,8 @@ enum-known-refusal c = search needs
 returns : tie.Need-returns
 returns c =
     let start = c .before .before .before .before .before .before .args in
-    refuse-lines (start .d) (now (start .gates)) (start .line) (now (start .bytes)) _ (sym (c .before .before .before .check .ensures) ∙ c .before .refusal .given .1)
+    with-lines (start .d) (now (start .gates)) (start .line) (now (start .bytes)) _ _
+    (refuse-lines (start .d) (now (start .gates)) (start .line) (now (start .bytes)) _ (sym (c .before .before .before .check .ensures) ∙ c .before .refusal .given .1))
 
 put-lines-requires : tie.Need-put-lines-requires
 put-lines-requires c κs = sym (c .before .before .before .check .ensures) ∙ c .before .enum-told .given .1
@@ -28,7 +29,9 @@ same-length : tie.Need-same-length
 same-length c = search needs
 
 returns-2 : tie.Need-returns-2
-returns-2 c = c .before .before .put-lines .ensures
+returns-2 c =
+    let start = c .before .before .before .before .before .before .before .before .before .args in
+    with-lines (start .d) (now (start .gates)) (start .line) (now (start .bytes)) _ _ (c .before .before .put-lines .ensures)
 
 pub write-lines-spec : {M : Type 1} → statement M
 write-lines-spec =

@@ -56,13 +56,16 @@ loop-less c = search needs
 
 loop-again : tie.Need-loop-again Inv-loop μ-loop
 loop-again c =
-    let l = c .before .before .before .before .before .before .before .before in
+    let at-section = c .before .before in
+    let at-at = at-section .before .before .before .before in
+    let at-loop-test = at-at .before in
+    let l = at-loop-test .before in
     let a = l .before .before in
     let d = a .args .d in
-    let test = c .before .before .before .before .before .before .before .loop-test .taken in (
+    let test = at-loop-test .loop-test .taken in (
       omega (arith, test),
-      section-more (d .n) (d .left + d .right) (l .loop .k) (omega (arith, test, a .pre .1 .1)) (a .args .inputs) (a .pre .1 .0) _ (c .before .before .before .before .before .before .at .ensures)
-          (a .args .words .now) (l .loop .words) _ (l .loop .inv .1) (c .before .before .section .ensures),
+      section-more (d .n) (d .left + d .right) (l .loop .k) (omega (arith, test, a .pre .1 .1)) (a .args .inputs) (a .pre .1 .0) _ (at-at .at .ensures)
+          (a .args .words .now) (l .loop .words) _ (l .loop .inv .1) (at-section .section .ensures),
     )
 
 same-length : tie.Need-same-length Inv-loop μ-loop

@@ -37,19 +37,22 @@ sections-requires c κs =
 
 cast-result : tie.Need-cast-result
 cast-result c =
-    let s = c .before .before .before .before .before .before .before .before in
+    let at-of = c .before .before .before .before .before .before in
+    let s = at-of .before .before in
     let d = s .args .d in
-    omega (arith, wires-few (d .n) (d .left + d .right) (s .pre .0) (s .pre .1) _ (c .before .before .before .before .before .before .of .ensures))
+    omega (arith, wires-few (d .n) (d .left + d .right) (s .pre .0) (s .pre .1) _ (at-of .of .ensures))
 
 same-length : tie.Need-same-length
 same-length c = search needs
 
 returns : tie.Need-returns
 returns c =
-    let s = c .before .before .before .before .before .before .before .before in
+    let at-sections = c .before .before in
+    let at-of = at-sections .before .before .before .before in
+    let s = at-of .before .before in
     let d = s .args .d in (
-      counted (d .n) (d .left + d .right) _ (c .before .before .before .before .before .before .of .ensures),
-      c .before .before .sections .ensures ∙ ap (λ (l : List Gate). sets (s .args .words .now) 0 (wordsOf l)) (all-sections (d .n) (d .left + d .right) (19 + d .n) refl),
+      counted (d .n) (d .left + d .right) _ (at-of .of .ensures),
+      at-sections .sections .ensures ∙ ap (λ (l : List Gate). sets (s .args .words .now) 0 (wordsOf l)) (all-sections (d .n) (d .left + d .right) (19 + d .n) refl),
     )
 
 pub write-spec : {M : Type 1} → statement M

@@ -22,24 +22,34 @@ enum-known-refusal : tie.Need-enum-known-refusal
 enum-known-refusal c = search needs
 
 returns : tie.Need-returns
-returns c = let s = c .before .before .before .before .before .before in refuse-tables (s .args .d) (tables s) (s .args .run) (s .args .room) _ (sym (c .before .before .before .accept .ensures) ∙ c .before .refusal .given .1)
+returns c =
+    let at-accept = c .before .before .before in
+    let start = at-accept .before .before .before in
+    let s = start in refuse-tables (s .args .d) (tables s) (s .args .run) (s .args .room) _ (sym (at-accept .accept .ensures) ∙ c .before .refusal .given .1)
 
 input-wires-requires : tie.Need-input-wires-requires
 input-wires-requires c κs = search needs
 
 returns-2 : tie.Need-returns-2
-returns-2 c = let s = c .before .before .before .before .before .before .before in
-    refuse-room (s .args .d) (tables s) (s .args .run) (s .args .room) (sym (c .before .before .before .before .accept .ensures) ∙ c .before .before .enum-told .given .1)
+returns-2 c =
+    let at-enum-told = c .before .before in
+    let at-accept = at-enum-told .before .before in
+    let s = at-accept .before .before .before in
+    refuse-room (s .args .d) (tables s) (s .args .run) (s .args .room) (sym (at-accept .accept .ensures) ∙ at-enum-told .enum-told .given .1)
     (subst (λ (k : ℕ). s .args .room < k) (c .before .input-wires .ensures) (c .if1 .taken))
 
 check-state-requires : tie.Need-check-state-requires
 check-state-requires c κs = search needs
 
 returns-3 : tie.Need-returns-3
-returns-3 c = let s = c .before .before .before .before .before .before .before .before in
+returns-3 c =
+    let at-input-wires = c .before .before in
+    let at-enum-told = at-input-wires .before in
+    let at-accept = at-enum-told .before .before in
+    let s = at-accept .before .before .before in
     c .check-state .ensures
-    ∙ state-decides (s .args .d) (tables s) (s .args .run) (s .args .room) (sym (c .before .before .before .before .before .accept .ensures) ∙ c .before .before .before .enum-told .given .1)
-    (subst (λ (k : ℕ). k ≤ s .args .room) (c .before .before .input-wires .ensures) (c .before .if1 .left))
+    ∙ state-decides (s .args .d) (tables s) (s .args .run) (s .args .room) (sym (at-accept .accept .ensures) ∙ at-enum-told .enum-told .given .1)
+    (subst (λ (k : ℕ). k ≤ s .args .room) (at-input-wires .input-wires .ensures) (c .before .if1 .left))
 
 pub check-spec : {M : Type 1} → statement M
 check-spec =

@@ -25,8 +25,10 @@ enum-known-refusal : tie.Need-enum-known-refusal
 enum-known-refusal c = search needs
 
 returns : tie.Need-returns
-returns c = let s = c .before .before .before .before .before .before .before in
-    let e = sym (c .before .before .before .check .ensures) ∙ c .before .refusal .given .1 in
+returns c =
+    let at-check = c .before .before .before in
+    let s = at-check .before .before .before .before in
+    let e = sym (at-check .check .ensures) ∙ c .before .refusal .given .1 in
     (sym e, pack-refused (s .args .d) (tables s) (s .args .run) (s .args .bytes .now) _ e)
 
 cast-n : tie.Need-cast-n
@@ -36,25 +38,37 @@ cast-put-rows : tie.Need-cast-put-rows
 cast-put-rows c = search needs
 
 put-rows-requires : tie.Need-put-rows-requires
-put-rows-requires c κs = let s = c .before .before .before .before .before .before .before .before .before in
-    let o = passed (s .args .d) (tables s) (s .args .run) (length (s .args .bytes .now)) (sym (c .before .before .before .before .before .check .ensures) ∙ c .before .before .before .enum-told .given .1) in
+put-rows-requires c κs =
+    let at-enum-told = c .before .before .before in
+    let at-check = at-enum-told .before .before in
+    let s = at-check .before .before .before .before in
+    let o = passed (s .args .d) (tables s) (s .args .run) (length (s .args .bytes .now)) (sym (at-check .check .ensures) ∙ at-enum-told .enum-told .given .1) in
     (o .allowed .n-most, (o .allowed .left-length, omega (arith, o .enough, input-parts (s .args .d))))
 
 cast-put-rows-2 : tie.Need-cast-put-rows-2
 cast-put-rows-2 c = search needs
 
 put-rows-requires-2 : tie.Need-put-rows-requires-2
-put-rows-requires-2 c κs = let s = c .before .before .before .before .before .before .before .before .before .before .before .before .before .before in
-    let p = c .before .before .before .before .put-rows in
-    let o = passed (s .args .d) (tables s) (s .args .run) (length (s .args .bytes .now)) (sym (c .before .before .before .before .before .before .before .before .before .before .check .ensures) ∙ c .before .before .before .before .before .before .before .before .enum-told .given .1) in
+put-rows-requires-2 c κs =
+    let at-put-rows = c .before .before .before .before in
+    let at-enum-told = at-put-rows .before .before .before .before in
+    let at-check = at-enum-told .before .before in
+    let s = at-check .before .before .before .before in
+    let p = at-put-rows .put-rows in
+    let o = passed (s .args .d) (tables s) (s .args .run) (length (s .args .bytes .now)) (sym (at-check .check .ensures) ∙ at-enum-told .enum-told .given .1) in
     let l : length (p .last .1 .1 .1 .0) ≡ length (s .args .bytes .now) = p .kept .1 .1 .1 .0 in
     (o .allowed .n-most, (o .allowed .right-length, omega (arith, p .ensures .0, o .enough, input-parts (s .args .d))))
 
 put-state-requires : tie.Need-put-state-requires
-put-state-requires c κs = let s = c .before .before .before .before .before .before .before .before .before .before .before .before .before .before .before .before .before .before in
-    let p = c .before .before .before .before .before .before .before .before .put-rows in
-    let q = c .before .before .before .put-rows2 in
-    let o = passed (s .args .d) (tables s) (s .args .run) (length (s .args .bytes .now)) (sym (c .before .before .before .before .before .before .before .before .before .before .before .before .before .before .check .ensures) ∙ c .before .before .before .before .before .before .before .before .before .before .before .before .enum-told .given .1) in
+put-state-requires c κs =
+    let at-put-rows2 = c .before .before .before in
+    let at-put-rows = at-put-rows2 .before .before .before .before .before in
+    let at-enum-told = at-put-rows .before .before .before .before in
+    let at-check = at-enum-told .before .before in
+    let s = at-check .before .before .before .before in
+    let p = at-put-rows .put-rows in
+    let q = at-put-rows2 .put-rows2 in
+    let o = passed (s .args .d) (tables s) (s .args .run) (length (s .args .bytes .now)) (sym (at-check .check .ensures) ∙ at-enum-told .enum-told .given .1) in
     let k : length (p .last .1 .1 .1 .0) ≡ length (s .args .bytes .now) = p .kept .1 .1 .1 .0 in
     let l : length (q .last .1 .1 .1 .0) ≡ length (p .last .1 .1 .1 .0) = q .kept .1 .1 .1 .0 in
     (o .allowed .n-most, omega (arith, p .ensures .0, q .ensures .0, o .enough, input-parts (s .args .d)))
@@ -63,11 +77,17 @@ same-length : tie.Need-same-length
 same-length c = search needs
 
 returns-2 : tie.Need-returns-2
-returns-2 c = let s = c .before .before .before .before .before .before .before .before .before .before .before .before .before .before .before .before .before .before .before .before .before in
-    let p = c .before .before .before .before .before .before .before .before .before .before .before .put-rows in
-    let q = c .before .before .before .before .before .before .put-rows2 in
-    let r = c .before .before .put-state in
-    let e = sym (c .before .before .before .before .before .before .before .before .before .before .before .before .before .before .before .before .before .check .ensures) ∙ c .before .before .before .before .before .before .before .before .before .before .before .before .before .before .before .enum-told .given .1 in
+returns-2 c =
+    let at-put-state = c .before .before in
+    let at-put-rows2 = at-put-state .before .before .before .before in
+    let at-put-rows = at-put-rows2 .before .before .before .before .before in
+    let at-enum-told = at-put-rows .before .before .before .before in
+    let at-check = at-enum-told .before .before in
+    let s = at-check .before .before .before .before in
+    let p = at-put-rows .put-rows in
+    let q = at-put-rows2 .put-rows2 in
+    let r = at-put-state .put-state in
+    let e = sym (at-check .check .ensures) ∙ at-enum-told .enum-told .given .1 in
     let o = passed (s .args .d) (tables s) (s .args .run) (length (s .args .bytes .now)) e in
     (sym e, inputs-stored (s .args .d) (tables s) (s .args .run) (s .args .bytes .now) _ _ _ _ _ (p .ensures .1) (p .ensures .0) (q .ensures .1) (q .ensures .0) (r .ensures) (o .enough) ∙ pack-taken (s .args .d) (tables s) (s .args .run) (s .args .bytes .now) e)
 

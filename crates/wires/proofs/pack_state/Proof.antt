@@ -37,20 +37,29 @@ cast-put-state : tie.Need-cast-put-state
 cast-put-state c = search needs
 
 put-state-requires : tie.Need-put-state-requires
-put-state-requires c κs = let s = c .before .before .before .before .before .before in
-    let f : wellFormed (s .args .run) ≡ true = sym (c .before .before .well-formed .ensures) ∙ not-false _ (c .before .if2 .left) in
-    (formed-run-e (s .args .run) f .most, omega (arith, c .before .before .before .before .state-wires .ensures))
+put-state-requires c κs =
+    let at-well-formed = c .before .before in
+    let at-state-wires = at-well-formed .before .before in
+    let s = at-state-wires .before .before in
+    let f : wellFormed (s .args .run) ≡ true = sym (at-well-formed .well-formed .ensures) ∙ not-false _ (c .before .if2 .left) in
+    (formed-run-e (s .args .run) f .most, omega (arith, at-state-wires .state-wires .ensures))
 
 same-length : tie.Need-same-length
 same-length c = search needs
 
 returns-3 : tie.Need-returns-3
-returns-3 c = let s = c .before .before .before .before .before .before .before .before .before in
+returns-3 c =
+    let at-put-state = c .before .before in
+    let at-if2 = at-put-state .before .before in
+    let at-well-formed = at-if2 .before in
+    let at-if1 = at-well-formed .before in
+    let at-state-wires = at-if1 .before in
+    let s = at-state-wires .before .before in
     let w = stateBits (s .args .run .n) (stateOf (s .args .run)) in
-    let h = subst (λ (k : ℕ). k ≤ length (s .args .bytes .now)) (c .before .before .before .before .before .before .before .state-wires .ensures) (c .before .before .before .before .before .before .if1 .left) in
-    let f : wellFormed (s .args .run) ≡ true = sym (c .before .before .before .before .before .well-formed .ensures) ∙ not-false _ (c .before .before .before .before .if2 .left) in (
+    let h = subst (λ (k : ℕ). k ≤ length (s .args .bytes .now)) (at-state-wires .state-wires .ensures) (at-if1 .if1 .left) in
+    let f : wellFormed (s .args .run) ≡ true = sym (at-well-formed .well-formed .ensures) ∙ not-false _ (at-if2 .if2 .left) in (
       sym f ∙ state-decided (s .args .run) (s .args .bytes .now) h,
-      c .before .before .put-state .ensures ∙ stored-front (s .args .bytes .now) w (omega (arith, h, state-length (s .args .run .n) (stateOf (s .args .run)))) ∙ state-packed (s .args .run) (s .args .bytes .now) h f,
+      at-put-state .put-state .ensures ∙ stored-front (s .args .bytes .now) w (omega (arith, h, state-length (s .args .run .n) (stateOf (s .args .run)))) ∙ state-packed (s .args .run) (s .args .bytes .now) h f,
     )
 
 pub pack-state-spec : {M : Type 1} → statement M

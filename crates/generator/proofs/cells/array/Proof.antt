@@ -43,12 +43,14 @@ facts c =
 
 mul-row : tie.Need-mul-row Inv-loop μ-loop
 mul-row c =
-    let f = c .before .before .before .before .before .before .pre .1 in
+    let start = c .before .before .before .before .before .before in
+    let f = start .pre .1 in
     omega (arith, mul-le-mul (f .named .1) (f .counts .2))
 
 add-row : tie.Need-add-row Inv-loop μ-loop
 add-row c =
-    let f = c .before .before .before .before .before .before .pre .1 in
+    let start = c .before .before .before .before .before .before in
+    let f = start .pre .1 in
     omega (arith, mul-le-mul (f .named .1) (f .counts .2), f .counts .0)
 
 loop-holds : tie.Need-loop-holds Inv-loop μ-loop
@@ -78,21 +80,26 @@ line-requires c κs =
 
 add-at : tie.Need-add-at Inv-loop μ-loop
 add-at c =
-    let l = c .before .before .before .before .before .before in
+    let at-loop-test = c .before .before .before .before .before in
+    let l = at-loop-test .before in
     let a = l .before .before .before .before .before .before .before in
     let s = a .args .s in
     let at : l .loop .at ≡ s .base + (s .zeros + s .size * s .cells) * l .loop .j = rw (a .pre .0 .1) at (l .loop .inv .1) in
-    omega (arith, facts (c .before .before .before .before .before), at, a .pre .1 .begins)
+    omega (arith, facts (at-loop-test), at, a .pre .1 .begins)
 
 add-j : tie.Need-add-j Inv-loop μ-loop
-add-j c = omega (arith, c .before .before .before .before .before .before .before .before .before .before .before .before .before .pre .1 .counts)
+add-j c =
+    let start = c .before .before .before .before .before .before .before .before .before .before .before .before .before in
+    omega (arith, start .pre .1 .counts)
 
 loop-less : tie.Need-loop-less Inv-loop μ-loop
 loop-less c = search needs
 
 loop-again : tie.Need-loop-again Inv-loop μ-loop
 loop-again c =
-    let l = c .before .before .before .before .before .before in
+    let at-line = c .before .before in
+    let at-along = at-line .before .before in
+    let l = at-along .before .before in
     let a = l .before .before .before .before .before .before .before in
     let s = a .args .s in
     let e = a .pre .0 .1 in
@@ -103,7 +110,7 @@ loop-again c =
       omega arith,
       on,
       lines-more (s .zeros) (gatesIn (a .args .template .now)) (s .slots) (s .outer) (s .inner) _ (s .base) (l .loop .at) n (s .cells) (l .loop .j) _ _ _ _ (3 * (l .loop .at - a .args .inputs))
-          (l .loop .inv .2) (sym (length-map (a .args .template .now) _)) place (c .before .before .before .before .along .ensures) (l .loop .inv .1) (c .before .before .line .ensures),
+          (l .loop .inv .2) (sym (length-map (a .args .template .now) _)) place (at-along .along .ensures) (l .loop .inv .1) (at-line .line .ensures),
     )
 
 same-length : tie.Need-same-length Inv-loop μ-loop

@@ -56,12 +56,14 @@ loop-less c = search needs
 
 loop-again : tie.Need-loop-again Inv-loop μ-loop
 loop-again c =
-    let l = c .before .before .before .before .before .before in
+    let at-place = c .before .before in
+    let at-along = at-place .before .before in
+    let l = at-along .before .before in
     let s = l .before .before .before in (
       omega arith,
       omega arith,
       cells-more (gatesIn (s .args .template .now)) (s .args .slots) (s .args .steps) _ (s .args .base) (l .loop .at) (length (s .args .template .now)) (l .loop .i) _ _ _ _ (3 * (l .loop .at - s .args .inputs))
-          (l .loop .inv .2) (sym (length-map (s .args .template .now) _)) (omega arith) (c .before .before .before .before .along .ensures) (l .loop .inv .1) (c .before .before .place .ensures),
+          (l .loop .inv .2) (sym (length-map (s .args .template .now) _)) (omega arith) (at-along .along .ensures) (l .loop .inv .1) (at-place .place .ensures),
     )
 
 same-length : tie.Need-same-length Inv-loop μ-loop

@@ -20,8 +20,9 @@ add-cells c = search needs
 
 cells-requires-2 : tie.Need-cells-requires-2
 cells-requires-2 c κs =
-    let s = c .before .before .before .before .before .before .before .before in
-    let k = c .before .before .before .cells .kept .0 in
+    let at-cells = c .before .before .before in
+    let s = at-cells .before .before .before .before .before in
+    let k = at-cells .cells .kept .0 in
     ((s .pre .0 .0, s .pre .0 .1), ((omega arith, omega arith, omega arith), ((s .pre .1 .1 .0 .0, s .pre .1 .1 .0 .1), omega arith)))
 
 same-length : tie.Need-same-length
@@ -29,9 +30,11 @@ same-length c = search needs
 
 returns : tie.Need-returns
 returns c =
-    let s = c .before .before .before .before .before .before .before .before .before .before .before in
+    let at-cells2 = c .before .before in
+    let at-cells = at-cells2 .before .before .before .before in
+    let s = at-cells .before .before .before .before .before in
     line-whole (s .args .zeros) (gatesIn (s .args .template .now)) (s .args .slots) (s .args .steps) (s .args .base) (s .args .n) (s .args .words .now) _ _ (3 * (s .args .base - s .args .inputs)) (3 * (s .args .base + s .args .zeros - s .args .inputs))
-    (c .before .before .before .before .before .before .cells .ensures) (omega arith) (c .before .before .cells2 .ensures)
+    (at-cells .cells .ensures) (omega arith) (at-cells2 .cells2 .ensures)
 
 pub line-spec : {M : Type 1} → statement M
 line-spec =

@@ -35,10 +35,11 @@ same-length c = search needs
 
 returns : tie.Need-returns
 returns c =
-    let a = c .before .before .before .before .before .before .before in
+    let at-array = c .before .before in
+    let a = at-array .before .before .before .before .before in
     let p = part _ refl refl refl (a .args .first) (a .args .end) (a .args .s .template) (a .args .s .size) (a .pre .0 .0) (a .pre .0 .1) (a .pre .1 .named .0) in
-    subst (λ (t : List Gate). c .before .before .array .last .0 ≡ sets (a .args .words .now) (3 * (a .args .s .base - a .args .inputs)) (wordsOf (inArray t (a .args .s))))
-    (p .2) (c .before .before .array .ensures)
+    subst (λ (t : List Gate). at-array .array .last .0 ≡ sets (a .args .words .now) (3 * (a .args .s .base - a .args .inputs)) (wordsOf (inArray t (a .args .s))))
+    (p .2) (at-array .array .ensures)
 
 pub section-spec : {M : Type 1} → statement M
 section-spec =

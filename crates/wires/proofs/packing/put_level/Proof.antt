@@ -13,8 +13,9 @@ put-set-requires : tie.Need-put-set-requires
 put-set-requires c κs = search needs
 
 put-set-requires-2 : tie.Need-put-set-requires-2
-put-set-requires-2 c κs = let p = c .before .before .before in
-    let s = c .before .before .before .before .before .before in
+put-set-requires-2 c κs =
+    let p = c .before .before .before in
+    let s = p .before .before .before in
     let l : length (p .put-set .last .1 .1 .0) ≡ length (s .args .bytes .now) = p .put-set .kept .1 .1 .0 in
     (omega arith, omega (arith, p .put-set .ensures .0))
 
@@ -22,9 +23,10 @@ cast-put-one : tie.Need-cast-put-one
 cast-put-one c = search needs
 
 put-one-requires : tie.Need-put-one-requires
-put-one-requires c κs = let p = c .before .before .before .before .before .before .before .before in
+put-one-requires c κs =
     let q = c .before .before .before .before in
-    let s = c .before .before .before .before .before .before .before .before .before .before .before in
+    let p = q .before .before .before .before in
+    let s = p .before .before .before in
     let k : length (p .put-set .last .1 .1 .0) ≡ length (s .args .bytes .now) = p .put-set .kept .1 .1 .0 in
     let l : length (q .put-set2 .last .1 .1 .0) ≡ length (p .put-set .last .1 .1 .0) = q .put-set2 .kept .1 .1 .0 in
     omega (arith, p .put-set .ensures .0, q .put-set2 .ensures .0)
@@ -33,10 +35,12 @@ same-length : tie.Need-same-length
 same-length c = search needs
 
 returns : tie.Need-returns
-returns c = let p = c .before .before .before .before .before .before .before .before .before .before .before in
-    let q = c .before .before .before .before .before .before .before in
+returns c =
     let r = c .before .before in
-    let s = c .before .before .before .before .before .before .before .before .before .before .before .before .before .before in (
+    let q = r .before .before .before .before .before in
+    let p = q .before .before .before .before in
+    let start = p .before .before .before in
+    let s = start in (
       omega (arith, p .put-set .ensures .0, q .put-set2 .ensures .0, r .put-one .ensures .0),
       upto-then (s .args .bytes .now) (s .args .at) _ (bit (s .args .level .t)) (s .args .n) _ (p .put-set .ensures .1) (p .put-set .ensures .0)
           (upto-then _ _ _ (bit (s .args .level .f)) (s .args .n) _ (q .put-set2 .ensures .1) (q .put-set2 .ensures .0) (r .put-one .ensures .1)),

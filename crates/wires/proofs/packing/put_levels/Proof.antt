@@ -35,11 +35,14 @@ loop-less : tie.Need-loop-less Inv-loop μ-loop
 loop-less c = search needs
 
 loop-again : tie.Need-loop-again Inv-loop μ-loop
-loop-again c = let l = c .before .before .before .before .before .before in
+loop-again c =
+    let at-put-level = c .before .before in
+    let at-level-at = at-put-level .before .before in
+    let l = at-level-at .before .before in
     let s = l .before .before in (
       search needs,
       list-turn _ _ _ _ _ _ _ (l .loop .inv .1) _ _ (λ j. level-length (s .args .n) _ _ _)
-          (c .before .before .put-level .ensures .1 ∙ ap (λ (x : Level). stored (l .loop .bytes) (l .loop .next) (levelBits (s .args .n) x)) (c .before .before .before .before .level-at .ensures)) (c .before .before .put-level .ensures .0),
+          (at-put-level .put-level .ensures .1 ∙ ap (λ (x : Level). stored (l .loop .bytes) (l .loop .next) (levelBits (s .args .n) x)) (at-level-at .level-at .ensures)) (at-put-level .put-level .ensures .0),
     )
 
 same-length : tie.Need-same-length Inv-loop μ-loop

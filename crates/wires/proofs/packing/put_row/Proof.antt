@@ -13,8 +13,9 @@ put-set-requires : tie.Need-put-set-requires
 put-set-requires c κs = search needs
 
 put-set-requires-2 : tie.Need-put-set-requires-2
-put-set-requires-2 c κs = let p = c .before .before .before in
-    let s = c .before .before .before .before .before .before in
+put-set-requires-2 c κs =
+    let p = c .before .before .before in
+    let s = p .before .before .before in
     let l : length (p .put-set .last .1 .1 .0) ≡ length (s .args .bytes .now) = p .put-set .kept .1 .1 .0 in
     (omega arith, omega (arith, p .put-set .ensures .0))
 
@@ -22,9 +23,10 @@ same-length : tie.Need-same-length
 same-length c = search needs
 
 returns : tie.Need-returns
-returns c = let p = c .before .before .before .before .before .before in
+returns c =
     let q = c .before .before in
-    let s = c .before .before .before .before .before .before .before .before .before in
+    let p = q .before .before .before .before in
+    let s = p .before .before .before in
     (omega (arith, p .put-set .ensures .0, q .put-set2 .ensures .0), upto-then (s .args .bytes .now) (s .args .at) _ (bit (s .args .row .positive)) (s .args .n) _ (p .put-set .ensures .1) (p .put-set .ensures .0) (q .put-set2 .ensures .1))
 
 pub put-row-spec : {M : Type 1} → statement M

@@ -54,9 +54,11 @@ loop-less : tie.Need-loop-less Inv-loop μ-loop
 loop-less c = search needs
 
 loop-again : tie.Need-loop-again Inv-loop μ-loop
-loop-again c = let l = c .before .before .before .before .before .before .before in
+loop-again c =
+    let at-put-row = c .before .before in
+    let l = at-put-row .before .before .before .before .before in
     let s = l .before .before .before in
-    (search needs, list-turn _ _ _ _ _ _ _ (l .loop .inv .1) _ _ (λ j. row-length (s .args .n) (rowAt (s .args .words .now) j)) (c .before .before .put-row .ensures .1) (c .before .before .put-row .ensures .0))
+    (search needs, list-turn _ _ _ _ _ _ _ (l .loop .inv .1) _ _ (λ j. row-length (s .args .n) (rowAt (s .args .words .now) j)) (at-put-row .put-row .ensures .1) (at-put-row .put-row .ensures .0))
 
 same-length : tie.Need-same-length Inv-loop μ-loop
 same-length c = c .before .loop .inv .1 .size

@@ -35,14 +35,20 @@ same-length : tie.Need-same-length
 same-length c = search needs
 
 returns : tie.Need-returns
-returns c = let s = c .before .before .before .before .before .before .before .before .before .before .before .before .before .before .before .before .before .before .before .before .before .before in
+returns c =
+    let at-put-standing = c .before .before in
+    let at-put-levels = at-put-standing .before .before .before .before in
+    let at-put-one = at-put-levels .before .before .before .before in
+    let at-put-set2 = at-put-one .before .before .before .before in
+    let at-put-set = at-put-set2 .before .before .before .before in
+    let s = at-put-set .before .before .before .before in
     let n = s .args .n in
     let run = s .args .run in
-    let p = c .before .before .before .before .before .before .before .before .before .before .before .before .before .before .before .before .before .before .put-set in
-    let q = c .before .before .before .before .before .before .before .before .before .before .before .before .before .before .put-set2 in
-    let r = c .before .before .before .before .before .before .before .before .before .before .put-one in
-    let u = c .before .before .before .before .before .before .put-levels in
-    let v = c .before .before .put-standing in
+    let p = at-put-set .put-set in
+    let q = at-put-set2 .put-set2 in
+    let r = at-put-one .put-one in
+    let u = at-put-levels .put-levels in
+    let v = at-put-standing .put-standing in
     let e = length-joined (n + (n + n)) _ n (λ l. level-length n _ _ _) in
     upto-then (s .args .bytes .now) (s .args .at) _ (bit (run .t)) n _ (p .ensures .1) (p .ensures .0)
     (upto-then _ _ _ (bit (run .f)) n _ (q .ensures .1) (q .ensures .0)
