@@ -1,15 +1,15 @@
--- One application of the generated circuit to a well-formed state: with long enough buffers it gives the giant step and its mark, else it is turned back.
--- The packed bytes are evaluated, the last wires are the outputs, and these are read back.
+-- One attempt at a well-formed state with the generated circuit: where it is long enough it gives the giant step and its mark, else it is turned back.
+-- The packed bytes are evaluated, the last wires are the outputs, and what is handed of these is read back.
 -- Assumes nothing.
 use mathlib.Core.Path.{_≡_, refl, sym, ap, ap₂, _∙_}
-use mathlib.Core.Bool.{Bool, true, false}
+use mathlib.Core.Bool.{Bool, true, cond}
 use mathlib.Core.List.{List, [], _∷_, _++_, map-append}
 use Prim.Native.Nat.{ℕ, _+_, _/_, _≤_, _<_}
 use native.Mathlib.Omega.{arith}
 use lib.Dec.{eqb, leb}
-use lib.ListN.{length, getD, length-map}
-use lib.Seq.{getD-at}
-use borrow.Author.Tests.{leb-true, leb-false}
+use lib.ListN.{length, getD, take, length-take, length-map}
+use lib.Seq.{getD-at, take-at, take-take}
+use borrow.Author.Tests.{leb-true, leb-false, le-ltb}
 use Rattle.refusals.specs.Checks.{outcome, given}
 use Rattle.refusals.specs.declared.Outcome.{Outcome}
 use Rattle.refusals.specs.declared.Outcome.the-variants.{Taken, Refused}
@@ -37,24 +37,24 @@ use Rattle.wires.specs.Packing.{inputBits, packChecks}
 use Rattle.wires.proofs.Lengths.{state-length}
 use Rattle.wires.proofs.Checks.{Passed, passed, state-decides, refuse-room}
 use Rattle.readback.specs.declared.Read.{Read}
-use Rattle.readback.proofs.RoundTrip.{read-packed}
+use Rattle.readback.proofs.Checks.{no-room}
+use Rattle.readback.proofs.RoundTrip.{read-front}
 use Rattle.netlist.specs.Netlist.{gatesOn}
 use Rattle.netlist.specs.Outputs.{closed, outputBits, outputsIn}
 use Rattle.netlist.proofs.EveryState.{gates-accepted, outputs-filled}
-use Rattle.repeats.specs.declared.Applied.{Applied}
-use Rattle.repeats.specs.Application.{turnedBack, nextRun, judged, wiresAfter, applied}
-use Rattle.repeats.specs.Repeats.{Attempt, circuitWords, longEnough}
-use Rattle.repeats.specs.Demand3.{Accepts}
+use Rattle.repeats.specs.Application.{Applied, turnedBack, nextRun, judged, wiresAfter, applied}
+use Rattle.repeats.specs.Repeats.{Attempt, Lent, Otherwise, Repeat, circuitWords, attempted, comesOf, longEnough}
+use Rattle.repeats.specs.Demand3.{returned, Accepts}
 use Rattle.repeats.proofs.Judging.{refused, refuse-packing, refuse-wires, take-all, wires-then}
 
 -- ---- the circuit in memory
 
 module _ (d : Dimensions) where
-  words-third : length (circuitWords d) / 3 ≡ length (gatesOn d)
+  pub words-third : length (circuitWords d) / 3 ≡ length (gatesOn d)
   unfolding circuitWords
   words-third = omega (arith, words-length (gatesOn d))
 
-  words-accepted : Memory.accepted (inputWires d) (circuitWords d) ≡ true
+  pub words-accepted : Memory.accepted (inputWires d) (circuitWords d) ≡ true
   unfolding circuitWords
   words-accepted = gates-accepted d
 
@@ -73,13 +73,13 @@ module _ (d : Dimensions) (tables : Tables) (acc : Accepts d tables) (run : Run)
   few-bytes h = refuse-packing d tables (circuitWords d) run bytes wires Wires (sym (refuse-room d tables run (length bytes) acc h))
 
   module _ (room : inputWires d ≤ length bytes) where
-    packs : outcome (packChecks d tables run (length bytes)) ≡ Taken
+    pub packs : outcome (packChecks d tables run (length bytes)) ≡ Taken
     packs = sym (state-decides d tables run (length bytes) acc room) ∙ ok
 
     held : Passed d tables run (length bytes)
     held = passed d tables run (length bytes) packs
 
-    formed : wellFormedState (d .n) (stateOf run) ≡ true
+    pub formed : wellFormedState (d .n) (stateOf run) ≡ true
     formed = ap (λ (k : ℕ). wellFormedState k (stateOf run)) (sym (held .same)) ∙ formed-run-e run (held .formed) .state
 
     -- too few wires
@@ -100,7 +100,7 @@ module _ (d : Dimensions) (tables : Tables) (acc : Accepts d tables) (run : Run)
       all-taken : judged d tables (circuitWords d) run bytes wires ≡ Taken
       all-taken = take-all d tables (circuitWords d) run bytes wires packs (words-accepted d) enough
 
-      wires-are : wiresAfter d tables (circuitWords d) run bytes wires ≡ over (bytesOf values) wires
+      pub wires-are : wiresAfter d tables (circuitWords d) run bytes wires ≡ over (bytesOf values) wires
       wires-are =
           wires-then d tables (circuitWords d) run bytes wires packs (words-accepted d) enough
           ∙ ap (λ (gs : List Gate). over (bytesOf (wiresOf bits gs)) wires) (words-gates d)
@@ -112,51 +112,85 @@ module _ (d : Dimensions) (tables : Tables) (acc : Accepts d tables) (run : Run)
           ap (outputsIn d (circuitWords d)) wires-are
           ∙ outputs-filled d tables (stateOf run) formed wires
 
-      -- the outputs, read back
-      next-is : applied d tables (circuitWords d) run bytes wires ≡ record { outcome = Taken; run = runOf (d .n) next; mark = closed next }
-      unfolding applied nextRun outputBits
-      next-is =
-          let s = bytesOf (stateBits (d .n) next) in
-          let e : bytesOf (outputBits (d .n) (rowsOf d tables) (stateOf run)) ≡ s ++ (digit (closed next) ∷ []) =
-          map-append digit (stateBits (d .n) next) (closed next ∷ []) in
+      abbrev outputs : List ℕ
+      outputs = bytesOf (stateBits (d .n) next) ++ (digit (closed next) ∷ [])
+
+      front-length : length (bytesOf (stateBits (d .n) next)) ≡ stateWires (d .n)
+      front-length = length-map (stateBits (d .n) next) digit ∙ state-length (d .n) next
+
+      -- only the read-back is left to judge
+      by-reading : (handed : ℕ) → applied d tables (circuitWords d) run bytes wires handed ≡ nextRun (d .n) run handed outputs
+      unfolding applied outputBits
+      by-reading handed =
+          ap (λ (o : Outcome). given o (nextRun (d .n) run handed (outputsIn d (circuitWords d) (wiresAfter d tables (circuitWords d) run bytes wires))) (turnedBack run)) all-taken
+          ∙ ap (nextRun (d .n) run handed) (outputs-are ∙ map-append digit (stateBits (d .n) next) (closed next ∷ []))
+
+      -- too few of them are handed to it
+      few-handed : (handed : ℕ) → handed < stateWires (d .n) → applied d tables (circuitWords d) run bytes wires handed ≡ turnedBack run Wires
+      unfolding nextRun
+      few-handed handed h =
+          let short : length (take handed outputs) < stateWires (d .n) = omega (arith, length-take handed outputs) in
+          by-reading handed
+          ∙ ap (λ (x : Read). given (x .outcome) (record { outcome = Taken; run = x .run; mark = eqb (getD outputs (stateWires (d .n)) 0) 1 }) (turnedBack run))
+          (sym (no-room (d .n) (take handed outputs) (rw (le-ltb (d .n) 1 (held .allowed .n-least), le-ltb 32 (d .n) (held .allowed .n-most))) short))
+
+      -- enough are
+      pub next-is : (handed : ℕ) → stateWires (d .n) ≤ handed
+          → applied d tables (circuitWords d) run bytes wires handed ≡ record { outcome = Taken; run = runOf (d .n) next; mark = closed next }
+      unfolding nextRun
+      next-is handed h =
+          let whole : bytesOf (stateBits (d .n) next) ≡ take (stateWires (d .n)) (take handed outputs) =
+          sym (take-take (stateWires (d .n)) handed outputs h ∙ take-at (bytesOf (stateBits (d .n) next)) _ (stateWires (d .n)) front-length) in
           let r =
-          read-packed (d .n) next (digit (closed next) ∷ []) (step-well-formed (d .n) (rowsOf d tables) (stateOf run) formed) (held .allowed .n-least) (held .allowed .n-most) in
-          let m : eqb (getD (s ++ (digit (closed next) ∷ [])) (stateWires (d .n)) 0) 1 ≡ closed next =
-          ap (λ (x : ℕ). eqb x 1) (getD-at s (digit (closed next)) [] 0 (stateWires (d .n)) (length-map (stateBits (d .n) next) digit ∙ state-length (d .n) next))
-          ∙ digit-bit (closed next) in
-          ap (λ (o : Outcome). given o (nextRun (d .n) run (outputsIn d (circuitWords d) (wiresAfter d tables (circuitWords d) run bytes wires))) (turnedBack run)) all-taken
-          ∙ ap (nextRun (d .n) run) (outputs-are ∙ e)
+          read-front (d .n) next (take handed outputs) (step-well-formed (d .n) (rowsOf d tables) (stateOf run) formed) (held .allowed .n-least) (held .allowed .n-most) whole in
+          let m : eqb (getD outputs (stateWires (d .n)) 0) 1 ≡ closed next =
+          ap (λ (x : ℕ). eqb x 1) (getD-at (bytesOf (stateBits (d .n) next)) (digit (closed next)) [] 0 (stateWires (d .n)) front-length) ∙ digit-bit (closed next) in
+          by-reading handed
           ∙ ap₂ (λ (x : Read) (b : Bool). given (x .outcome) (record { outcome = Taken; run = x .run; mark = b }) (turnedBack run)) r m
 
 -- ---- one attempt at a state
 
-module _ (d : Dimensions) (tables : Tables) (acc : Accepts d tables) where
-  abbrev pub attempted : State → Bool → Applied
-  attempted s true =
-      let next = step (d .n) (rowsOf d tables) s in
-      record { outcome = Taken; run = runOf (d .n) next; mark = closed next }
-  attempted s false = turnedBack (runOf (d .n) s) Wires
+module _ (d : Dimensions) (tables : Tables) (acc : Accepts d tables) (s : State) (formed : wellFormedState (d .n) s ≡ true) where
+  abbrev run : Run
+  run = runOf (d .n) s
 
-  module _ (s : State) (formed : wellFormedState (d .n) s ≡ true) (a : Attempt) where
-    abbrev run : Run
-    run = runOf (d .n) s
+  -- the state after one giant step
+  abbrev pub stepped : State
+  stepped = step (d .n) (rowsOf d tables) s
 
-    fine : outcome (stateChecks d run) ≡ Taken
-    unfolding runOf
-    fine = let k = accepted d tables acc in sym (take-state d run (run-of-formed (d .n) s (k .n-least) (k .n-most) formed) refl)
+  pub fine : outcome (stateChecks d run) ≡ Taken
+  unfolding runOf
+  fine = let k = accepted d tables acc in sym (take-state d run (run-of-formed (d .n) s (k .n-least) (k .n-most) formed) refl)
 
-    back : judged d tables (circuitWords d) run (a .bytes) (a .wires) ≡ Refused Wires
-        → applied d tables (circuitWords d) run (a .bytes) (a .wires) ≡ turnedBack run Wires
-    back e = sym (refused d tables (circuitWords d) run (a .bytes) (a .wires) Wires e (turnedBack run Wires) refl .0)
+  module _ (again further : Run → List Repeat) where
+    -- what comes of it, by whether the attempt is long enough
+    abbrev pub comes : Bool → List Repeat
+    comes long = cond long (returned (d .n) stepped ∷ cond (closed stepped) [] (further (runOf (d .n) stepped))) (again run)
 
-    pub attempt-is : applied d tables (circuitWords d) run (a .bytes) (a .wires) ≡ attempted s (longEnough d a)
-    attempt-is =
-        on (leb (inputWires d) (length (a .bytes)))
+    lent-is : (bytes wires : List ℕ) (handed : ℕ) → comesOf (attempted d tables run (Lent bytes wires handed)) again further ≡ comes (longEnough d (Lent bytes wires handed))
+    lent-is bytes wires handed =
+        on (leb (inputWires d) (length bytes))
         (λ p.
-        let room = leb-true (inputWires d) (length (a .bytes)) p in
-        on (leb (inputWires d + length (gatesOn d)) (length (a .wires)))
+        let room = leb-true (inputWires d) (length bytes) p in
+        on (leb (inputWires d + length (gatesOn d)) (length wires))
         (λ q.
-        next-is d tables acc run fine (a .bytes) (a .wires) room (leb-true _ _ q)
-        ∙ ap (λ (x : State). attempted x true) (state-back (d .n) s) ∙ rw (p, q))
-        (λ q. back (few-wires d tables acc run fine (a .bytes) (a .wires) room (leb-false _ _ q)) ∙ rw (p, q)))
-        (λ p. back (few-bytes d tables acc run fine (a .bytes) (a .wires) (leb-false _ _ p)) ∙ rw p)
+        let space = leb-true (inputWires d + length (gatesOn d)) (length wires) q in
+        on (leb (stateWires (d .n)) handed)
+        (λ r. to (next-is d tables acc run fine bytes wires room space handed (leb-true _ _ r) ∙ ap taken (state-back (d .n) s)) ∙ rw (p, q, r))
+        (λ r. to (few-handed d tables acc run fine bytes wires room space handed (leb-false _ _ r)) ∙ rw (p, q, r)))
+        (λ q. to (back (few-wires d tables acc run fine bytes wires room (leb-false _ _ q))) ∙ rw (p, q)))
+        (λ p. to (back (few-bytes d tables acc run fine bytes wires (leb-false _ _ p))) ∙ rw p)
+      where
+        to : {x : Applied} → applied d tables (circuitWords d) run bytes wires handed ≡ x
+            → comesOf (applied d tables (circuitWords d) run bytes wires handed) again further ≡ comesOf x again further
+        to e = ap (λ (x : Applied). comesOf x again further) e
+
+        taken : State → Applied
+        taken x = let y = step (d .n) (rowsOf d tables) x in record { outcome = Taken; run = runOf (d .n) y; mark = closed y }
+
+        back : judged d tables (circuitWords d) run bytes wires ≡ Refused Wires → applied d tables (circuitWords d) run bytes wires handed ≡ turnedBack run Wires
+        back e = refused d tables (circuitWords d) run bytes wires handed Wires e
+
+    pub attempt-is : (a : Attempt) → comesOf (attempted d tables run a) again further ≡ comes (longEnough d a)
+    attempt-is (Lent bytes wires handed) = lent-is bytes wires handed
+    attempt-is (Otherwise r) = refl

@@ -1,18 +1,23 @@
 -- Demand 3: the repeats are a number of giant steps with their marks, which `Histories` gives as one equation; each part is read off it.
 -- Assumes nothing.
 use mathlib.Core.Path.{_≡_, refl, sym, ap, ap₂, _∙_}
-use mathlib.Core.Bool.{Bool, true, false, cond, true≢false, or-true}
-use mathlib.Core.List.{List}
+use mathlib.Core.Bool.{Bool, true, false, not, cond, true≢false, or-true}
+use mathlib.Core.List.{List, [], _∷_}
 use Prim.Native.Nat.{ℕ, zero, suc, min, _≤_, _<_}
 use native.Mathlib.Omega.{arith}
 use lib.Dec.{ltb}
-use lib.ListN.{length, getD}
+use lib.ListN.{length, getD, length-map}
 use borrow.Author.Tests.{eq-eqb, ne-eqb, ltb-true, ltb-false}
+use Rattle.refusals.specs.Checks.{check, outcome}
+use Rattle.refusals.specs.declared.Refusal.the-variants.{Gates}
+use Rattle.refusals.specs.declared.Outcome.the-variants.{Taken}
+use Rattle.refusals.proofs.Outcomes.{outcome-taken}
 use Rattle.words.specs.Sets.{any}
 use Rattle.words.proofs.Truth.{on}
 use Rattle.words.proofs.Last.{any-false}
 use Rattle.words.proofs.Upto.{any-i}
 use Rattle.dimensions.specs.declared.Dimensions.{Dimensions}
+use Rattle.dimensions.specs.Sizes.{sizeChecks, inputWires}
 use Rattle.tables.specs.declared.Row.{Row}
 use Rattle.tables.specs.Tables.{Tables}
 use Rattle.solver.specs.declared.Answer.{Answer}
@@ -27,27 +32,29 @@ use Rattle.verdicts.specs.Verdicts.{verdictOf}
 use Rattle.solver.specs.Entries.{Ran, runFrom, answerOf}
 use Rattle.solver.proofs.StepLaws.{fresh-well-formed}
 use Rattle.solver.proofs.RunLaws.{RunOf, run-of}
-use Rattle.gates.specs.Memory.{gatesOf}
+use Rattle.gates.specs.Memory.{accepted}
 use Rattle.wires.specs.Layout.{upto}
-use Rattle.wires.proofs.Series.{length-upto, upto-at, upto-cong}
+use Rattle.wires.proofs.Series.{upto-at, upto-cong}
 use Rattle.netlist.specs.Outputs.{closed}
 use Rattle.netlist.proofs.EveryState.{gates-carry-out}
 use Rattle.answers.specs.Printed.{answerText}
-use Rattle.bristol.specs.Text.{circuitText}
-use Rattle.repeats.specs.Repeats.{Attempt, History, circuitWords, ended, longOnes}
-use Rattle.repeats.specs.Demand3.{rowsIn, AllAccepts, historyOf, Follows, answerFor, Ends, seen, Demand3}
-use Rattle.repeats.proofs.Histories.{closed-open, open-closed, repeated, number, repeats-are}
+use Rattle.bristol.specs.Writing.{circuitChecks}
+use Rattle.bristol.proofs.Joining.{requests-join, requests-end}
+use Rattle.repeats.specs.Repeats.{Attempt, Repeat, circuitWords, marks, lastRun, ended, longOnes}
+use Rattle.repeats.specs.Demand3.{rowsIn, AllAccepts, historyOf, Follows, answerFor, answerIn, textOf, seen, Demand3}
+use Rattle.repeats.proofs.Applying.{words-third, words-accepted}
+use Rattle.repeats.proofs.Histories.{closed-open, open-closed, repeated, repeated-length, repeated-at, repeated-marks, repeated-last, number, repeats-are}
 
 -- ---- marks
 
-abbrev anyMark : List Bool → Bool
-anyMark marks = any (λ i. getD marks i false) (length marks)
+abbrev anyMark : List Bool → ℕ → Bool
+anyMark l k = any (λ i. getD l i false) k
 
-no-mark : (f : ℕ → Bool) (k : ℕ) → ((i : ℕ) → i < k → f i ≡ false) → anyMark (upto f k) ≡ false
-no-mark f k h = rw (length-upto f k) (any-false (λ i. getD (upto f k) i false) k (λ i b. upto-at f k i b ∙ h i b))
+no-mark : (f : ℕ → Bool) (k : ℕ) → ((i : ℕ) → i < k → f i ≡ false) → anyMark (upto f k) k ≡ false
+no-mark f k h = any-false (λ i. getD (upto f k) i false) k (λ i b. upto-at f k i b ∙ h i b)
 
-some-mark : (f : ℕ → Bool) (k i : ℕ) → i < k → f i ≡ true → anyMark (upto f k) ≡ true
-some-mark f k i b e = rw (length-upto f k) (any-i (λ j. getD (upto f k) j false) k i b (upto-at f k i b ∙ e))
+some-mark : (f : ℕ → Bool) (k i : ℕ) → i < k → f i ≡ true → anyMark (upto f k) k ≡ true
+some-mark f k i b e = any-i (λ j. getD (upto f k) j false) k i b (upto-at f k i b ∙ e)
 
 -- the marks that an answer has: the last one says whether it is known
 abbrev known : Verdict → Bool
@@ -93,7 +100,7 @@ module _ (d : Dimensions) (tables : ℕ → Tables) (acc : AllAccepts d tables) 
   start e = ap (λ (k : ℕ). after (d .n) rows k fresh .standing) e
 
   module _ (attempts : List Attempt) where
-    abbrev whole : History
+    abbrev whole : List Repeat
     whole = historyOf d tables budget attempts
 
     abbrev k : ℕ
@@ -102,56 +109,57 @@ module _ (d : Dimensions) (tables : ℕ → Tables) (acc : AllAccepts d tables) 
     is : whole ≡ repeated d tables fresh k
     is = repeats-are d attempts tables acc budget fresh (fresh-well-formed (d .n)) refl
 
-    marks-are : whole .marks ≡ upto mark k
-    marks-are = ap (λ (h : History). h .marks) is
+    marks-are : marks whole ≡ upto mark k
+    marks-are = ap marks is ∙ repeated-marks d tables fresh k
 
-    size : length (whole .marks) ≡ k
-    size = ap length marks-are ∙ length-upto mark k
+    size : length whole ≡ k
+    size = ap length is ∙ repeated-length d tables fresh k
 
     pub follows : Follows d tables budget whole
     follows = record {
-      run-is = ap (λ (h : History). h .run) is ∙ ap (λ (j : ℕ). runOf (d .n) (after (d .n) rows j fresh)) (sym size);
-      mark-is = λ i b. ap (λ (l : List Bool). getD l i false) marks-are ∙ upto-at mark k i (omega (arith, size));
+      each = λ i none b. ap (λ (h : List Repeat). getD h i none) is ∙ repeated-at d tables fresh k i none (omega (arith, size));
       most = omega (arith, size, law .most);
     }
 
     -- repeats that are fewer than the steps have not ended
-    unended : k < final .steps → ended budget (whole .marks) ≡ false
+    unended : k < final .steps → ended budget whole ≡ false
     unended h =
-        let e : anyMark (whole .marks) ≡ false = ap anyMark marks-are ∙ no-mark mark k (λ i b. early i (omega arith)) in
-        rw e (ne-eqb (length (whole .marks)) budget (λ q. omega (arith, size, law .most)))
+        let e : anyMark (marks whole) (length whole) ≡ false = ap₂ anyMark marks-are size ∙ no-mark mark k (λ i b. early i (omega arith)) in
+        rw e (ne-eqb (length whole) budget (λ q. omega (arith, size, law .most)))
 
-    all-steps : ended budget (whole .marks) ≡ true → k ≡ final .steps
+    all-steps : ended budget whole ≡ true → k ≡ final .steps
     all-steps e =
         on (ltb k (final .steps))
         (λ q. absurd (true≢false (sym e ∙ unended (ltb-true k (final .steps) q))))
         (λ q. omega (arith, ltb-false k (final .steps) q))
 
-    pub ends : ended budget (whole .marks) ≡ true → Ends d tables budget whole
-    unfolding answerOf runOf
-    ends e = record {
-      count-is = size ∙ all-steps e;
-      verdict-is =
-          ap (λ (x : Run). verdictOf (x .standing) (x .t))
-          (ap (λ (h : History). h .run) is ∙ ap (λ (j : ℕ). runOf (d .n) (after (d .n) rows j fresh)) (all-steps e) ∙ ap (runOf (d .n)) (sym (law .final-after)));
-    }
+    last-is : ended budget whole ≡ true → lastRun (runOf (d .n) fresh) whole ≡ runOf (d .n) (final .final)
+    last-is e =
+        ap (lastRun (runOf (d .n) fresh)) is ∙ repeated-last d tables fresh k
+        ∙ ap (runOf (d .n)) (ap (λ (j : ℕ). after (d .n) rows j fresh) (all-steps e) ∙ sym (law .final-after))
 
-    reaches : final .steps ≤ longOnes d attempts → ended budget (whole .marks) ≡ true
+    pub ends : ended budget whole ≡ true → answerIn (d .n) whole ≡ answerFor d tables budget
+    unfolding answerOf runOf
+    ends e =
+        ap₂ (λ (j : ℕ) (x : Run). record { count = j; verdict = verdictOf (x .standing) (x .t) })
+        (length-map whole (λ (r : Repeat). r .mark) ∙ size ∙ all-steps e) (last-is e)
+
+    reaches : final .steps ≤ longOnes d attempts → ended budget whole ≡ true
     reaches h =
         let e : k ≡ final .steps = omega arith in
         on (ltb (final .steps) budget)
         (λ q. go (final .steps) refl (closes (ltb-true _ _ q)) e)
-        (λ q. rw (eq-eqb (length (whole .marks)) budget (omega (arith, size, law .most, ltb-false (final .steps) budget q))) (or-true (anyMark (whole .marks))))
+        (λ q. rw (eq-eqb (length whole) budget (omega (arith, size, law .most, ltb-false (final .steps) budget q))) (or-true (anyMark (marks whole) (length whole))))
       where
-        go : (j : ℕ) → final .steps ≡ j → closed (final .final) ≡ true → k ≡ final .steps → ended budget (whole .marks) ≡ true
+        go : (j : ℕ) → final .steps ≡ j → closed (final .final) ≡ true → k ≡ final .steps → ended budget whole ≡ true
         go zero q c e = absurd (true≢false (sym c ∙ open-closed (ap (λ (s : State). s .standing) (law .final-after) ∙ start q)))
-        go (suc i) q c e = rw (ap anyMark marks-are ∙ some-mark mark k i (omega arith) (last-mark i (sym q) ∙ c))
+        go (suc i) q c e = rw (ap₂ anyMark marks-are size ∙ some-mark mark k i (omega arith) (last-mark i (sym q) ∙ c))
 
-    pub reached : answerFor d tables budget .count ≤ longOnes d attempts → ended budget (whole .marks) ≡ true
+    pub reached : answerFor d tables budget .count ≤ longOnes d attempts → ended budget whole ≡ true
     unfolding answerOf
     reached h = reaches h
 
-    marks-by : ended budget (whole .marks) ≡ true → whole .marks ≡ upto (markBy (answerFor d tables budget)) (answerFor d tables budget .count)
+    marks-by : ended budget whole ≡ true → marks whole ≡ upto (markBy (answerFor d tables budget)) (answerFor d tables budget .count)
     unfolding answerOf
     marks-by e =
         marks-are ∙ ap (upto mark) (all-steps e)
@@ -161,17 +169,31 @@ module _ (d : Dimensions) (tables : ℕ → Tables) (acc : AllAccepts d tables) 
         (λ q. early i (ltb-true _ _ q) ∙ rw q)
         (λ q. last-mark i (omega (arith, ltb-false (suc i) (final .steps) q)) ∙ known-closed (final .final .standing) (final .final .t) ∙ rw q))
 
--- what is seen goes by the answer alone
+    -- what is seen goes by the answer alone
+    shown : ended budget whole ≡ true → let a = answerFor d tables budget in
+        seen d tables budget attempts ≡ (textOf d, a .count, upto (markBy a) (a .count), answerText (min (d .n) 32) a)
+    shown e =
+        let a = answerFor d tables budget in
+        ap (λ (j : ℕ). (textOf d, j, marks whole, answerText (min (d .n) 32) (answerIn (d .n) whole)))
+        (sym (length-map whole (λ (r : Repeat). r .mark)) ∙ ap (λ (x : Answer). x .count) (ends e))
+        ∙ ap₂ (λ (l : List Bool) (x : Answer). (textOf d, a .count, l, answerText (min (d .n) 32) x)) (marks-by e) (ends e)
+
 same-seen : (d : Dimensions) (tables tables′ : ℕ → Tables) → AllAccepts d tables → AllAccepts d tables′
     → (budget : ℕ) (attempts attempts′ : List Attempt)
     → answerFor d tables budget ≡ answerFor d tables′ budget
-    → ended budget (historyOf d tables budget attempts .marks) ≡ true → ended budget (historyOf d tables′ budget attempts′ .marks) ≡ true
+    → ended budget (historyOf d tables budget attempts) ≡ true → ended budget (historyOf d tables′ budget attempts′) ≡ true
     → seen d tables budget attempts ≡ seen d tables′ budget attempts′
 same-seen d tables tables′ acc acc′ budget attempts attempts′ q e e′ =
-    ap₂ (λ (m : List Bool) (a : Answer). (circuitText d (gatesOf (circuitWords d)), length m, m, answerText (min (d .n) 32) a))
-    (marks-by d tables acc budget attempts e ∙ ap (λ (a : Answer). upto (markBy a) (a .count)) q
-    ∙ sym (marks-by d tables′ acc′ budget attempts′ e′))
-    q
+    shown d tables acc budget attempts e
+    ∙ ap (λ (a : Answer). (textOf d, a .count, upto (markBy a) (a .count), answerText (min (d .n) 32) a)) q
+    ∙ sym (shown d tables′ acc′ budget attempts′ e′)
+
+-- ---- the text
+
+-- the writer takes the circuit's words
+writer-takes : (d : Dimensions) → outcome (sizeChecks (d .n) (d .left) (d .right)) ≡ Taken → outcome (circuitChecks d (circuitWords d)) ≡ Taken
+writer-takes d e =
+    outcome-taken (sizeChecks (d .n) (d .left) (d .right)) (check (not (accepted (inputWires d) (circuitWords d))) Gates ∷ []) e ∙ rw (words-accepted d)
 
 pub demand3 : (d : Dimensions) → Demand3 d
 unfolding circuitWords
@@ -179,5 +201,9 @@ demand3 d = record {
   every-state = gates-carry-out d;
   history = λ tables acc budget attempts. follows d tables acc budget attempts;
   end = λ tables acc budget attempts. (ends d tables acc budget attempts, reached d tables acc budget attempts);
+  text = λ e lent room k h. (
+    requests-join d (circuitWords d) (writer-takes d e) lent room k (omega (arith, words-third d)),
+    requests-end d (circuitWords d) (writer-takes d e) lent room k (omega (arith, words-third d)) .0,
+  );
   secrecy = λ tables tables′ acc acc′ budget attempts attempts′. same-seen d tables tables′ acc acc′ budget attempts attempts′;
 }

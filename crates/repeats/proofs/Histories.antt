@@ -1,11 +1,13 @@
--- Any list of attempts from an open state: as many repeats as there are attempts with long enough buffers, at most as many as the budgeted run takes steps,
+-- Any list of attempts from an open state: as many repeats as there are long enough attempts, at most as many as the budgeted run takes steps,
 -- each a giant step with its mark. By induction on the attempts.
 -- Assumes nothing.
 use mathlib.Core.Path.{_≡_, refl, sym, ap, _∙_}
 use mathlib.Core.Bool.{Bool, true, false, cond, true≢false}
 use mathlib.Core.List.{List, [], _∷_}
-use Prim.Native.Nat.{ℕ, zero, suc, min}
+use Prim.Native.Nat.{ℕ, zero, suc, min, _<_}
+use native.Mathlib.Nat.{le-of-suc-le-suc, not-suc-le-zero}
 use native.Mathlib.Omega.{arith}
+use lib.ListN.{length, getD}
 use Rattle.dimensions.specs.declared.Dimensions.{Dimensions}
 use Rattle.tables.specs.declared.Row.{Row}
 use Rattle.tables.specs.Tables.{Tables}
@@ -18,10 +20,9 @@ use Rattle.state.specs.WellFormed.{wellFormedState}
 use Rattle.solver.proofs.StepLaws.{step-well-formed}
 use Rattle.wires.specs.Layout.{upto}
 use Rattle.netlist.specs.Outputs.{closed}
-use Rattle.repeats.specs.declared.Applied.{Applied}
-use Rattle.repeats.specs.Repeats.{Attempt, History, laterTables, marked, noRepeat, comesOf, repeats, longEnough, longOnes}
-use Rattle.repeats.specs.Demand3.{rowsIn, AllAccepts}
-use Rattle.repeats.proofs.Applying.{attempted, attempt-is}
+use Rattle.repeats.specs.Repeats.{Attempt, Repeat, marks, lastRun, laterTables, repeats, longEnough, longOnes}
+use Rattle.repeats.specs.Demand3.{rowsIn, returned, AllAccepts}
+use Rattle.repeats.proofs.Applying.{comes, attempt-is}
 
 -- ---- closed states and the budgeted run
 
@@ -59,20 +60,43 @@ module _ (n : ℕ) (rows : ℕ → List Row) where
 -- ---- the attempts
 
 module _ (d : Dimensions) where
+  -- the first step
+  abbrev first : (ℕ → Tables) → State → State
+  first tables s = step (d .n) (rowsIn d tables 0) s
+
   -- k repeats from a state
-  abbrev pub repeated : (ℕ → Tables) → State → ℕ → History
-  repeated tables s k = record { run = runOf (d .n) (after (d .n) (rowsIn d tables) k s); marks = upto (λ i. closed (after (d .n) (rowsIn d tables) (suc i) s)) k }
+  unfoldable pub repeated : (ℕ → Tables) → State → ℕ → List Repeat
+  repeated tables s zero = []
+  repeated tables s (suc k) = returned (d .n) (first tables s) ∷ repeated (laterTables tables) (first tables s) k
+
+  pub repeated-length : (tables : ℕ → Tables) (s : State) (k : ℕ) → length (repeated tables s k) ≡ k
+  unfolding repeated
+  repeated-length tables s zero = refl
+  repeated-length tables s (suc k) = ap suc (repeated-length (laterTables tables) (first tables s) k)
+
+  pub repeated-at : (tables : ℕ → Tables) (s : State) (k i : ℕ) (none : Repeat) → i < k
+      → getD (repeated tables s k) i none ≡ returned (d .n) (after (d .n) (rowsIn d tables) (suc i) s)
+  unfolding repeated after
+  repeated-at tables s zero i none h = absurd (not-suc-le-zero h)
+  repeated-at tables s (suc k) zero none h = refl
+  repeated-at tables s (suc k) (suc i) none h = repeated-at (laterTables tables) (first tables s) k i none (le-of-suc-le-suc h)
+
+  pub repeated-marks : (tables : ℕ → Tables) (s : State) (k : ℕ) → marks (repeated tables s k) ≡ upto (λ i. closed (after (d .n) (rowsIn d tables) (suc i) s)) k
+  unfolding repeated after upto
+  repeated-marks tables s zero = refl
+  repeated-marks tables s (suc k) = ap (λ (l : List Bool). closed (first tables s) ∷ l) (repeated-marks (laterTables tables) (first tables s) k)
+
+  pub repeated-last : (tables : ℕ → Tables) (s : State) (k : ℕ) → lastRun (runOf (d .n) s) (repeated tables s k) ≡ runOf (d .n) (after (d .n) (rowsIn d tables) k s)
+  unfolding repeated after lastRun
+  repeated-last tables s zero = refl
+  repeated-last tables s (suc k) = repeated-last (laterTables tables) (first tables s) k
 
   -- how many there are
   abbrev pub number : (ℕ → Tables) → List Attempt → ℕ → State → ℕ
   number tables attempts budget s = min (longOnes d attempts) (runFrom (d .n) (rowsIn d tables) budget s .steps)
 
-  -- what comes of an attempt
-  abbrev afterwards : (ℕ → Tables) → ℕ → List Attempt → Applied → History
-  afterwards tables rest more r = comesOf r (λ next. repeats d tables (suc rest) next more) (λ next. repeats d (laterTables tables) rest next more)
-
-  none : (tables : ℕ → Tables) (s : State) (k : ℕ) → k ≡ 0 → noRepeat (runOf (d .n) s) ≡ repeated tables s k
-  unfolding after upto
+  none : (tables : ℕ → Tables) (s : State) (k : ℕ) → k ≡ 0 → [] ≡ repeated tables s k
+  unfolding repeated
   none tables s k e = ap (repeated tables s) (sym e)
 
   no-budget : (tables : ℕ → Tables) (attempts : List Attempt) (s : State) → number tables attempts zero s ≡ 0
@@ -80,29 +104,23 @@ module _ (d : Dimensions) where
   no-budget tables attempts s = omega arith
 
   -- a repeat at an open state: it is the last, or the later ones follow
-  repeat : (tables : ℕ → Tables) (more : List Attempt) (rest : ℕ) (s : State) → s .standing ≡ Open → (next : State) → next ≡ step (d .n) (rowsIn d tables 0) s
-      → (next .standing ≡ Open → repeats d (laterTables tables) rest (runOf (d .n) next) more ≡ repeated (laterTables tables) next (number (laterTables tables) more rest next))
-      → (c : Bool) → closed next ≡ c
-      → marked c (cond c (noRepeat (runOf (d .n) next)) (repeats d (laterTables tables) rest (runOf (d .n) next) more))
+  repeat : (tables : ℕ → Tables) (more : List Attempt) (rest : ℕ) (s : State) → s .standing ≡ Open
+      → (first tables s .standing ≡ Open → repeats d (laterTables tables) rest (runOf (d .n) (first tables s)) more
+      ≡ repeated (laterTables tables) (first tables s) (number (laterTables tables) more rest (first tables s)))
+      → (c : Bool) → closed (first tables s) ≡ c
+      → returned (d .n) (first tables s) ∷ cond c [] (repeats d (laterTables tables) rest (runOf (d .n) (first tables s)) more)
       ≡ repeated tables s (min (suc (longOnes d more)) (runFrom (d .n) (rowsIn d tables) (suc rest) s .steps))
-  unfolding after upto
-  repeat tables more rest s o next q h true e =
+  unfolding repeated
+  repeat tables more rest s o h true e =
       let rows = rowsIn d tables in
       let k : min (suc (longOnes d more)) (runFrom (d .n) rows (suc rest) s .steps) ≡ 1 =
-      omega (arith, steps-open (d .n) rows rest s o, ap (λ (x : State). runFrom (d .n) (later rows) rest x .steps) q, steps-closed (d .n) (later rows) rest next e) in
-      ap (λ (m : Bool). record { run = runOf (d .n) next; marks = m ∷ [] }) (sym e)
-      ∙ ap (λ (x : State). record { run = runOf (d .n) x; marks = closed x ∷ [] }) q ∙ ap (repeated tables s) (sym k)
-  repeat tables more rest s o next q h false e =
+      omega (arith, steps-open (d .n) rows rest s o, steps-closed (d .n) (later rows) rest (first tables s) e) in
+      ap (repeated tables s) (sym k)
+  repeat tables more rest s o h false e =
       let rows = rowsIn d tables in
-      let k : min (suc (longOnes d more)) (runFrom (d .n) rows (suc rest) s .steps) ≡ suc (number (laterTables tables) more rest next) =
-      omega (arith, steps-open (d .n) rows rest s o, ap (λ (x : State). runFrom (d .n) (later rows) rest x .steps) q) in
-      ap (marked false) (h (closed-open (next .standing) e))
-      ∙ ap (λ (m : Bool). marked m (repeated (laterTables tables) next (number (laterTables tables) more rest next))) (sym e)
-      ∙ ap (λ (x : State). marked (closed x) (repeated (laterTables tables) x (number (laterTables tables) more rest next))) q ∙ ap (repeated tables s) (sym k)
-
-  -- the first step
-  abbrev first : (ℕ → Tables) → State → State
-  first tables s = step (d .n) (rowsIn d tables 0) s
+      let k : min (suc (longOnes d more)) (runFrom (d .n) rows (suc rest) s .steps) ≡ suc (number (laterTables tables) more rest (first tables s)) =
+      omega (arith, steps-open (d .n) rows rest s o) in
+      ap (λ (l : List Repeat). returned (d .n) (first tables s) ∷ l) (h (closed-open (first tables s .standing) e)) ∙ ap (repeated tables s) (sym k)
 
   pub repeats-are : (attempts : List Attempt) (tables : ℕ → Tables) → AllAccepts d tables → (budget : ℕ) (s : State) → wellFormedState (d .n) s ≡ true → s .standing ≡ Open
       → repeats d tables budget (runOf (d .n) s) attempts ≡ repeated tables s (number tables attempts budget s)
@@ -110,14 +128,14 @@ module _ (d : Dimensions) where
   repeats-are [] tables acc budget s w o = none tables s _ (omega arith)
   repeats-are (a ∷ more) tables acc zero s w o = none tables s _ (no-budget tables (a ∷ more) s)
   repeats-are (a ∷ more) tables acc (suc rest) s w o =
-      ap (afterwards tables rest more) (attempt-is d (tables 0) (acc 0) s w a)
+      attempt-is d (tables 0) (acc 0) s w (λ next. repeats d tables (suc rest) next more) (λ next. repeats d (laterTables tables) rest next more) a
       ∙ go (repeats-are more tables acc (suc rest) s w o)
       (λ h. repeats-are more (laterTables tables) (λ i. acc (suc i)) rest (first tables s) (step-well-formed (d .n) (rowsIn d tables 0) s w) h) (longEnough d a)
     where
       go : repeats d tables (suc rest) (runOf (d .n) s) more ≡ repeated tables s (number tables more (suc rest) s)
           → (first tables s .standing ≡ Open
           → repeats d (laterTables tables) rest (runOf (d .n) (first tables s)) more ≡ repeated (laterTables tables) (first tables s) (number (laterTables tables) more rest (first tables s)))
-          → (long : Bool) → afterwards tables rest more (attempted d (tables 0) (acc 0) s long)
+          → (long : Bool) → comes d (tables 0) (acc 0) s w (λ next. repeats d tables (suc rest) next more) (λ next. repeats d (laterTables tables) rest next more) long
           ≡ repeated tables s (min (cond long (suc (longOnes d more)) (longOnes d more)) (runFrom (d .n) (rowsIn d tables) (suc rest) s .steps))
-      go same further true = repeat tables more rest s o (first tables s) refl further (closed (first tables s)) refl
+      go same further true = repeat tables more rest s o further (closed (first tables s)) refl
       go same further false = same

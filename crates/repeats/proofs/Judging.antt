@@ -1,19 +1,21 @@
 -- What an application gives by what packing and evaluation say: each from the order of the checks. What was packed is bits, so only gates and room are left to judge.
 -- Assumes nothing.
 use mathlib.Core.Path.{_≡_, refl, sym, ap, ap₂, _∙_}
-use mathlib.Core.Bool.{Bool, true, false}
+use mathlib.Core.Bool.{Bool, true, not}
 use mathlib.Core.List.{List}
 use Prim.Native.Nat.{ℕ, _+_, _*_, _-_, _/_, _≤_, _<_}
 use native.Mathlib.Nat.{mul-le-mul}
 use native.Mathlib.Omega.{arith}
-use lib.Dec.{eqb}
-use lib.ListN.{length, getD, take, drop, length-drop, length-map}
-use lib.Seq.{length-take-le}
-use Rattle.refusals.specs.Checks.{outcome}
+use lib.Dec.{ltb}
+use borrow.Author.Tests.{ltb-false}
+use lib.ListN.{length, take, drop, length-map}
+use lib.Seq.{take-take}
+use Rattle.refusals.specs.Checks.{outcome, given}
+use Rattle.refusals.specs.declared.Outcome.{Outcome}
 use Rattle.refusals.specs.declared.Outcome.the-variants.{Taken, Refused}
 use Rattle.refusals.specs.declared.Refusal.{Refusal}
 use Rattle.refusals.specs.declared.Refusal.the-variants.{Gates, Wires}
-use Rattle.refusals.proofs.Outcomes.{outcome-taken, outcome-refused}
+use Rattle.refusals.proofs.Outcomes.{outcome-taken, outcome-refused, check-passed, checks-taken, refused-taken}
 use Rattle.words.specs.Booleans.{digit}
 use Rattle.dimensions.specs.declared.Dimensions.{Dimensions}
 use Rattle.dimensions.specs.Sizes.{rowCount, stateWires, inputWires}
@@ -27,14 +29,12 @@ use Rattle.gates.specs.Memory.{accepted, gatesOf, bitsOf, bytesOf, over}
 use Rattle.two_pass.specs.Evaluation.{checks, filled}
 use Rattle.gates.proofs.InMemory.{bits-bytes, bitsOf-bytesOf}
 use Rattle.two_pass.proofs.Evaluation as Evaluation
-use Rattle.wires.specs.Packing.{inputBits, packChecks, packed}
+use Rattle.wires.specs.Packing.{inputBits, packChecks}
 use Rattle.wires.proofs.Lengths.{input-length}
-use Rattle.wires.proofs.Checks.{packed-front}
-use Rattle.readback.specs.declared.Read.{Read}
+use Rattle.wires.proofs.Checks.{Passed, passed, packed-front}
 use Rattle.readback.specs.Reading.{readBack}
 use Rattle.netlist.specs.Outputs.{outputsIn}
-use Rattle.repeats.specs.declared.Applied.{Applied}
-use Rattle.repeats.specs.Application.{turnedBack, nextRun, inputs, judged, bytesAfter, wiresAfter, applied}
+use Rattle.repeats.specs.Application.{Applied, turnedBack, nextRun, inputs, judged, wiresAfter, applied}
 
 -- behind a state's wires there is room for the closing one: a row of each station has two wires at least
 pub outputs-fit : (d : Dimensions) (tables : Tables) → Accepted d tables → stateWires (d .n) + 4 ≤ inputWires d
@@ -44,11 +44,9 @@ outputs-fit d tables a =
 module _ (d : Dimensions) (tables : Tables) (gates : List ℕ) (run : Run) (bytes wires : List ℕ) where
   -- ---- refused
 
-  pub refused : (r : Refusal) → judged d tables gates run bytes wires ≡ Refused r → (x : Applied) → x ≡ turnedBack run r
-      → (x ≡ applied d tables gates run bytes wires)
-      × ((bytes ≡ bytesAfter d tables gates run bytes wires) × (wires ≡ wiresAfter d tables gates run bytes wires))
-  unfolding applied bytesAfter wiresAfter
-  refused r e x q = rw e (q, (refl, refl))
+  pub refused : (handed : ℕ) (r : Refusal) → judged d tables gates run bytes wires ≡ Refused r → applied d tables gates run bytes wires handed ≡ turnedBack run r
+  unfolding applied
+  refused handed r e = rw e
 
   pub refuse-packing : (r : Refusal) → outcome (packChecks d tables run (length bytes)) ≡ Refused r → judged d tables gates run bytes wires ≡ Refused r
   unfolding judged
@@ -70,11 +68,6 @@ module _ (d : Dimensions) (tables : Tables) (gates : List ℕ) (run : Run) (byte
     unfolding judged
     evaluation-decides = outcome-taken (packChecks d tables run (length bytes)) (checks gates (inputs d tables run bytes) wires) e
 
-    pub refuse-gates : accepted (inputWires d) gates ≡ false → judged d tables gates run bytes wires ≡ Refused Gates
-    refuse-gates a =
-        evaluation-decides
-        ∙ sym (Evaluation.no-gates gates (inputs d tables run bytes) wires (ap (λ (k : ℕ). accepted k gates) inputs-length ∙ a) .0)
-
     module _ (a : accepted (inputWires d) gates ≡ true) where
       good : accepted (length (inputs d tables run bytes)) gates ≡ true
       good = ap (λ (k : ℕ). accepted k gates) inputs-length ∙ a
@@ -93,37 +86,54 @@ module _ (d : Dimensions) (tables : Tables) (gates : List ℕ) (run : Run) (byte
         take-all = evaluation-decides ∙ sym (evaluated .0)
 
         pub wires-then : wiresAfter d tables gates run bytes wires ≡ over (bytesOf (wiresOf bits (gatesOf gates))) wires
-        unfolding wiresAfter
         wires-then =
-            rw take-all
-            (sym (evaluated .1)
-            ∙ ap (λ (w : List Bool). over (bytesOf (wiresOf w (gatesOf gates))) wires) (ap bitsOf inputs-are ∙ bitsOf-bytesOf bits))
+            sym (evaluated .1)
+            ∙ ap (λ (w : List Bool). over (bytesOf (wiresOf w (gatesOf gates))) wires) (ap bitsOf inputs-are ∙ bitsOf-bytesOf bits)
 
-  -- ---- taken
+-- ---- taken
 
-  pub taken : judged d tables gates run bytes wires ≡ Taken
-      → (b w : List ℕ) → b ≡ packed d tables run bytes → w ≡ filled gates (take (inputWires d) b) wires
-      → (x : Applied) → x ≡ nextRun (d .n) run (outputsIn d gates w)
-      → (x ≡ applied d tables gates run bytes wires)
-      × ((b ≡ bytesAfter d tables gates run bytes wires) × (w ≡ wiresAfter d tables gates run bytes wires))
-  unfolding applied bytesAfter wiresAfter
-  taken t b w p q x r =
-      let v : w ≡ filled gates (inputs d tables run bytes) wires = q ∙ ap (λ (l : List ℕ). filled gates (take (inputWires d) l) wires) p in
-      rw t (r ∙ ap (λ (l : List ℕ). nextRun (d .n) run (outputsIn d gates l)) v, (p, v))
+-- what is known of an application that is not turned back
+pub record Taking (d : Dimensions) (tables : Tables) (gates : List ℕ) (run : Run) (bytes wires : List ℕ) (handed : ℕ) : Type 0 where
+  pub packs : Passed d tables run (length bytes)
+  pub room : inputWires d + length gates / 3 ≤ length wires
+  pub run-is : readBack (d .n) (take handed (outputsIn d gates (wiresAfter d tables gates run bytes wires))) .run ≡ applied d tables gates run bytes wires handed .run
 
--- ---- reading the outputs
+-- what is taken at the end was not refused on the way
+not-refused : (o : Outcome) (x : Applied) (run : Run) → given o x (turnedBack run) .outcome ≡ Taken → x .run ≡ given o x (turnedBack run) .run
+not-refused Taken x run e = refl
+not-refused (Refused r) x run e = absurd (refused-taken e)
 
-module _ (n : ℕ) (run : Run) (outputs : List ℕ) (x : Read) (e : x ≡ readBack n outputs) where
-  pub no-run : (r : Refusal) → x .outcome ≡ Refused r → turnedBack run r ≡ nextRun n run outputs
+module _ (d : Dimensions) (tables : Tables) (gates : List ℕ) (run : Run) (bytes wires : List ℕ) (handed : ℕ) where
+  abbrev outputs : List ℕ
+  outputs = outputsIn d gates (wiresAfter d tables gates run bytes wires)
+
+  read-run : nextRun (d .n) run handed outputs .outcome ≡ Taken → readBack (d .n) (take handed outputs) .run ≡ nextRun (d .n) run handed outputs .run
   unfolding nextRun
-  no-run r q = rw (sym (ap (λ (y : Read). y .outcome) e) ∙ q)
+  read-run e = not-refused (readBack (d .n) (take handed outputs) .outcome) _ run e
 
-  pub a-run : x .outcome ≡ Taken → (k : ℕ) → k ≡ stateWires n
-      → _≡_ {A = Applied} (record { outcome = Taken; run = x .run; mark = eqb (getD outputs k 0) 1 }) (nextRun n run outputs)
-  unfolding nextRun
-  a-run q k h =
-      ap₂ (λ (y : Read) (j : ℕ). record { outcome = Taken; run = y .run; mark = eqb (getD outputs j 0) 1 }) e h
-      ∙ rw (sym (ap (λ (y : Read). y .outcome) e) ∙ q)
+  evaluated-next : judged d tables gates run bytes wires ≡ Taken → applied d tables gates run bytes wires handed ≡ nextRun (d .n) run handed outputs
+  unfolding applied
+  evaluated-next q = ap (λ (o : Outcome). given o (nextRun (d .n) run handed outputs) (turnedBack run)) q
+
+  wires-room : outcome (packChecks d tables run (length bytes)) ≡ Taken → judged d tables gates run bytes wires ≡ Taken → inputWires d + length gates / 3 ≤ length wires
+  wires-room p t =
+      let i = inputs d tables run bytes in
+      let few = ltb (length wires) (length i + length gates / 3) in
+      let k = checks-taken (not (accepted (length i) gates)) Gates _ (sym (evaluation-decides d tables gates run bytes wires p) ∙ t) in
+      omega (arith, ltb-false (length wires) (length i + length gates / 3) (check-passed few Wires _ k), inputs-length d tables gates run bytes wires p)
+
+  pub taken : applied d tables gates run bytes wires handed .outcome ≡ Taken → Taking d tables gates run bytes wires handed
+  taken e = go (judged d tables gates run bytes wires) refl (outcome (packChecks d tables run (length bytes))) refl
+    where
+      go : (o : Outcome) → judged d tables gates run bytes wires ≡ o → (p : Outcome) → outcome (packChecks d tables run (length bytes)) ≡ p
+          → Taking d tables gates run bytes wires handed
+      go (Refused r) q p k = absurd (refused-taken (sym (ap (λ (a : Applied). a .outcome) (refused d tables gates run bytes wires handed r q)) ∙ e))
+      go Taken q (Refused r) k = absurd (refused-taken (sym (refuse-packing d tables gates run bytes wires r k) ∙ q))
+      go Taken q Taken k = record {
+        packs = passed d tables run (length bytes) k;
+        room = wires-room k q;
+        run-is = let n = evaluated-next q in read-run (ap (λ (a : Applied). a .outcome) (sym n) ∙ e) ∙ ap (λ (a : Applied). a .run) (sym n);
+      }
 
 -- the part of the wires that is read
 module _ (d : Dimensions) (gates : List ℕ) (i k : ℕ) (p : i ≡ inputWires d) (q : k ≡ stateWires (d .n)) (fit : stateWires (d .n) + 4 ≤ inputWires d) (w : List ℕ) where
@@ -132,9 +142,6 @@ module _ (d : Dimensions) (gates : List ℕ) (i k : ℕ) (p : i ≡ inputWires d
       let many : i + length gates / 3 - (i + length gates / 3 - (k + 1)) ≡ stateWires (d .n) + 1 = omega arith in
       ap₂ (λ (m at : ℕ). take m (drop at w)) many (ap₂ (λ (x y : ℕ). x + length gates / 3 - (y + 1)) p q)
 
-  pub part-length : i + length gates / 3 ≤ length w
-      → length (take (i + length gates / 3 - (i + length gates / 3 - (k + 1))) (drop (i + length gates / 3 - (k + 1)) w)) ≡ stateWires (d .n) + 1
-  part-length h =
-      ap length outputs-part
-      ∙ length-take-le (stateWires (d .n) + 1) (drop (inputWires d + length gates / 3 - (stateWires (d .n) + 1)) w)
-      (omega (arith, length-drop (inputWires d + length gates / 3 - (stateWires (d .n) + 1)) w))
+-- all outputs are handed to the read-back
+pub all-handed : (d : Dimensions) (gates w : List ℕ) → take (stateWires (d .n) + 1) (outputsIn d gates w) ≡ outputsIn d gates w
+all-handed d gates w = take-take (stateWires (d .n) + 1) (stateWires (d .n) + 1) (drop (inputWires d + length gates / 3 - (stateWires (d .n) + 1)) w) (omega arith)

@@ -1,6 +1,6 @@
--- One application of a circuit to a run: document 01, "Circuit". Turned back by packing, 1, 2, 4, 3, 10, 12, 13, by evaluation, 9, 10, or by reading back, 12.
+-- One application of a circuit to a run: document 01, "Circuit". Turned back by packing, 1, 2, 4, 3, 10, 12, 13, by evaluation, 9, 10, or by reading back, 10, 12.
 use Prim.Native.Nat.{ℕ}
-use mathlib.Core.Bool.{false}
+use mathlib.Core.Bool.{Bool, false}
 use mathlib.Core.List.{List, _++_}
 use lib.Dec.{eqb}
 use lib.ListN.{length, getD, take}
@@ -16,16 +16,21 @@ use Rattle.two_pass.specs.Evaluation.{checks, filled}
 use Rattle.wires.specs.Packing.{packChecks, packed}
 use Rattle.readback.specs.Reading.{readBack}
 use Rattle.netlist.specs.Outputs.{outputsIn}
-use Rattle.repeats.specs.declared.Applied.{Applied}
+
+-- the next run and its mark, whether that run is closed; refused, the run as it was and no mark
+pub record Applied : Type 0 where
+  pub outcome : Outcome
+  pub run : Run
+  pub mark : Bool
 
 -- a refusal leaves the run as it was and has no mark
 abbrev pub turnedBack : Run → Refusal → Applied
 turnedBack run r = record { outcome = Refused r; run = run; mark = false }
 
--- the next run from a circuit's output wires, and its mark, the closing wire behind the state's
-unfoldable pub nextRun : ℕ → Run → List ℕ → Applied
-nextRun n run outputs =
-    let read = readBack n outputs in
+-- the next run from those of a circuit's output wires that are handed to the read-back, from the first on, and its mark, the closing wire behind the state's
+unfoldable pub nextRun : ℕ → Run → ℕ → List ℕ → Applied
+nextRun n run handed outputs =
+    let read = readBack n (take handed outputs) in
     given (read .outcome) (record { outcome = Taken; run = read .run; mark = eqb (getD outputs (stateWires n) 0) 1 }) (turnedBack run)
 
 -- the packed bytes, the evaluator's inputs
@@ -37,17 +42,11 @@ module _ (d : Dimensions) (tables : Tables) (gates : List ℕ) (run : Run) (byte
   unfoldable pub judged : Outcome
   judged = outcome (packChecks d tables run (length bytes) ++ checks gates (inputs d tables run bytes) wires)
 
-  -- the lent bytes afterwards, and so the wires: as they were, if packing or evaluation refuses; what reading back refuses leaves the packed bytes and the wires' values
-  unfoldable pub bytesAfter : List ℕ
-  unfolding judged
-  bytesAfter = given judged (packed d tables run bytes) (λ r. bytes)
+  -- the wires after packing and evaluation, where neither turns back
+  abbrev pub wiresAfter : List ℕ
+  wiresAfter = filled gates (inputs d tables run bytes) wires
 
-  -- the lent wires afterwards
-  unfoldable pub wiresAfter : List ℕ
-  unfolding judged
-  wiresAfter = given judged (filled gates (inputs d tables run bytes) wires) (λ r. wires)
-
-  -- the next run and its mark; refused, the run as it was
-  unfoldable pub applied : Applied
-  unfolding judged wiresAfter nextRun
-  applied = given judged (nextRun (d .n) run (outputsIn d gates wiresAfter)) (turnedBack run)
+  -- the next run and its mark, where so many of the output wires are handed to the read-back; refused, the run as it was
+  unfoldable pub applied : ℕ → Applied
+  unfolding judged nextRun
+  applied handed = given judged (nextRun (d .n) run handed (outputsIn d gates wiresAfter)) (turnedBack run)

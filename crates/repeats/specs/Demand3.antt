@@ -1,26 +1,30 @@
--- Demand 3, as one statement about the generated circuit of some dimensions: every state, history, end and secrecy.
-use Prim.Native.Nat.{ℕ, suc, _≤_, _<_, min}
+-- Demand 3, as one statement about the generated circuit of some dimensions: every state, history, end, text and secrecy.
+use Prim.Native.Nat.{ℕ, suc, _+_, _≤_, _<_, min}
 use mathlib.Core.Path.{_≡_}
-use mathlib.Core.Bool.{Bool, true, false}
+use mathlib.Core.Bool.{Bool, true}
 use mathlib.Core.List.{List}
 use lib.ListN.{length, getD}
 use Rattle.refusals.specs.Checks.{outcome}
 use Rattle.refusals.specs.declared.Outcome.the-variants.{Taken}
 use Rattle.dimensions.specs.declared.Dimensions.{Dimensions}
+use Rattle.dimensions.specs.Sizes.{sizeChecks}
 use Rattle.tables.specs.declared.Row.{Row}
 use Rattle.tables.specs.Tables.{Tables}
 use Rattle.tables.specs.Rows.{rowsOf}
 use Rattle.tables.specs.Acceptance.{tableChecks}
 use Rattle.solver.specs.declared.Answer.{Answer}
-use Rattle.state.specs.State.{fresh, runOf}
+use Rattle.state.specs.State.{State, fresh, runOf}
 use Rattle.solver.specs.Step.{after}
 use Rattle.verdicts.specs.Verdicts.{verdictOf}
 use Rattle.solver.specs.Entries.{answerOf}
 use Rattle.gates.specs.Memory.{gatesOf}
+use Rattle.netlist.specs.Netlist.{gatesOn}
 use Rattle.netlist.specs.Outputs.{closed, CarriesOut}
 use Rattle.answers.specs.Printed.{answerText}
 use Rattle.bristol.specs.Text.{circuitText}
-use Rattle.repeats.specs.Repeats.{Attempt, History, circuitWords, repeats, ended, longOnes}
+use Rattle.bristol.specs.declared.Written.the-variants.{Past}
+use Rattle.bristol.specs.Writing.{lineAt, written, requested}
+use Rattle.repeats.specs.Repeats.{Attempt, Repeat, circuitWords, marks, lastRun, repeats, ended, longOnes}
 
 -- ---- history
 
@@ -29,14 +33,17 @@ abbrev pub rowsIn : Dimensions → (ℕ → Tables) → ℕ → List Row
 rowsIn d tables = λ i. rowsOf d (tables i)
 
 -- the attempts from the fresh run on
-abbrev pub historyOf : Dimensions → (ℕ → Tables) → ℕ → List Attempt → History
+abbrev pub historyOf : Dimensions → (ℕ → Tables) → ℕ → List Attempt → List Repeat
 historyOf d tables budget attempts = repeats d tables budget (runOf (d .n) fresh) attempts
 
--- any lent buffers: the run is the giant step's after as many steps as there are marks, and mark i says whether the state after i + 1 steps is closed
-pub record Follows (d : Dimensions) (tables : ℕ → Tables) (budget : ℕ) (h : History) : Type 0 where
-  pub run-is : h .run ≡ runOf (d .n) (after (d .n) (rowsIn d tables) (length (h .marks)) fresh)
-  pub mark-is : (i : ℕ) → i < length (h .marks) → getD (h .marks) i false ≡ closed (after (d .n) (rowsIn d tables) (suc i) fresh)
-  pub most : length (h .marks) ≤ budget
+-- a state as a repeat returns it: its run, and as the mark whether it is closed
+abbrev pub returned : ℕ → State → Repeat
+returned n s = record { run = runOf n s; mark = closed s }
+
+-- repeat i, of at most the budget, returned the state after i + 1 giant steps
+pub record Follows (d : Dimensions) (tables : ℕ → Tables) (budget : ℕ) (h : List Repeat) : Type 0 where
+  pub each : (i : ℕ) (none : Repeat) → i < length h → getD h i none ≡ returned (d .n) (after (d .n) (rowsIn d tables) (suc i) fresh)
+  pub most : length h ≤ budget
 
 -- ---- end
 
@@ -44,18 +51,20 @@ pub record Follows (d : Dimensions) (tables : ℕ → Tables) (budget : ℕ) (h 
 abbrev pub answerFor : Dimensions → (ℕ → Tables) → ℕ → Answer
 answerFor d tables budget = answerOf (d .n) (rowsIn d tables) budget
 
--- repeats that have ended are as many as the answer counts, and verdict and model are the answer's
-pub record Ends (d : Dimensions) (tables : ℕ → Tables) (budget : ℕ) (h : History) : Type 0 where
-  pub count-is : length (h .marks) ≡ answerFor d tables budget .count
-  pub verdict-is : verdictOf (h .run .standing) (h .run .t) ≡ answerFor d tables budget .verdict
+-- the answer that repeats give: how many marks there are, and the verdict and model of the last one's run
+abbrev pub answerIn : ℕ → List Repeat → Answer
+answerIn n h = let last = lastRun (runOf n fresh) h in record { count = length (marks h); verdict = verdictOf (last .standing) (last .t) }
 
 -- ---- secrecy
 
--- what is seen of the repeats over two tables: circuit text, number of repeats, marks and printed answer
+-- the circuit's text
+abbrev pub textOf : Dimensions → List ℕ
+textOf d = circuitText d (gatesOf (circuitWords d))
+
+-- what is seen of the repeats over two tables: circuit text, number of repeats, marks and the printed answer that they give
 abbrev pub seen : Dimensions → (ℕ → Tables) → ℕ → List Attempt → List ℕ × ℕ × List Bool × List ℕ
 seen d tables budget attempts =
-    let marks = historyOf d tables budget attempts .marks in
-    (circuitText d (gatesOf (circuitWords d)), length marks, marks, answerText (min (d .n) 32) (answerFor d tables budget))
+    let h = historyOf d tables budget attempts in (textOf d, length h, marks h, answerText (min (d .n) 32) (answerIn (d .n) h))
 
 -- ---- the demand
 
@@ -71,15 +80,19 @@ AllAccepts d tables = (i : ℕ) → Accepts d (tables i)
 pub record Demand3 (d : Dimensions) : Type 0 where
   -- on the packed bytes of any tables and any well-formed state the evaluator leaves those of the state after one giant step
   pub every-state : CarriesOut d (circuitWords d)
-  -- every list of attempts, so every prefix of one
+  -- after every repeat of any list of attempts
   pub history : (tables : ℕ → Tables) → AllAccepts d tables → (budget : ℕ) (attempts : List Attempt)
       → Follows d tables budget (historyOf d tables budget attempts)
-  -- and the end is reached where as many attempts as the answer counts have long enough buffers
+  -- repeats that have ended give the run's answer; and they end where as many attempts as it counts are long enough
   pub end : (tables : ℕ → Tables) → AllAccepts d tables → (budget : ℕ) (attempts : List Attempt)
-      → (ended budget (historyOf d tables budget attempts .marks) ≡ true → Ends d tables budget (historyOf d tables budget attempts))
-      × (answerFor d tables budget .count ≤ longOnes d attempts → ended budget (historyOf d tables budget attempts .marks) ≡ true)
+      → (ended budget (historyOf d tables budget attempts) ≡ true → answerIn (d .n) (historyOf d tables budget attempts) ≡ answerFor d tables budget)
+      × (answerFor d tables budget .count ≤ longOnes d attempts → ended budget (historyOf d tables budget attempts) ≡ true)
+  -- the writer, asked for line 0, 1, 2, … with room for each, puts lines that joined are the text, and says then that it has no more
+  pub text : outcome (sizeChecks (d .n) (d .left) (d .right)) ≡ Taken
+      → (lent : ℕ → List ℕ) → ((i : ℕ) → length (lineAt d (circuitWords d) i) ≤ length (lent i)) → (k : ℕ) → 4 + length (gatesOn d) ≤ k
+      → (requested d (circuitWords d) lent 0 k ≡ textOf d) × (written d (circuitWords d) k (lent k) ≡ Past)
   -- two pairs of tables, wherever their replacements fell, under one budget that agree in verdict, model and count, each with attempts of its own
   pub secrecy : (tables tables′ : ℕ → Tables) → AllAccepts d tables → AllAccepts d tables′ → (budget : ℕ) (attempts attempts′ : List Attempt)
       → answerFor d tables budget ≡ answerFor d tables′ budget
-      → ended budget (historyOf d tables budget attempts .marks) ≡ true → ended budget (historyOf d tables′ budget attempts′ .marks) ≡ true
+      → ended budget (historyOf d tables budget attempts) ≡ true → ended budget (historyOf d tables′ budget attempts′) ≡ true
       → seen d tables budget attempts ≡ seen d tables′ budget attempts′

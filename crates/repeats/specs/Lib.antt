@@ -1,3 +1,4 @@
 pub mod Application
 pub mod Repeats
+pub mod Repeating
 pub mod Demand3

@@ -1,71 +1,77 @@
 -- The repeats of a circuit over two tables: document 01, "Circuit", second paragraph; each reads the rows as they stand when it begins (document 02, Req 06).
 use Prim.Native.Nat.{ℕ, zero, suc, _+_}
 use mathlib.Core.Bool.{Bool, false, _||_, _&&_, cond}
-use mathlib.Core.List.{List, [], _∷_}
+use mathlib.Core.List.{List, [], _∷_, map}
 use lib.Dec.{eqb, leb}
 use lib.ListN.{length, getD}
 use Rattle.refusals.specs.Checks.{given}
+use Rattle.refusals.specs.declared.Refusal.{Refusal}
 use Rattle.words.specs.Sets.{any}
 use Rattle.dimensions.specs.declared.Dimensions.{Dimensions}
-use Rattle.dimensions.specs.Sizes.{inputWires}
+use Rattle.dimensions.specs.Sizes.{stateWires, inputWires}
 use Rattle.tables.specs.Tables.{Tables}
 use Rattle.state.specs.declared.Run.{Run}
 use Rattle.gates.specs.Memory.{wordsOf}
 use Rattle.netlist.specs.Netlist.{gatesOn}
-use Rattle.repeats.specs.declared.Applied.{Applied}
-use Rattle.repeats.specs.Application.{applied}
+use Rattle.repeats.specs.Application.{Applied, turnedBack, applied}
 
 -- the generated circuit in memory: it is made from n and the row counts alone
 unfoldable pub circuitWords : Dimensions → List ℕ
 circuitWords d = wordsOf (gatesOn d)
 
--- an attempt to apply the circuit, with the buffers that the host lends
-pub record Attempt : Type 0 where
-  pub bytes : List ℕ
-  pub wires : List ℕ
+-- an attempt to apply the circuit: with the buffers that the host lends and so many of the output wires handed to the read-back, or turned back for any other cause
+pub data Attempt : Type 0 where
+  Lent : (bytes wires : List ℕ) (handed : ℕ) → Attempt
+  Otherwise : (cause : Refusal) → Attempt
 
--- what the repeats leave: the run, and the marks in order
-pub record History : Type 0 where
+-- what an attempt gives
+abbrev pub attempted : Dimensions → Tables → Run → Attempt → Applied
+attempted d tables run (Lent bytes wires handed) = applied d tables (circuitWords d) run bytes wires handed
+attempted d tables run (Otherwise refusal) = turnedBack run refusal
+
+-- a repeat: the run that it returned, and its mark
+pub record Repeat : Type 0 where
   pub run : Run
-  pub marks : List Bool
+  pub mark : Bool
 
--- a mark, and then those of the later repeats
-abbrev pub marked : Bool → History → History
-marked mark h = record { run = h .run; marks = mark ∷ h .marks }
+-- the marks in order
+abbrev pub marks : List Repeat → List Bool
+marks = map (λ (r : Repeat). r .mark)
 
--- no repeat from this run on
-abbrev pub noRepeat : Run → History
-noRepeat run = record { run = run; marks = [] }
+-- the run that the last repeat returned, or the one at the start
+unfoldable pub lastRun : Run → List Repeat → Run
+lastRun run [] = run
+lastRun run (r ∷ later) = lastRun (r .run) later
 
--- what comes of an application, where later attempts go on from a run, as they would have without it or one repeat further: turned back, it is no repeat and has no mark;
+-- what comes of an attempt, where later ones go on from a run, as they would have without it or one repeat further: turned back, it is no repeat and has no mark;
 -- the first mark that is 1 is the last
-abbrev pub comesOf : Applied → (Run → History) → (Run → History) → History
+abbrev pub comesOf : Applied → (Run → List Repeat) → (Run → List Repeat) → List Repeat
 comesOf r again further =
-    given (r .outcome)
-    (marked (r .mark) (cond (r .mark) (noRepeat (r .run)) (further (r .run))))
-    (λ refusal. again (r .run))
+    given (r .outcome) (record { run = r .run; mark = r .mark } ∷ cond (r .mark) [] (further (r .run))) (λ refusal. again (r .run))
 
 -- the tables from the second repeat on
 abbrev pub laterTables : (ℕ → Tables) → ℕ → Tables
 laterTables tables = λ i. tables (suc i)
 
 -- the attempts, from a run on, with so many repeats left; tables i are those that a repeat reads that i others precede
-unfoldable pub repeats : Dimensions → (ℕ → Tables) → ℕ → Run → List Attempt → History
+unfoldable pub repeats : Dimensions → (ℕ → Tables) → ℕ → Run → List Attempt → List Repeat
 unfolding applied circuitWords
-repeats d tables budget run [] = noRepeat run
-repeats d tables zero run (a ∷ later) = noRepeat run
+repeats d tables budget run [] = []
+repeats d tables zero run (a ∷ later) = []
 repeats d tables (suc rest) run (a ∷ later) =
-    comesOf (applied d (tables 0) (circuitWords d) run (a .bytes) (a .wires))
+    comesOf (attempted d (tables 0) run a)
     (λ next. repeats d tables (suc rest) next later)
     (λ next. repeats d (laterTables tables) rest next later)
 
 -- repeats end with a mark that is 1, or when they are as many as the budget
-abbrev pub ended : ℕ → List Bool → Bool
-ended budget marks = any (λ i. getD marks i false) (length marks) || eqb (length marks) budget
+abbrev pub ended : ℕ → List Repeat → Bool
+ended budget h = any (λ i. getD (marks h) i false) (length h) || eqb (length h) budget
 
--- buffers with room for the inputs and for all wires
+-- buffers with room for the inputs and for all wires, and all of the state's wires handed to the read-back
 abbrev pub longEnough : Dimensions → Attempt → Bool
-longEnough d a = leb (inputWires d) (length (a .bytes)) && leb (inputWires d + length (gatesOn d)) (length (a .wires))
+longEnough d (Lent bytes wires handed) =
+    leb (inputWires d) (length bytes) && leb (inputWires d + length (gatesOn d)) (length wires) && leb (stateWires (d .n)) handed
+longEnough d (Otherwise refusal) = false
 
 -- how many attempts have such buffers
 unfoldable pub longOnes : Dimensions → List Attempt → ℕ

@@ -1,81 +1,162 @@
-// One application of a circuit to a run (document 01, "Circuit"): rows and run are packed, the gates evaluated, and the next run read back.
-// Turned back: 1, 2, 4, 3, 10, 12 and 13 in packing, 9 and 10 in evaluation, 12 in reading back.
+// The circuit of some dimensions, generated and then repeated on a run (document 01, "Circuit"). Turned back: 1, 2, 4, 3, 7, 10, 12, 13.
 use dimensions::Dimensions;
 use refusals::Outcome;
 use refusals::Refusal;
+use sections::Addresses;
 use state::Run;
+use state::Standing;
 ghost use mathlib.Core.Path.{_≡_};
-ghost use Prim.Native.Nat.{_+_};
+ghost use Prim.Native.Nat.{_+_, _≤_};
 ghost use lib.ListN.{length};
-ghost use Rattle.dimensions.specs.Sizes.{stateWires};
+ghost use Rattle.refusals.specs.Checks.{outcome};
+ghost use Rattle.refusals.specs.declared.Outcome.the-variants.{Taken};
+ghost use Rattle.dimensions.specs.Sizes.{stateWires, inputWires};
 ghost use Rattle.tables.specs.Tables.{allTables};
-ghost use Rattle.repeats.specs.Application.{turnedBack, nextRun, bytesAfter, wiresAfter, applied};
+ghost use Rattle.tables.specs.Acceptance.{tableChecks};
+ghost use Rattle.state.specs.State.{stateOf};
+ghost use Rattle.state.specs.WellFormed.{stateChecks};
+ghost use Rattle.wires.specs.Packing.{packed};
+ghost use Rattle.netlist.specs.Netlist.{gatesOn};
+ghost use Rattle.netlist.specs.Outputs as Outputs;
+ghost use Rattle.repeats.specs.Application.{applied};
+ghost use Rattle.repeats.specs.Application as Application;
+ghost use Rattle.repeats.specs.Repeats.{circuitWords};
+ghost use Rattle.repeats.specs.Repeating as Repeating;
+ghost use Rattle.repeats.specs.Repeating.{repeatChecks, made, bytesLeft, wiresLeft, repeatedBy, repeated, gatesAfter, bytesAfter};
 
-// The next run and its mark, whether that run is closed; refused, the run as it was and no mark.
-pub struct Applied {
+// The run after the repeats, how many there were, and the last mark, whether that run is closed; refused, the run as it was.
+pub struct Repeated {
     pub outcome: Outcome,
     pub run: Run,
+    pub repeats: u64,
     pub mark: bool,
 }
 
-// The run as it was, and why.
-fn turned_back(run: Run, refusal: Refusal) -> Applied
-    ensures { λ r. ⌜ r ≡ turnedBack run refusal ⌝ }
+// Whether tables, so many gate words, bytes and wires, and the run allow repeats: 1, 2, 4, 3, 7, 10, 12 or 13 if not.
+fn check(
+    d: Dimensions,
+    left: &[u32],
+    right: &[u32],
+    gates: usize,
+    bytes: usize,
+    wires: usize,
+    run: Run,
+) -> Outcome
+    ensures { λ r. ⌜ r ≡ outcome (repeatChecks d (allTables (now (left .entry)) (now (right .entry))) gates bytes wires run) ⌝ }
 {
-    Applied {
-        outcome: Outcome::Refused(refusal),
-        run,
-        mark: false,
+    match tables::accept(d, left, right) {
+        Outcome::Taken => {}
+        Outcome::Refused(refusal) => return Outcome::Refused(refusal),
     }
+    if gates < 3 * d.ceiling() {
+        return Outcome::Refused(Refusal::GateBuffer);
+    }
+    let a = Addresses::of(d);
+    if (bytes < d.input_wires()) | (wires < a.wires as usize) {
+        return Outcome::Refused(Refusal::Wires);
+    }
+    state::check_state(d, run)
 }
 
-// The next run from a circuit's output wires.
-fn next_run(n: u8, run: Run, outputs: &[u8]) -> Applied
-    requires { ⌜ length (now outputs) ≡ stateWires n + 1 ⌝ }
-    ensures { λ r. ⌜ r ≡ nextRun n run (now (outputs .entry)) ⌝ }
-{
-    let read = readback::read_back(n, outputs);
-    let outcome = read.outcome;
-    let next = read.run;
-    match outcome {
-        Outcome::Taken => Applied {
-            outcome: Outcome::Taken,
-            run: next,
-            mark: outputs[outputs.len() - 1] == 1,
-        },
-        Outcome::Refused(refusal) => turned_back(run, refusal),
-    }
-}
-
-// Applies the gates to rows and run: the front of the bytes holds the inputs then, the front of the wires all wires.
-// What packing and evaluation refuse is refused before a byte is written. Only outputs that hold no run are refused after that.
-pub fn apply(
+// The next run by one application, which is not turned back: rows and run are packed, the gates evaluated, and their outputs read back.
+fn apply(
     d: Dimensions,
     left: &[u32],
     right: &[u32],
     gates: &[u32],
-    run: Run,
     bytes: &mut [u8],
     wires: &mut [u8],
-) -> Applied
-    ensures { λ r. ⌜ r ≡ applied d (allTables (now (left .entry)) (now (right .entry))) (now (gates .entry)) run (now (bytes .entry)) (now (wires .entry)) ⌝ }
-    ensures { λ _. ⌜ now (bytes .exit) ≡ bytesAfter d (allTables (now (left .entry)) (now (right .entry))) (now (gates .entry)) run (now (bytes .entry)) (now (wires .entry)) ⌝ }
-    ensures { λ _. ⌜ now (wires .exit) ≡ wiresAfter d (allTables (now (left .entry)) (now (right .entry))) (now (gates .entry)) run (now (bytes .entry)) (now (wires .entry)) ⌝ }
+    run: Run,
+) -> Run
+    requires { ⌜ applied d (allTables (now left) (now right)) (now gates) run (now bytes) (now wires) (stateWires (d .n) + 1) .outcome ≡ Taken ⌝ }
+    ensures { λ r. ⌜ r ≡ applied d (allTables (now (left .entry)) (now (right .entry))) (now (gates .entry)) run (now (bytes .entry)) (now (wires .entry)) (stateWires (d .n) + 1) .run ⌝ }
+    ensures { λ _. ⌜ now (bytes .exit) ≡ packed d (allTables (now (left .entry)) (now (right .entry))) run (now (bytes .entry)) ⌝ }
+    ensures { λ _. ⌜ now (wires .exit) ≡ Application.wiresAfter d (allTables (now (left .entry)) (now (right .entry))) (now (gates .entry)) run (now (bytes .entry)) (now (wires .entry)) ⌝ }
 {
     let inputs = d.input_wires();
-    match wires::check(d, left, right, run, bytes.len()) {
-        Outcome::Taken => {}
-        Outcome::Refused(refusal) => return turned_back(run, refusal),
-    }
-    if !gates::accepted(gates, inputs) {
-        return turned_back(run, Refusal::Gates);
-    }
-    let end = inputs + gates.len() / 3;
-    if wires.len() < end {
-        return turned_back(run, Refusal::Wires);
-    }
     wires::pack(d, left, right, run, bytes);
     evaluator::evaluate(gates, &bytes[..inputs], wires);
+    let end = inputs + gates.len() / 3;
     let start = end - (d.state_wires() + 1);
-    next_run(d.n, run, &wires[start..end])
+    let read = readback::read_back(d.n, &wires[start..end]);
+    read.run
+}
+
+// Whether the run is closed.
+fn closed(run: Run) -> bool
+    ensures { λ r. ⌜ r ≡ Outputs.closed (stateOf run) ⌝ }
+{
+    let standing = run.standing;
+    match standing {
+        Standing::Open => false,
+        Standing::Satisfied => true,
+        Standing::Refuted => true,
+    }
+}
+
+// Repeats the circuit on the run until it is closed, at most so many times.
+fn repeat_circuit(
+    d: Dimensions,
+    left: &[u32],
+    right: &[u32],
+    times: u64,
+    gates: &[u32],
+    bytes: &mut [u8],
+    wires: &mut [u8],
+    run: Run,
+) -> Repeated
+    requires { ⌜ now gates ≡ circuitWords d ⌝ }
+    requires { ⌜ outcome (tableChecks d (allTables (now left) (now right))) ≡ Taken ⌝ }
+    requires { ⌜ (inputWires d ≤ length (now bytes)) × (inputWires d + length (gatesOn d) ≤ length (now wires)) ⌝ }
+    requires { ⌜ outcome (stateChecks d run) ≡ Taken ⌝ }
+    ensures { λ r. ⌜ r ≡ repeatedBy run (made d (allTables (now (left .entry)) (now (right .entry))) times (now (bytes .entry)) (now (wires .entry)) run) ⌝ }
+    ensures { λ _. ⌜ now (bytes .exit) ≡ bytesLeft d (allTables (now (left .entry)) (now (right .entry))) (now (bytes .entry)) run (made d (allTables (now (left .entry)) (now (right .entry))) times (now (bytes .entry)) (now (wires .entry)) run) ⌝ }
+    ensures { λ _. ⌜ now (wires .exit) ≡ wiresLeft d (allTables (now (left .entry)) (now (right .entry))) (now (bytes .entry)) (now (wires .entry)) run (made d (allTables (now (left .entry)) (now (right .entry))) times (now (bytes .entry)) (now (wires .entry)) run) ⌝ }
+{
+    let mut last = run;
+    let mut repeats = 0;
+    while verdicts::goes_on(last, repeats, times) {
+        last = apply(d, left, right, gates, bytes, wires, last);
+        repeats += 1;
+    }
+    Repeated {
+        outcome: Outcome::Taken,
+        run: last,
+        repeats,
+        mark: closed(last),
+    }
+}
+
+// Generates the circuit of these dimensions into the gate words, then repeats it on the run until that is closed, at most so many times.
+// The bytes then hold the last repeat's inputs, the wires its wires. Refused, all is as it was.
+pub fn repeat(
+    d: Dimensions,
+    left: &[u32],
+    right: &[u32],
+    times: u64,
+    gates: &mut [u32],
+    bytes: &mut [u8],
+    wires: &mut [u8],
+    run: Run,
+) -> Repeated
+    ensures { λ r. ⌜ r ≡ repeated d (allTables (now (left .entry)) (now (right .entry))) times (now (gates .entry)) (now (bytes .entry)) (now (wires .entry)) run ⌝ }
+    ensures { λ _. ⌜ now (gates .exit) ≡ gatesAfter d (allTables (now (left .entry)) (now (right .entry))) times (now (gates .entry)) (now (bytes .entry)) (now (wires .entry)) run ⌝ }
+    ensures { λ _. ⌜ now (bytes .exit) ≡ bytesAfter d (allTables (now (left .entry)) (now (right .entry))) times (now (gates .entry)) (now (bytes .entry)) (now (wires .entry)) run ⌝ }
+    ensures { λ _. ⌜ now (wires .exit) ≡ Repeating.wiresAfter d (allTables (now (left .entry)) (now (right .entry))) times (now (gates .entry)) (now (bytes .entry)) (now (wires .entry)) run ⌝ }
+{
+    match check(d, left, right, gates.len(), bytes.len(), wires.len(), run) {
+        Outcome::Taken => {}
+        Outcome::Refused(refusal) => {
+            return Repeated {
+                outcome: Outcome::Refused(refusal),
+                run,
+                repeats: 0,
+                mark: false,
+            };
+        }
+    }
+    generator::generate(d, gates);
+    let a = Addresses::of(d);
+    let words = 3 * (a.wires - a.inputs) as usize;
+    repeat_circuit(d, left, right, times, &gates[..words], bytes, wires, run)
 }
