@@ -2,7 +2,7 @@
 -- Assumes nothing.
 use mathlib.Core.Path.{_≡_, sym, ap, _∙_}
 use mathlib.Core.Bool.{Bool, true, false}
-use mathlib.Core.List.{List, [], _++_, append-assoc}
+use mathlib.Core.List.{[], _++_, append-assoc}
 use Prim.Native.Nat.{ℕ, zero, suc, _+_, _-_, _*_, _≤_, _<_, zero-le}
 use native.Mathlib.Numerals.{add-one}
 use native.Mathlib.Omega.{arith}
@@ -14,12 +14,13 @@ use Rattle.lexer.specs.Spelling.{bytes}
 use Rattle.text.specs.declared.Text.{Text}
 use Rattle.text.specs.Texts.{textOf, appended}
 use Rattle.text.specs.Decimal.{decimal}
-use Rattle.text.proofs.Appending.{appended-join, appended-then, appended-text}
+use Rattle.text.specs.Refused.{refusedLine}
+use Rattle.text.proofs.Appending.{appended-join, appended-then, appended-text, composed}
 use Rattle.text.proofs.Decimals.{decimal-length, decimal-short}
 use Rattle.solver.specs.declared.Answer.{Answer}
 use Rattle.verdicts.specs.declared.Verdict.{Verdict}
 use Rattle.verdicts.specs.declared.Verdict.the-variants.{Satisfiable, Unsatisfiable, Unknown}
-use Rattle.answers.specs.Printed.{literal, literals, verdictText, answerText, refusedLine, refusalText}
+use Rattle.answers.specs.Printed.{literal, literals, verdictText, answerText, refusalText}
 
 -- what is left gives what the whole gives, when one literal is appended
 pub literals-next : (t r : Text) (n i model : ℕ) → i < n → r ≡ appended t (literal (i + 1) (bit model i))
@@ -31,23 +32,6 @@ literals-next t r n i model h e =
     ∙ appended-join t (literal (i + 1) (bit model i)) (literals (n - (i + 1)) (i + 1) model)
     ∙ ap (λ (j : ℕ). appended t (literal (i + 1) (bit model i) ++ literals (n - (i + 1)) j model)) (add-one i)
     ∙ ap (λ (j : ℕ). appended t (literals j i model)) (sym k)
-
--- three appends to the empty text, where they have room
-composed : (xs ys zs : List ℕ) (e a b c : Text) → length xs + (length ys + length zs) ≤ 256
-    → e ≡ textOf [] → a ≡ appended e xs → b ≡ appended a ys → c ≡ appended b zs → c ≡ textOf (xs ++ (ys ++ zs))
-composed xs ys zs e a b c room he ha hb hc =
-    appended-then e xs (ys ++ zs) a c ha (appended-then a ys zs b c hb hc)
-    ∙ ap (λ (t : Text). appended t (xs ++ (ys ++ zs))) he
-    ∙ appended-text [] (xs ++ (ys ++ zs)) (omega (arith, length-append xs (ys ++ zs), length-append ys zs))
-
-pub refused-composed : (r : Refusal) (e a b c : Text) → e ≡ textOf [] → a ≡ appended e (bytes "c refused ") → b ≡ appended a (decimal (numberOf r))
-    → c ≡ appended b (bytes "\n") → c ≡ textOf (refusedLine r)
-refused-composed r e a b c he ha hb hc =
-    composed (bytes "c refused ") (decimal (numberOf r)) (bytes "\n") e a b c (omega (arith, decimal-length (numberOf r))) he ha hb hc
-    ∙ ap textOf joined
-  where
-    joined : bytes "c refused " ++ (decimal (numberOf r) ++ bytes "\n") ≡ refusedLine r
-    joined = simp append-assoc
 
 pub refusal-composed : (r : Refusal) (a b : Text) → a ≡ textOf (refusedLine r) → b ≡ appended a (bytes "s UNKNOWN\n") → b ≡ textOf (refusalText r)
 unfolding refusalText

@@ -1,21 +1,17 @@
 -- The printed answer: document 01, "Programs".
 use Prim.Native.Nat.{ℕ, zero, suc, _+_}
 use mathlib.Core.Bool.{Bool, true, false}
-use mathlib.Core.List.{List, [], _∷_, _++_}
+use mathlib.Core.List.{List, [], _++_}
 use Rattle.words.specs.Sets.{bit}
-use Rattle.refusals.specs.Numbers.{numberOf}
 use Rattle.refusals.specs.declared.Refusal.{Refusal}
 use Rattle.lexer.specs.Spelling.{bytes}
 use Rattle.text.specs.Decimal.{decimal}
+use Rattle.text.specs.Refused.{line, refusedLine}
 use Rattle.solver.specs.declared.Answer.{Answer}
 use Rattle.solver.specs.declared.Solved.{Solved}
 use Rattle.solver.specs.declared.Solved.the-variants as solved
 use Rattle.verdicts.specs.declared.Verdict.{Verdict}
 use Rattle.verdicts.specs.declared.Verdict.the-variants.{Satisfiable, Unsatisfiable, Unknown}
-
--- a line ends in LF
-abbrev pub line : List ℕ → List ℕ
-line text = text ++ (10 ∷ [])
 
 -- a space, a minus for false, the variable
 abbrev pub literal : ℕ → Bool → List ℕ
@@ -37,10 +33,6 @@ verdictText n Unknown = line (bytes "s UNKNOWN")
 unfoldable pub answerText : ℕ → Answer → List ℕ
 unfolding literals
 answerText n answer = line (bytes "c steps " ++ decimal (answer .count)) ++ verdictText n (answer .verdict)
-
--- a refusal's line, all that the circuit program prints of it
-abbrev pub refusedLine : Refusal → List ℕ
-refusedLine r = line (bytes "c refused " ++ decimal (numberOf r))
 
 -- a refusal in the pair program
 unfoldable pub refusalText : Refusal → List ℕ

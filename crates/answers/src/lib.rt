@@ -7,7 +7,7 @@ ghost use mathlib.Core.Path.{_≡_};
 ghost use Prim.Native.Nat.{_+_, _≤_, min};
 ghost use Rattle.text.specs.Texts.{textOf, appended};
 ghost use Rattle.answers.specs.Printed as Printed;
-ghost use Rattle.answers.specs.Printed.{verdictText, answerText, refusedLine, refusalText};
+ghost use Rattle.answers.specs.Printed.{verdictText, answerText, refusalText};
 
 // The text with a variable more, negative where it is false.
 fn literal(text: Text, variable: u32, positive: bool) -> Text
@@ -64,19 +64,9 @@ pub fn answer_text(n: u8, given: Answer) -> Text
     }
 }
 
-// A refusal's line, which the circuit program prints alone.
-pub fn refused_line(given: Refusal) -> Text
-    ensures { λ r. ⌜ r ≡ textOf (refusedLine given) ⌝ }
-{
-    Text::empty()
-        .append(b"c refused ")
-        .decimal(refusals::number(given) as u64)
-        .append(b"\n")
-}
-
 // A refusal as the pair program prints it.
 pub fn refusal_text(given: Refusal) -> Text
     ensures { λ r. ⌜ r ≡ textOf (refusalText given) ⌝ }
 {
-    refused_line(given).append(b"s UNKNOWN\n")
+    text::refused_line(given).append(b"s UNKNOWN\n")
 }

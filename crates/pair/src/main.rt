@@ -1,4 +1,4 @@
-// The pair program: reads left.cnf, right.cnf and the budget on standard input, and prints the reply.
+// The pair program: reads left.cnf, right.cnf and the budget on standard input, each whole before the next, and prints the reply.
 use libc::STDIN_FILENO;
 use libc::STDOUT_FILENO;
 ghost use Prim.Native.Nat.{_≤_};
@@ -13,8 +13,8 @@ const SHORT: usize = 4096;
 const OVERLONG: usize = 65537;
 
 // Reads on from index `from` until buf is full or the input ends, and answers how many bytes of buf are then filled. Where a read
-// fails it answers all of buf and closes fd, so that reading on fails too: a text cut short would be another text. No file is opened
-// after a read, so the number is not given again.
+// fails it answers all of buf: a text cut short would be another text. An input that ended or failed is closed. So reading on after a
+// failure fails too, and no file has standard input's number when the line is read.
 fn fill(fd: i32, buf: &mut [u8], from: usize) -> usize
     requires { ⌜ from ≤ length (now buf) ⌝ }
     ensures { λ r. ⌜ Counts r (now (buf .exit)) ⌝ }
@@ -23,12 +23,12 @@ fn fill(fd: i32, buf: &mut [u8], from: usize) -> usize
     let mut done = from;
     while done < buf.len() {
         let got = libc::read(fd, &mut buf[done..]);
-        if got < 0 {
-            libc::close(fd);
-            return buf.len();
-        }
         let n = io::count(got, &buf[done..]);
         if n == 0 {
+            libc::close(fd);
+            if got < 0 {
+                return buf.len();
+            }
             return done;
         }
         done += n;
@@ -36,57 +36,96 @@ fn fill(fd: i32, buf: &mut [u8], from: usize) -> usize
     done
 }
 
-// Puts the start of a text into buf and, unless the text ended there, reads on as `fill` does.
+// A file that was opened, and how many bytes of it were read.
+struct Begun {
+    fd: i32,
+    length: usize,
+}
+
+// Opens a file and fills buf from it. One that does not open has the descriptor -1, of which every read fails.
+fn begin(path: &[u8], buf: &mut [u8]) -> Begun
+    ensures { λ r. ⌜ Counts (r .length) (now (buf .exit)) ⌝ }
+{
+    let fd = os::open_read(path);
+    let length = fill(fd, buf, 0);
+    Begun { fd, length }
+}
+
+// Puts the start of a text into buf and reads on as `fill` does.
 fn extend(fd: i32, start: &[u8], buf: &mut [u8]) -> usize
     requires { ⌜ length (now start) ≤ length (now buf) ⌝ }
     ensures { λ r. ⌜ Counts r (now (buf .exit)) ⌝ }
     ensures { λ _. ⌜ take (length (now (start .entry))) (now (buf .exit)) ≡ now (start .entry) ⌝ }
 {
     let n = bytes::copy(start, buf);
-    if n < SHORT {
-        return n;
-    }
     fill(fd, buf, n)
 }
 
 // Prints the reply to two texts and a line.
-fn answer(left: &[u8], right: &[u8], line: &[u8]) {
+fn print(left: &[u8], right: &[u8], line: &[u8]) {
     let text = reply::reply(left, right, line);
     let bytes = text.bytes;
     let length = text.length;
     io::write_all(STDOUT_FILENO, &bytes[..length]);
 }
 
-// Reads two texts on from their starts and prints the reply. A text that fills its buffer, as one that cannot be read does, is
-// overlong, which is 5.
-fn answer_long(left_file: i32, left: &[u8], right_file: i32, right: &[u8], line: &[u8])
-    requires { ⌜ length (now left) ≤ 4096 ⌝ }
-    requires { ⌜ length (now right) ≤ 4096 ⌝ }
-{
-    let mut left_text = [0u8; OVERLONG];
-    let mut right_text = [0u8; OVERLONG];
-    let l = extend(left_file, left, &mut left_text);
-    let r = extend(right_file, right, &mut right_text);
-    answer(&left_text[..l], &right_text[..r], line);
-}
-
-// Reads the line and both texts and prints the reply. Standard input comes first: were it closed, a file would get its number. A file
-// that does not open has the descriptor -1, of which every read fails. `answer_long` is called in two places, since a function that is
-// called in one is compiled into its caller, large buffers and all.
-fn main() {
-    let mut left = [0u8; SHORT];
-    let mut right = [0u8; SHORT];
+// Reads the line and prints the reply to it and two texts.
+fn answer(left: &[u8], right: &[u8]) {
     let mut line = [0u8; 101];
     let n = input::read_line(STDIN_FILENO, &mut line);
-    let left_file = os::open_read(b"left.cnf");
-    let right_file = os::open_read(b"right.cnf");
-    let l = fill(left_file, &mut left, 0);
-    let r = fill(right_file, &mut right, 0);
-    if l == SHORT {
-        return answer_long(left_file, &left[..l], right_file, &right[..r], &line[..n]);
+    print(left, right, &line[..n]);
+}
+
+// Reads a right text on from its start. One that fills its buffer, as one that cannot be read does, is overlong, which is 5 whatever
+// the line: it is answered at once.
+fn long_right(left: &[u8], fd: i32, start: &[u8])
+    requires { ⌜ length (now start) ≤ 4096 ⌝ }
+{
+    let mut right = [0u8; OVERLONG];
+    let n = extend(fd, start, &mut right);
+    if n == OVERLONG {
+        return print(left, &right[..n], b"");
     }
-    if r == SHORT {
-        return answer_long(left_file, &left[..l], right_file, &right[..r], &line[..n]);
+    answer(left, &right[..n]);
+}
+
+// Reads the right text, then the line.
+fn read_right(left: &[u8]) {
+    let mut right = [0u8; SHORT];
+    let begun = begin(b"right.cnf", &mut right);
+    if begun.fd < 0 {
+        return long_right(left, begun.fd, b"");
     }
-    answer(&left[..l], &right[..r], &line[..n]);
+    let n = begun.length;
+    if n == SHORT {
+        return long_right(left, begun.fd, &right[..n]);
+    }
+    answer(left, &right[..n]);
+}
+
+// Reads a left text on from its start. An overlong one is answered at once, whatever the right text and the line.
+fn long_left(fd: i32, start: &[u8])
+    requires { ⌜ length (now start) ≤ 4096 ⌝ }
+{
+    let mut left = [0u8; OVERLONG];
+    let n = extend(fd, start, &mut left);
+    if n == OVERLONG {
+        return print(&left[..n], b"", b"");
+    }
+    read_right(&left[..n]);
+}
+
+// Reads the left text, then the rest. `long_left` and `long_right` are called in two places each, since a function that is called in
+// one is compiled into its caller, large buffer and all.
+fn main() {
+    let mut left = [0u8; SHORT];
+    let begun = begin(b"left.cnf", &mut left);
+    if begun.fd < 0 {
+        return long_left(begun.fd, b"");
+    }
+    let n = begun.length;
+    if n == SHORT {
+        return long_left(begun.fd, &left[..n]);
+    }
+    read_right(&left[..n]);
 }

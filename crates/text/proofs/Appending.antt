@@ -56,6 +56,14 @@ appended-text xs (y ∷ ys) h =
     ∙ appended-text (xs ++ (y ∷ [])) ys (omega (arith, length-append xs (y ∷ [])))
     ∙ ap textOf (append-assoc xs (y ∷ []) ys)
 
+-- three appends to the empty text, where they have room
+pub composed : (xs ys zs : List ℕ) (e a b c : Text) → length xs + (length ys + length zs) ≤ 256
+    → e ≡ textOf [] → a ≡ appended e xs → b ≡ appended a ys → c ≡ appended b zs → c ≡ textOf (xs ++ (ys ++ zs))
+composed xs ys zs e a b c room he ha hb hc =
+    appended-then e xs (ys ++ zs) a c ha (appended-then a ys zs b c hb hc)
+    ∙ ap (λ (t : Text). appended t (xs ++ (ys ++ zs))) he
+    ∙ appended-text [] (xs ++ (ys ++ zs)) (omega (arith, length-append xs (ys ++ zs), length-append ys zs))
+
 -- a text by value gives back its bytes
 pub text-back : (xs : List ℕ) → take (length xs) (xs ++ replicate (256 - length xs) 0) ≡ xs
 text-back xs = take-append-seam xs (replicate (256 - length xs) 0)

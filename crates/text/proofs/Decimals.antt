@@ -73,6 +73,16 @@ decimal-short x h =
     (λ e. rw (decimal-digit x (ltb-true x 10 e)) (omega arith))
     (λ e. rw (decimal-step x (ltb-false x 10 e) (omega arith)) (rw (decimal-digit (x / 10) (omega arith)) (omega arith)))
 
+one-more : (x : ℕ) → x < 2 ^ 64 → length (decimal x) ≤ 1 + length (decimal (x / 10))
+one-more x h =
+    on (ltb x 10)
+    (λ e. rw (decimal-digit x (ltb-true x 10 e)) (omega arith))
+    (λ e. rw (decimal-step x (ltb-false x 10 e) h) (omega (arith, length-append (decimal (x / 10)) ((48 + x % 10) ∷ []))))
+
+-- below 10,000 at most four
+pub decimal-four : (x : ℕ) → x < 10000 → length (decimal x) ≤ 4
+decimal-four x h = omega (arith, one-more x (omega arith), one-more (x / 10) (omega arith), decimal-short (x / 10 / 10) (omega arith))
+
 -- ---- back from digits
 
 -- the number that digits spell, behind those of a

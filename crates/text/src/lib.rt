@@ -1,9 +1,11 @@
 // Texts of at most 256 bytes by value: what the product prints is composed in one, whole, before a byte is written out.
+use refusals::Refusal;
 ghost use mathlib.Core.Path.{_≡_};
 ghost use mathlib.Core.List.{[]};
 ghost use Prim.Native.Nat.{_+_, _<_};
 ghost use Rattle.text.specs.Decimal as Decimal;
 ghost use Rattle.text.specs.Texts.{textOf, pushed, appended};
+ghost use Rattle.text.specs.Refused.{refusedLine};
 
 // The first `length` bytes are the text.
 pub struct Text {
@@ -61,6 +63,16 @@ impl Text {
             self.decimal(x / 10).push(digit(x % 10))
         }
     }
+}
+
+// A refusal's line: all that the circuit program prints of it, and the first that the pair program does.
+pub fn refused_line(given: Refusal) -> Text
+    ensures { λ r. ⌜ r ≡ textOf (refusedLine given) ⌝ }
+{
+    Text::empty()
+        .append(b"c refused ")
+        .decimal(refusals::number(given) as u64)
+        .append(b"\n")
 }
 
 // A digit in ASCII.

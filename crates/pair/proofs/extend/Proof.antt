@@ -3,10 +3,9 @@
 use Prim.Native.Nat.{ℕ}
 use mathlib.Core.Path.{_≡_, _∙_, ap, sym}
 use mathlib.Core.List.{List, _++_}
-use lib.ListN.{length, take, drop, length-take}
+use lib.ListN.{length, take, drop}
 use lib.Seq.{take-append-seam, take-length}
 use borrow.Author.Needs.{needs}
-use native.Mathlib.Omega.{arith}
 use Rattle.pair.proofs.extend.Statement.{statement}
 use Rattle.pair.proofs.extend.Tie as tie
 
@@ -21,21 +20,18 @@ held n xs ys ws vs e h k = ap (λ m. take m vs) (sym e) ∙ k ∙ ap (λ m. take
 copy-requires : tie.Need-copy-requires
 copy-requires c κs = search needs
 
+fill-requires : tie.Need-fill-requires
+fill-requires c κs = search needs
+
 same-length : tie.Need-same-length
 same-length c = search needs
 
 returns : tie.Need-returns
-returns c = (simp length-take (omega arith), begun _ _ _ (c .before .before .before .copy .ensures .1))
-
-fill-requires : tie.Need-fill-requires
-fill-requires c κs = search needs
-
-same-length-2 : tie.Need-same-length-2
-same-length-2 c = search needs
-
-returns-2 : tie.Need-returns-2
-returns-2 c = (c .before .before .fill .ensures .0, held _ _ _ _ _ (c .before .before .before .before .before .before .before .copy .ensures .0) (c .before .before .before .before .before .before .before .copy .ensures .1) (c .before .before .fill .ensures .1))
+returns c =
+    let fill = c .before .before in
+    let copy = fill .before .before .before .before in
+    (fill .fill .ensures .0, held _ _ _ _ _ (copy .copy .ensures .0) (copy .copy .ensures .1) (fill .fill .ensures .1))
 
 pub extend-spec : {M : Type 1} → statement M
 extend-spec =
-    tie.close (tie.spec copy-requires same-length returns fill-requires same-length-2 returns-2)
+    tie.close (tie.spec copy-requires fill-requires same-length returns)

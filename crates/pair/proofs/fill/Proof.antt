@@ -35,15 +35,6 @@ part-read-end c = search needs
 read-requires : tie.Need-read-requires Inv-loop μ-loop
 read-requires c κs = search needs
 
-close-requires : tie.Need-close-requires Inv-loop μ-loop
-close-requires c κs = search needs
-
-same-length : tie.Need-same-length Inv-loop μ-loop
-same-length c = search needs
-
-returns : tie.Need-returns Inv-loop μ-loop
-returns c = (simp length-take (omega arith), kept _ _ _ _ _ (c .before .before .before .before .before .before .before .loop .inv))
-
 sub-count : tie.Need-sub-count Inv-loop μ-loop
 sub-count c = search needs
 
@@ -56,11 +47,26 @@ part-count-end c = search needs
 count-requires : tie.Need-count-requires Inv-loop μ-loop
 count-requires c κs = search needs
 
+close-requires : tie.Need-close-requires Inv-loop μ-loop
+close-requires c κs = search needs
+
+same-length : tie.Need-same-length Inv-loop μ-loop
+same-length c = search needs
+
+returns : tie.Need-returns Inv-loop μ-loop
+returns c =
+    let count = c .before .before .before in
+    let read = count .before .before .before .before .before in
+    (simp length-take (omega arith), kept _ _ _ _ _ (read .before .before .before .loop .inv))
+
 same-length-2 : tie.Need-same-length-2 Inv-loop μ-loop
 same-length-2 c = search needs
 
 returns-2 : tie.Need-returns-2 Inv-loop μ-loop
-returns-2 c = (simp length-take (omega arith), kept _ _ _ _ _ (c .before .before .before .before .before .before .before .before .before .before .loop .inv))
+returns-2 c =
+    let count = c .before .before .before in
+    let read = count .before .before .before .before .before in
+    (simp length-take (omega arith), kept _ _ _ _ _ (read .before .before .before .loop .inv))
 
 add-done : tie.Need-add-done Inv-loop μ-loop
 add-done c = search needs
@@ -69,7 +75,9 @@ loop-less : tie.Need-loop-less Inv-loop μ-loop
 loop-less c = search needs
 
 loop-again : tie.Need-loop-again Inv-loop μ-loop
-loop-again c = (search needs, search needs, search needs, kept _ _ _ _ _ (c .before .before .before .before .before .before .before .before .before .before .loop .inv))
+loop-again c =
+    let read = c .before .before .before .before .before .before in
+    (search needs, search needs, search needs, kept _ _ _ _ _ (read .before .before .before .loop .inv))
 
 same-length-3 : tie.Need-same-length-3 Inv-loop μ-loop
 same-length-3 c = search needs
@@ -88,13 +96,13 @@ fill-spec =
     part-read-start
     part-read-end
     read-requires
-    close-requires
-    same-length
-    returns
     sub-count
     part-count-start
     part-count-end
     count-requires
+    close-requires
+    same-length
+    returns
     same-length-2
     returns-2
     add-done

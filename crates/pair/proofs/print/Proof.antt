@@ -1,12 +1,12 @@
--- `answer` is safe and ends: a text's length is within its bytes.
+-- `print` is safe and ends: a text's length is within its bytes.
 -- Assumes nothing.
 use native.Mathlib.Omega.{arith}
 use lib.ListN.{length-take}
 use Rattle.text.proofs.Appending.{text-within}
 use Rattle.reply.specs.Reply.{replyText}
 use borrow.Author.Needs.{needs}
-use Rattle.pair.proofs.answer.Statement.{statement}
-use Rattle.pair.proofs.answer.Tie as tie
+use Rattle.pair.proofs.print.Statement.{statement}
+use Rattle.pair.proofs.print.Tie as tie
 
 reply-requires : tie.Need-reply-requires
 reply-requires c κs = search needs
@@ -23,8 +23,8 @@ write-all-requires c κs = search needs
 returns : tie.Need-returns
 returns c = search needs
 
-pub answer-spec : {M : Type 1} → statement M
-answer-spec =
+pub print-spec : {M : Type 1} → statement M
+print-spec =
     tie.close
     (tie.spec
     reply-requires

@@ -2,12 +2,12 @@
 -- Assumes nothing.
 use mathlib.Core.Path.{ap, _∙_}
 use Prim.Native.Nat.{ℕ}
 use Rattle.text.specs.Texts.{appended}
 use Rattle.text.specs.Decimal.{decimal}
-use Rattle.answers.proofs.Composing.{refused-composed}
+use Rattle.text.proofs.Refusals.{refused-composed}
 use borrow.Author.Needs.{needs}
-use Rattle.answers.proofs.refused_line.Statement.{statement}
-use Rattle.answers.proofs.refused_line.Tie as tie
+use Rattle.text.proofs.refused_line.Statement.{statement}
+use Rattle.text.proofs.refused_line.Tie as tie
 
 empty-requires : tie.Need-empty-requires
 empty-requires c κs = search needs
