@@ -5,14 +5,13 @@
  * calls in the order in which a host makes them, examples/host a host in C and one in Rust.
  *
  * Rules for every call
- * - A buffer is lent as a pointer and then its length, counted in elements. Give a pointer that is not null and is aligned for its
- *   type, with length 0 too. A buffer that a call writes may overlap no other buffer of the same call.
- * - The function returns 0 where the call was taken, else one number of forkhemit_refusal_number. On a refusal nothing is written
- *   (one exception: forkhemit_apply).
- * - Each call fills the front of a buffer and leaves the rest as it was. Numbers (sizes, answer, count, ..) are written as far as the
- *   buffer has room for them, from the front: a shorter buffer is no refusal.
+ * - An array, as `uint64_t sizes[4]`, is lent as a pointer: it has at least so many elements. Any other buffer is lent as a pointer and
+ *   then its length, counted in elements. Give a pointer that is not null and is aligned for its type, with length 0 too. A buffer that
+ *   a call writes may overlap no other buffer of the same call.
+ * - The function returns 0 where the call was taken, else one number of forkhemit_refusal_number. On a refusal nothing is written.
+ * - A taken call fills an array of numbers whole (a text its front), and the front of a buffer with a length; the rest stays as it was.
  * - No function keeps a pointer, allocates memory or has a state of its own: calls in several threads over different buffers are safe.
- *   forkhemit_evaluate and forkhemit_apply want about 210 KiB of the caller's stack.
+ *   forkhemit_evaluate and forkhemit_repeat want about 210 KiB of the caller's stack.
  *
  * How to read the comments: `sizes: ..` says what the buffer of that name holds after the call. The numbers at the end are the refusals
  * that the function may return, in the order in which they are judged.
@@ -30,7 +29,8 @@
 extern "C" {
 #endif
 
-/* Why a call was turned back. The lowest that applies is returned, except that 4 comes before 3, and as each function says. */
+/* Why a call was turned back. The lowest that applies is returned, except that 4 comes before 3; of two texts whatever refuses the left
+ * one, then whatever refuses the right one. In a text, a header's 1 or 2 comes before 5, and an overlong text is 5 before all else. */
 enum forkhemit_refusal_number {
     FORKHEMIT_TAKEN = 0,            /* not turned back */
     FORKHEMIT_VARIABLES = 1,        /* n outside 1 to 32 */
@@ -43,8 +43,8 @@ enum forkhemit_refusal_number {
     FORKHEMIT_NUMBER_LINE = 8,      /* malformed budget line */
     FORKHEMIT_GATES = 9,            /* words that are no gates */
     FORKHEMIT_WIRES = 10,           /* wire buffer too short, or an input byte that is not 0 or 1 */
-    FORKHEMIT_LINE_BUFFER = 11,     /* text longer than the lent bytes */
-    FORKHEMIT_STATE = 12,           /* state not well-formed, or words that can hold no run */
+    FORKHEMIT_LINE_BUFFER = 11,     /* text line longer than the lent bytes */
+    FORKHEMIT_STATE = 12,           /* state not well-formed */
     FORKHEMIT_OTHER_VARIABLES = 13, /* state made for another n */
     FORKHEMIT_NO_MODEL = 14         /* model wanted while open or refuted */
 };
@@ -56,7 +56,6 @@ enum forkhemit_refusal_number {
  *   word 2, word 3      T, the variables set true, and F, those set false
  *   word 4              depth: how many levels are used
  *   word 5 + 3 * level  T and F from before the level's choice, and the chosen variable, from 0; level from 0 to 31, unused ones zero
- * Words past these are neither read nor changed.
  */
 #define FORKHEMIT_RUN_WORDS 101
 
@@ -77,13 +76,12 @@ enum forkhemit_verdict {
 
 /* sizes: the gate ceiling, which no circuit of this size exceeds; the words that forkhemit_generate wants, three a gate of the ceiling;
  * input wires; state wires. 1, 2. */
-uint8_t forkhemit_sizes(uint64_t n, uint64_t left_rows, uint64_t right_rows, uint64_t *sizes, size_t sizes_length);
+uint8_t forkhemit_sizes(uint64_t n, uint64_t left_rows, uint64_t right_rows, uint64_t sizes[4]);
 
 /* Reads two DIMACS texts into tables. sizes: n, left rows, right rows. 512 words, 256 for each table, are enough for any texts.
- * The left text's 1, 2 or 5, then the right's, then 6, then 4 where a table has too few words for its rows. */
+ * The left text's 1, 2 or 5, then the right's, then 4 where a table has too few words for its rows, then 6. */
 uint8_t forkhemit_read_pair(const uint8_t *left_text, size_t left_text_length, const uint8_t *right_text, size_t right_text_length,
-                            uint32_t *left, size_t left_length, uint32_t *right, size_t right_length,
-                            uint64_t *sizes, size_t sizes_length);
+                            uint32_t *left, size_t left_length, uint32_t *right, size_t right_length, uint64_t sizes[3]);
 
 /* Whether the two tables are accepted: 1, 2, 4, 3. */
 uint8_t forkhemit_accept(uint64_t n, uint64_t left_rows, uint64_t right_rows,
@@ -91,52 +89,51 @@ uint8_t forkhemit_accept(uint64_t n, uint64_t left_rows, uint64_t right_rows,
 
 /* ---- runs */
 
-/* run: the fresh run of n variables. 1, then 12 where run has too few words. */
-uint8_t forkhemit_fresh(uint64_t n, uint32_t *run, size_t run_length);
+/* run: the fresh run of n variables. 1. */
+uint8_t forkhemit_fresh(uint64_t n, uint32_t run[FORKHEMIT_RUN_WORDS]);
 
 /* run: after one giant step, in place. 1, 2, 4, 3, 12, 13. */
 uint8_t forkhemit_step(uint64_t n, uint64_t left_rows, uint64_t right_rows,
                        const uint32_t *left, size_t left_length, const uint32_t *right, size_t right_length,
-                       uint32_t *run, size_t run_length);
+                       uint32_t run[FORKHEMIT_RUN_WORDS]);
 
 /* A fresh run until it closes or the budget of steps is spent; 2^(n+1) - 1 steps are always enough.
  * answer: steps taken, verdict (forkhemit_verdict), model as a word, 0 without one. 1, 2, 4, 3. */
 uint8_t forkhemit_solve(uint64_t n, uint64_t left_rows, uint64_t right_rows,
                         const uint32_t *left, size_t left_length, const uint32_t *right, size_t right_length,
-                        uint64_t budget, uint64_t *answer, size_t answer_length);
+                        uint64_t budget, uint64_t answer[3]);
 
 /* model: the variables that a satisfied run makes true, as a word. 12, 14. */
-uint8_t forkhemit_model(const uint32_t *run, size_t run_length, uint64_t *model, size_t model_length);
+uint8_t forkhemit_model(const uint32_t run[FORKHEMIT_RUN_WORDS], uint64_t model[1]);
 
 /* ---- the circuit */
 
 /* gates: the giant step's circuit, three words a gate: kind (0 XOR, 1 AND, 2 INV), first wire, second wire (0 for INV).
- * count: how many gates. The calls below take 3 * count as gates_length, not the whole buffer's. 1, 2, 7. */
+ * count: how many gates. forkhemit_evaluate and the line writers take 3 * count as gates_length, not the whole buffer's. 1, 2, 7. */
 uint8_t forkhemit_generate(uint64_t n, uint64_t left_rows, uint64_t right_rows,
-                           uint32_t *gates, size_t gates_length, uint64_t *count, size_t count_length);
+                           uint32_t *gates, size_t gates_length, uint64_t count[1]);
 
 /* bytes: left rows, right rows and run, a byte a wire: the circuit's inputs, as many as forkhemit_sizes says. 1, 2, 4, 3, 10, 12, 13. */
 uint8_t forkhemit_pack(uint64_t n, uint64_t left_rows, uint64_t right_rows,
                        const uint32_t *left, size_t left_length, const uint32_t *right, size_t right_length,
-                       const uint32_t *run, size_t run_length, uint8_t *bytes, size_t bytes_length);
+                       const uint32_t run[FORKHEMIT_RUN_WORDS], uint8_t *bytes, size_t bytes_length);
 
 /* wires: the inputs, then each gate's value, a byte each. All of inputs are inputs, and wires has room for inputs and gates. 9, 10. */
 uint8_t forkhemit_evaluate(const uint32_t *gates, size_t gates_length, const uint8_t *inputs, size_t inputs_length,
                            uint8_t *wires, size_t wires_length);
 
-/* run: the state of n variables that the front of the bytes holds, a byte a wire. 1, 10, 12 (also where run has too few words). */
-uint8_t forkhemit_read_back(uint64_t n, const uint8_t *bytes, size_t bytes_length, uint32_t *run, size_t run_length);
+/* run: the state of n variables that the front of the bytes holds, a byte a wire. 1, 10, 12. */
+uint8_t forkhemit_read_back(uint64_t n, const uint8_t *bytes, size_t bytes_length, uint32_t run[FORKHEMIT_RUN_WORDS]);
 
-/* One repeat: rows and run are packed into bytes, the gates evaluated into wires, the next run read back from the last wires, in place.
- * bytes is scratch for the inputs, wires for inputs and gates.
- * mark: 1 if that run is closed, else 0. 1, 2, 4, 3, 10, 12, 13 in packing, 9, 10 in evaluation, 12 in reading back.
- * Only where the read-back refuses, which the generated circuit never brings about, are bytes and wires filled all the same;
- * run and mark stay as they were on every refusal. */
-uint8_t forkhemit_apply(uint64_t n, uint64_t left_rows, uint64_t right_rows,
-                        const uint32_t *left, size_t left_length, const uint32_t *right, size_t right_length,
-                        const uint32_t *gates, size_t gates_length, uint32_t *run, size_t run_length,
-                        uint8_t *bytes, size_t bytes_length, uint8_t *wires, size_t wires_length,
-                        uint64_t *mark, size_t mark_length);
+/* The circuit repeated on the run, in place, until the run is closed, at most so many times: in each repeat rows and run are packed, the
+ * gates evaluated, and the next run is read back from the last wires. gates: the circuit, as forkhemit_generate writes it, whether or not
+ * there is a repeat. bytes, wires: inputs and all wires of the last repeat; as they were without one.
+ * repeated: how many repeats were made, the last mark: 1 if the run is closed, else 0.
+ * 1, 2, 4, 3, 7, 10 (bytes for the inputs, wires for inputs and gates), 12, 13. */
+uint8_t forkhemit_repeat(uint64_t n, uint64_t left_rows, uint64_t right_rows,
+                         const uint32_t *left, size_t left_length, const uint32_t *right, size_t right_length,
+                         uint64_t times, uint32_t *gates, size_t gates_length, uint8_t *bytes, size_t bytes_length,
+                         uint8_t *wires, size_t wires_length, uint32_t run[FORKHEMIT_RUN_WORDS], uint64_t repeated[2]);
 
 /* ---- texts */
 
@@ -144,21 +141,20 @@ uint8_t forkhemit_apply(uint64_t n, uint64_t left_rows, uint64_t right_rows,
  * 1, 2, 9, 11. */
 uint8_t forkhemit_write_line(uint64_t n, uint64_t left_rows, uint64_t right_rows,
                              const uint32_t *gates, size_t gates_length, uint64_t line,
-                             uint8_t *bytes, size_t bytes_length, uint64_t *length, size_t length_length);
+                             uint8_t *bytes, size_t bytes_length, uint64_t length[1]);
 
 /* bytes: as many whole lines as fit, from that line on. written: lines, then bytes; 0 and 0 past the last line.
  * 1, 2, 9, 11 where not even one line fits. */
 uint8_t forkhemit_write_lines(uint64_t n, uint64_t left_rows, uint64_t right_rows,
                               const uint32_t *gates, size_t gates_length, uint64_t line,
-                              uint8_t *bytes, size_t bytes_length, uint64_t *written, size_t written_length);
+                              uint8_t *bytes, size_t bytes_length, uint64_t written[2]);
 
 /* budget: the number of a budget line, digits and LF, at most 100 bytes; bytes behind the LF are not looked at. 8. */
-uint8_t forkhemit_read_budget(const uint8_t *line, size_t line_length, uint64_t *budget, size_t budget_length);
+uint8_t forkhemit_read_budget(const uint8_t *line, size_t line_length, uint64_t budget[1]);
 
-/* bytes: the answer as the pair program prints it. length: its bytes, at most 256. A verdict that is no forkhemit_verdict is unknown;
- * with satisfiable, the first n variables of the model are printed, 32 at most. 11. */
-uint8_t forkhemit_answer(uint64_t n, uint64_t count, uint64_t verdict, uint64_t model,
-                         uint8_t *bytes, size_t bytes_length, uint64_t *length, size_t length_length);
+/* text: the answer as the pair program prints it, then what stood there. length: its bytes, at most 256. A verdict that is no
+ * forkhemit_verdict is unknown; with satisfiable, the first n variables of the model are printed. 1. */
+uint8_t forkhemit_answer(uint64_t n, uint64_t count, uint64_t verdict, uint64_t model, uint8_t text[256], uint64_t length[1]);
 
 #ifdef __cplusplus
 }

@@ -1,7 +1,7 @@
 /*
- * A host in C. It reads two stations' texts, generates the giant step's circuit once, repeats it from the fresh state
- * until the closing mark or the budget, and prints the answer as the pair program does. Beside each repeat it steps a
- * plain run and compares. Use: host-c LEFT RIGHT BUDGET. `make examples` builds it.
+ * A host in C. It reads two stations' texts, repeats the giant step's circuit from the fresh state until the closing mark or the
+ * budget, and prints the answer as the pair program does. It then steps a plain run as often, solves at once, and compares.
+ * Use: host-c LEFT RIGHT BUDGET. `make examples` builds it.
  */
 #include "forkhemit.h"
 #include <stdio.h>
@@ -19,9 +19,9 @@ static int refused(uint8_t number)
 }
 
 /* What a proved library never brings about. */
-static int wrong(const char *what, uint64_t repeat)
+static int wrong(const char *what)
 {
-    fprintf(stderr, "after repeat %llu: %s\n", (unsigned long long)repeat, what);
+    fprintf(stderr, "%s\n", what);
     return 1;
 }
 
@@ -63,68 +63,62 @@ int main(int count, char **arguments)
     size_t left_length = read_text(arguments[1], left_text), right_length = read_text(arguments[2], right_text);
     uint32_t left[ROW_WORDS] = {0}, right[ROW_WORDS] = {0};
     uint64_t d[3] = {0}; /* n, left rows, right rows */
-    uint8_t refusal = forkhemit_read_pair(left_text, left_length, right_text, right_length,
-                                          left, ROW_WORDS, right, ROW_WORDS, d, 3);
+    uint8_t refusal = forkhemit_read_pair(left_text, left_length, right_text, right_length, left, ROW_WORDS, right, ROW_WORDS, d);
     if (refusal != 0)
         return refused(refusal);
 
-    /* The circuit, made from n and the row counts alone. */
+    /* Room for the circuit, for the packed inputs and for all wires: what n and the row counts alone tell. */
     uint64_t sizes[4] = {0}; /* gate ceiling, words for its gates, input wires, state wires */
-    uint64_t gate_count = 0;
-    refusal = forkhemit_sizes(d[0], d[1], d[2], sizes, 4);
+    refusal = forkhemit_sizes(d[0], d[1], d[2], sizes);
     if (refusal != 0)
         return refused(refusal);
-    uint32_t *gates = room(sizes[1], sizeof *gates);
-    refusal = forkhemit_generate(d[0], d[1], d[2], gates, sizes[1], &gate_count, 1);
-    if (refusal != 0)
-        return refused(refusal);
-
-    /* Scratch for the packed inputs and for all wires, and two runs: one for the circuit, one for the plain step. */
-    size_t inputs = sizes[2], wire_count = inputs + gate_count;
+    size_t gate_words = sizes[1], inputs = sizes[2], wire_count = inputs + sizes[0];
+    uint32_t *gates = room(gate_words, sizeof *gates);
     uint8_t *bytes = room(inputs, 1), *wires = room(wire_count, 1);
+
+    /* Repeats, until the mark says that the run is closed or the budget is spent. */
     uint32_t run[FORKHEMIT_RUN_WORDS] = {0}, plain[FORKHEMIT_RUN_WORDS] = {0};
-    refusal = forkhemit_fresh(d[0], run, FORKHEMIT_RUN_WORDS);
+    refusal = forkhemit_fresh(d[0], run);
     if (refusal != 0)
         return refused(refusal);
     memcpy(plain, run, sizeof run);
+    uint64_t repeated[2] = {0}; /* repeats, last mark */
+    refusal = forkhemit_repeat(d[0], d[1], d[2], left, ROW_WORDS, right, ROW_WORDS, budget,
+                               gates, gate_words, bytes, inputs, wires, wire_count, run, repeated);
+    if (refusal != 0)
+        return refused(refusal);
 
-    /* Repeats, until the mark says that the run is closed or the budget is spent. */
-    uint64_t repeats = 0, mark = 0;
-    while (repeats < budget && mark == 0) {
-        refusal = forkhemit_apply(d[0], d[1], d[2], left, ROW_WORDS, right, ROW_WORDS, gates, 3 * gate_count,
-                                  run, FORKHEMIT_RUN_WORDS, bytes, inputs, wires, wire_count, &mark, 1);
+    /* As many giant steps without a circuit end in the same state. */
+    for (uint64_t step = 0; step < repeated[0]; step++) {
+        refusal = forkhemit_step(d[0], d[1], d[2], left, ROW_WORDS, right, ROW_WORDS, plain);
         if (refusal != 0)
             return refused(refusal);
-        repeats++;
-        refusal = forkhemit_step(d[0], d[1], d[2], left, ROW_WORDS, right, ROW_WORDS, plain, FORKHEMIT_RUN_WORDS);
-        if (refusal != 0)
-            return refused(refusal);
-        if (memcmp(run, plain, sizeof run) != 0)
-            return wrong("the circuit's state is not the plain run's", repeats);
     }
+    if (memcmp(run, plain, sizeof run) != 0)
+        return wrong("the circuit's state is not the plain run's");
 
     /* The answer: the number of repeats, the standing (word 1) as verdict, and the model of a satisfied run. */
-    uint64_t verdict = run[1], model = 0;
+    uint64_t verdict = run[1], model[1] = {0};
     if (verdict == FORKHEMIT_SATISFIABLE) {
-        refusal = forkhemit_model(run, FORKHEMIT_RUN_WORDS, &model, 1);
+        refusal = forkhemit_model(run, model);
         if (refusal != 0)
             return refused(refusal);
     }
 
     /* The budgeted run gives the same. */
     uint64_t answer[3] = {0};
-    refusal = forkhemit_solve(d[0], d[1], d[2], left, ROW_WORDS, right, ROW_WORDS, budget, answer, 3);
+    refusal = forkhemit_solve(d[0], d[1], d[2], left, ROW_WORDS, right, ROW_WORDS, budget, answer);
     if (refusal != 0)
         return refused(refusal);
-    if (answer[0] != repeats || answer[1] != verdict || answer[2] != model)
-        return wrong("the budgeted run answers otherwise", repeats);
+    if (answer[0] != repeated[0] || answer[1] != verdict || answer[2] != model[0])
+        return wrong("the budgeted run answers otherwise");
 
     uint8_t text[256];
-    uint64_t length = 0;
-    refusal = forkhemit_answer(d[0], repeats, verdict, model, text, sizeof text, &length, 1);
+    uint64_t length[1] = {0};
+    refusal = forkhemit_answer(d[0], repeated[0], verdict, model[0], text, length);
     if (refusal != 0)
         return refused(refusal);
-    fwrite(text, 1, length, stdout);
+    fwrite(text, 1, length[0], stdout);
 
     free(wires);
     free(bytes);

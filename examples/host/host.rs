@@ -1,30 +1,27 @@
-//! A host in Rust. It reads two stations' texts, generates the giant step's circuit once, repeats it from the fresh state
-//! until the closing mark or the budget, and prints the answer as the pair program does. Beside each repeat it steps a
-//! plain run and compares. Use: host-rust LEFT RIGHT BUDGET. `make examples` builds it.
+//! A host in Rust. It reads two stations' texts, repeats the giant step's circuit from the fresh state until the closing mark or
+//! the budget, and prints the answer as the pair program does. It then steps a plain run as often, solves at once, and compares.
+//! Use: host-rust LEFT RIGHT BUDGET. `make examples` builds it.
 
 use std::io::Write;
 
-/// The library, as include/forkhemit.h has it: a slice passes as its pointer and then its length.
+/// The library, as include/forkhemit.h has it: an array passes as a reference, a slice as its pointer and then its length.
 #[rustfmt::skip]
 mod library {
     #[link(name = "forkhemit", kind = "static")]
     extern "C" {
-        pub fn forkhemit_sizes(n: u64, left_rows: u64, right_rows: u64, sizes: *mut u64, length: usize) -> u8;
+        pub fn forkhemit_sizes(n: u64, left_rows: u64, right_rows: u64, sizes: &mut [u64; 4]) -> u8;
         pub fn forkhemit_read_pair(left_text: *const u8, left_text_length: usize, right_text: *const u8, right_text_length: usize,
-            left: *mut u32, left_length: usize, right: *mut u32, right_length: usize, sizes: *mut u64, length: usize) -> u8;
-        pub fn forkhemit_fresh(n: u64, run: *mut u32, length: usize) -> u8;
+            left: *mut u32, left_length: usize, right: *mut u32, right_length: usize, sizes: &mut [u64; 3]) -> u8;
+        pub fn forkhemit_fresh(n: u64, run: &mut [u32; 101]) -> u8;
         pub fn forkhemit_step(n: u64, left_rows: u64, right_rows: u64, left: *const u32, left_length: usize,
-            right: *const u32, right_length: usize, run: *mut u32, length: usize) -> u8;
+            right: *const u32, right_length: usize, run: &mut [u32; 101]) -> u8;
         pub fn forkhemit_solve(n: u64, left_rows: u64, right_rows: u64, left: *const u32, left_length: usize,
-            right: *const u32, right_length: usize, budget: u64, answer: *mut u64, length: usize) -> u8;
-        pub fn forkhemit_model(run: *const u32, run_length: usize, model: *mut u64, length: usize) -> u8;
-        pub fn forkhemit_generate(n: u64, left_rows: u64, right_rows: u64, gates: *mut u32, gates_length: usize,
-            count: *mut u64, length: usize) -> u8;
-        pub fn forkhemit_apply(n: u64, left_rows: u64, right_rows: u64, left: *const u32, left_length: usize,
-            right: *const u32, right_length: usize, gates: *const u32, gates_length: usize, run: *mut u32, run_length: usize,
-            bytes: *mut u8, bytes_length: usize, wires: *mut u8, wires_length: usize, mark: *mut u64, length: usize) -> u8;
-        pub fn forkhemit_answer(n: u64, count: u64, verdict: u64, model: u64, bytes: *mut u8, bytes_length: usize,
-            written: *mut u64, length: usize) -> u8;
+            right: *const u32, right_length: usize, budget: u64, answer: &mut [u64; 3]) -> u8;
+        pub fn forkhemit_model(run: &[u32; 101], model: &mut [u64; 1]) -> u8;
+        pub fn forkhemit_repeat(n: u64, left_rows: u64, right_rows: u64, left: *const u32, left_length: usize,
+            right: *const u32, right_length: usize, times: u64, gates: *mut u32, gates_length: usize, bytes: *mut u8, bytes_length: usize,
+            wires: *mut u8, wires_length: usize, run: &mut [u32; 101], repeated: &mut [u64; 2]) -> u8;
+        pub fn forkhemit_answer(n: u64, count: u64, verdict: u64, model: u64, text: &mut [u8; 256], length: &mut [u64; 1]) -> u8;
     }
 }
 use library::*;
@@ -59,80 +56,67 @@ impl Tables {
         let mut read = Tables { d: [0; 3], left: [0; 256], right: [0; 256] };
         let (l, r, d) = (&mut read.left, &mut read.right, &mut read.d);
         taken(unsafe {
-            forkhemit_read_pair(left.as_ptr(), left.len(), right.as_ptr(), right.len(),
-                l.as_mut_ptr(), 256, r.as_mut_ptr(), 256, d.as_mut_ptr(), 3)
+            forkhemit_read_pair(left.as_ptr(), left.len(), right.as_ptr(), right.len(), l.as_mut_ptr(), 256, r.as_mut_ptr(), 256, d)
         })?;
         Ok(read)
-    }
-
-    /// The circuit's gates, and how many input wires they have.
-    fn circuit(&self) -> Result<(Vec<u32>, usize), Fault> {
-        let ([n, l, r], mut sizes, mut count) = (self.d, [0; 4], 0); // gate ceiling, words for its gates, input wires, state wires
-        taken(unsafe { forkhemit_sizes(n, l, r, sizes.as_mut_ptr(), 4) })?;
-        let mut gates = vec![0; sizes[1] as usize];
-        taken(unsafe { forkhemit_generate(n, l, r, gates.as_mut_ptr(), gates.len(), &mut count, 1) })?;
-        gates.truncate(3 * count as usize);
-        Ok((gates, sizes[2] as usize))
     }
 
     /// The run to start from.
     fn fresh(&self) -> Result<Run, Fault> {
         let mut run = [0; 101];
-        taken(unsafe { forkhemit_fresh(self.d[0], run.as_mut_ptr(), 101) }).map(|()| run)
+        taken(unsafe { forkhemit_fresh(self.d[0], &mut run) }).map(|()| run)
     }
 
     /// One giant step of the plain run.
     fn step(&self, run: &mut Run) -> Result<(), Fault> {
         let ([n, l, r], left, right) = (self.d, &self.left, &self.right);
-        taken(unsafe { forkhemit_step(n, l, r, left.as_ptr(), 256, right.as_ptr(), 256, run.as_mut_ptr(), 101) })
+        taken(unsafe { forkhemit_step(n, l, r, left.as_ptr(), 256, right.as_ptr(), 256, run) })
     }
 
-    /// One repeat: whether the run is closed then.
-    fn apply(&self, gates: &[u32], run: &mut Run, bytes: &mut [u8], wires: &mut [u8]) -> Result<bool, Fault> {
-        let ([n, l, r], left, right, mut mark) = (self.d, &self.left, &self.right, 0);
+    /// The circuit repeated on the run: how many times it was, until the run was closed or the budget spent.
+    fn repeat(&self, budget: u64, run: &mut Run) -> Result<u64, Fault> {
+        let ([n, l, r], left, right) = (self.d, &self.left, &self.right);
+        let mut sizes = [0; 4]; // gate ceiling, words for its gates, input wires, state wires
+        taken(unsafe { forkhemit_sizes(n, l, r, &mut sizes) })?;
+        let [ceiling, words, inputs, _] = sizes.map(|size| size as usize);
+        let (mut gates, mut bytes, mut wires) = (vec![0; words], vec![0; inputs], vec![0; inputs + ceiling]);
+        let mut repeated = [0; 2]; // repeats, last mark
         taken(unsafe {
-            forkhemit_apply(n, l, r, left.as_ptr(), 256, right.as_ptr(), 256, gates.as_ptr(), gates.len(),
-                run.as_mut_ptr(), 101, bytes.as_mut_ptr(), bytes.len(), wires.as_mut_ptr(), wires.len(), &mut mark, 1)
+            forkhemit_repeat(n, l, r, left.as_ptr(), 256, right.as_ptr(), 256, budget, gates.as_mut_ptr(), words,
+                bytes.as_mut_ptr(), bytes.len(), wires.as_mut_ptr(), wires.len(), run, &mut repeated)
         })?;
-        Ok(mark == 1)
+        Ok(repeated[0])
     }
 
     /// The budgeted run's count, verdict and model.
     fn solve(&self, budget: u64) -> Result<[u64; 3], Fault> {
         let ([n, l, r], left, right, mut answer) = (self.d, &self.left, &self.right, [0; 3]);
-        taken(unsafe { forkhemit_solve(n, l, r, left.as_ptr(), 256, right.as_ptr(), 256, budget, answer.as_mut_ptr(), 3) })?;
+        taken(unsafe { forkhemit_solve(n, l, r, left.as_ptr(), 256, right.as_ptr(), 256, budget, &mut answer) })?;
         Ok(answer)
     }
 }
 
-/// The printed answer: repeats of the circuit beside the plain run, and the budgeted run to compare with.
+/// The printed answer: repeats of the circuit, as many plain steps beside them, and the budgeted run to compare with.
 fn answer_of(left: &[u8], right: &[u8], budget: u64) -> Result<Vec<u8>, Fault> {
     let tables = Tables::read(left, right)?;
-    let (gates, inputs) = tables.circuit()?;
-    let (mut bytes, mut wires) = (vec![0; inputs], vec![0; inputs + gates.len() / 3]);
     let (mut run, mut plain) = (tables.fresh()?, tables.fresh()?);
-    let (mut repeats, mut closed) = (0, false);
-    while repeats < budget && !closed {
-        closed = tables.apply(&gates, &mut run, &mut bytes, &mut wires)?;
-        repeats += 1;
+    let repeats = tables.repeat(budget, &mut run)?;
+    for _ in 0..repeats {
         tables.step(&mut plain)?;
-        if run != plain {
-            return Err(Fault::Wrong("the circuit's state is not the plain run's"));
-        }
     }
-    let (verdict, mut model) = (u64::from(run[1]), 0);
+    if run != plain {
+        return Err(Fault::Wrong("the circuit's state is not the plain run's"));
+    }
+    let (verdict, mut model) = (u64::from(run[1]), [0]);
     if verdict == SATISFIABLE {
-        taken(unsafe { forkhemit_model(run.as_ptr(), 101, &mut model, 1) })?;
+        taken(unsafe { forkhemit_model(&run, &mut model) })?;
     }
-    if tables.solve(budget)? != [repeats, verdict, model] {
+    if tables.solve(budget)? != [repeats, verdict, model[0]] {
         return Err(Fault::Wrong("the budgeted run answers otherwise"));
     }
-    let (mut text, mut length) = (vec![0; 256], 0);
-    taken(unsafe {
-        forkhemit_answer(tables.d[0], repeats, verdict, model, text.as_mut_ptr(), text.len(), &mut length, 1)
-    })?;
-    text.truncate(length as usize);
-    Ok(text)
+    let (mut text, mut length) = ([0; 256], [0]);
+    taken(unsafe { forkhemit_answer(tables.d[0], repeats, verdict, model[0], &mut text, &mut length) })?;
+    Ok(text[..length[0] as usize].to_vec())
 }
 
 fn main() {

@@ -6,34 +6,32 @@ use std::fmt;
 mod library {
     #[link(name = "forkhemit", kind = "static")]
     extern "C" {
-        pub fn forkhemit_sizes(n: u64, left_rows: u64, right_rows: u64, sizes: *mut u64, length: usize) -> u8;
+        pub fn forkhemit_sizes(n: u64, left_rows: u64, right_rows: u64, sizes: *mut u64) -> u8;
         pub fn forkhemit_read_pair(left_text: *const u8, left_text_length: usize, right_text: *const u8, right_text_length: usize,
-            left: *mut u32, left_length: usize, right: *mut u32, right_length: usize, sizes: *mut u64, length: usize) -> u8;
+            left: *mut u32, left_length: usize, right: *mut u32, right_length: usize, sizes: *mut u64) -> u8;
         pub fn forkhemit_accept(n: u64, left_rows: u64, right_rows: u64, left: *const u32, left_length: usize,
             right: *const u32, right_length: usize) -> u8;
-        pub fn forkhemit_fresh(n: u64, run: *mut u32, length: usize) -> u8;
+        pub fn forkhemit_fresh(n: u64, run: *mut u32) -> u8;
         pub fn forkhemit_step(n: u64, left_rows: u64, right_rows: u64, left: *const u32, left_length: usize,
-            right: *const u32, right_length: usize, run: *mut u32, length: usize) -> u8;
+            right: *const u32, right_length: usize, run: *mut u32) -> u8;
         pub fn forkhemit_solve(n: u64, left_rows: u64, right_rows: u64, left: *const u32, left_length: usize,
-            right: *const u32, right_length: usize, budget: u64, answer: *mut u64, length: usize) -> u8;
-        pub fn forkhemit_model(run: *const u32, run_length: usize, model: *mut u64, length: usize) -> u8;
-        pub fn forkhemit_generate(n: u64, left_rows: u64, right_rows: u64, gates: *mut u32, gates_length: usize,
-            count: *mut u64, length: usize) -> u8;
+            right: *const u32, right_length: usize, budget: u64, answer: *mut u64) -> u8;
+        pub fn forkhemit_model(run: *const u32, model: *mut u64) -> u8;
+        pub fn forkhemit_generate(n: u64, left_rows: u64, right_rows: u64, gates: *mut u32, gates_length: usize, count: *mut u64) -> u8;
         pub fn forkhemit_pack(n: u64, left_rows: u64, right_rows: u64, left: *const u32, left_length: usize,
-            right: *const u32, right_length: usize, run: *const u32, run_length: usize, bytes: *mut u8, length: usize) -> u8;
+            right: *const u32, right_length: usize, run: *const u32, bytes: *mut u8, bytes_length: usize) -> u8;
         pub fn forkhemit_evaluate(gates: *const u32, gates_length: usize, inputs: *const u8, inputs_length: usize,
-            wires: *mut u8, length: usize) -> u8;
-        pub fn forkhemit_read_back(n: u64, bytes: *const u8, bytes_length: usize, run: *mut u32, length: usize) -> u8;
-        pub fn forkhemit_apply(n: u64, left_rows: u64, right_rows: u64, left: *const u32, left_length: usize,
-            right: *const u32, right_length: usize, gates: *const u32, gates_length: usize, run: *mut u32, run_length: usize,
-            bytes: *mut u8, bytes_length: usize, wires: *mut u8, wires_length: usize, mark: *mut u64, length: usize) -> u8;
+            wires: *mut u8, wires_length: usize) -> u8;
+        pub fn forkhemit_read_back(n: u64, bytes: *const u8, bytes_length: usize, run: *mut u32) -> u8;
+        pub fn forkhemit_repeat(n: u64, left_rows: u64, right_rows: u64, left: *const u32, left_length: usize,
+            right: *const u32, right_length: usize, times: u64, gates: *mut u32, gates_length: usize, bytes: *mut u8, bytes_length: usize,
+            wires: *mut u8, wires_length: usize, run: *mut u32, repeated: *mut u64) -> u8;
         pub fn forkhemit_write_line(n: u64, left_rows: u64, right_rows: u64, gates: *const u32, gates_length: usize, line: u64,
-            bytes: *mut u8, bytes_length: usize, written: *mut u64, length: usize) -> u8;
+            bytes: *mut u8, bytes_length: usize, length: *mut u64) -> u8;
         pub fn forkhemit_write_lines(n: u64, left_rows: u64, right_rows: u64, gates: *const u32, gates_length: usize, line: u64,
-            bytes: *mut u8, bytes_length: usize, written: *mut u64, length: usize) -> u8;
-        pub fn forkhemit_read_budget(line: *const u8, line_length: usize, budget: *mut u64, length: usize) -> u8;
-        pub fn forkhemit_answer(n: u64, count: u64, verdict: u64, model: u64, bytes: *mut u8, bytes_length: usize,
-            written: *mut u64, length: usize) -> u8;
+            bytes: *mut u8, bytes_length: usize, written: *mut u64) -> u8;
+        pub fn forkhemit_read_budget(line: *const u8, line_length: usize, budget: *mut u64) -> u8;
+        pub fn forkhemit_answer(n: u64, count: u64, verdict: u64, model: u64, text: *mut u8, length: *mut u64) -> u8;
     }
 }
 
@@ -50,7 +48,7 @@ pub enum Function {
     Pack,
     Evaluate,
     ReadBack,
-    Apply,
+    Repeat,
     WriteLine,
     WriteLines,
     ReadBudget,
@@ -69,18 +67,22 @@ pub const ALL: [Function; 16] = [
     Function::Pack,
     Function::Evaluate,
     Function::ReadBack,
-    Function::Apply,
+    Function::Repeat,
     Function::WriteLine,
     Function::WriteLines,
     Function::ReadBudget,
     Function::Answer,
 ];
 
-/// A lent buffer.
+/// A lent buffer: of any length, or an array, whose length the header says.
 #[derive(Clone, PartialEq)]
 pub enum Lent {
     Bytes(Vec<u8>),
     Words(Vec<u32>),
+    /// An answer's 256 bytes.
+    Text(Vec<u8>),
+    /// A run's 101 words.
+    Run(Vec<u32>),
     Numbers(Vec<u64>),
 }
 
@@ -88,8 +90,8 @@ impl fmt::Debug for Lent {
     fn fmt(&self, f: &mut fmt::Formatter) -> fmt::Result {
         match self {
             Lent::Bytes(bytes) if bytes.iter().all(|&byte| byte < 2) => write!(f, "{} bytes {bytes:?}", bytes.len()),
-            Lent::Bytes(bytes) => write!(f, "{} bytes b\"{}\"", bytes.len(), bytes.escape_ascii()),
-            Lent::Words(words) => write!(f, "{} words {words:?}", words.len()),
+            Lent::Bytes(bytes) | Lent::Text(bytes) => write!(f, "{} bytes b\"{}\"", bytes.len(), bytes.escape_ascii()),
+            Lent::Words(words) | Lent::Run(words) => write!(f, "{} words {words:?}", words.len()),
             Lent::Numbers(numbers) => write!(f, "{} numbers {numbers:?}", numbers.len()),
         }
     }
@@ -99,7 +101,7 @@ impl Lent {
     /// The buffer's bytes.
     pub fn bytes(&self) -> &[u8] {
         match self {
-            Lent::Bytes(bytes) => bytes,
+            Lent::Bytes(bytes) | Lent::Text(bytes) => bytes,
             _ => panic!("the buffer holds no bytes"),
         }
     }
@@ -107,8 +109,17 @@ impl Lent {
     /// The buffer's words.
     pub fn words(&self) -> &[u32] {
         match self {
-            Lent::Words(words) => words,
+            Lent::Words(words) | Lent::Run(words) => words,
             _ => panic!("the buffer holds no words"),
+        }
+    }
+
+    /// How many elements it has.
+    fn len(&self) -> usize {
+        match self {
+            Lent::Bytes(bytes) | Lent::Text(bytes) => bytes.len(),
+            Lent::Words(words) | Lent::Run(words) => words.len(),
+            Lent::Numbers(numbers) => numbers.len(),
         }
     }
 }
@@ -163,6 +174,8 @@ const SIGN: u8 = 0xa5;
 enum Room {
     Bytes(Held<u8>),
     Words(Held<u32>),
+    Text(Held<u8>),
+    Run(Held<u32>),
     Numbers(Held<u64>),
 }
 
@@ -172,7 +185,18 @@ impl Room {
         match lent {
             Lent::Bytes(bytes) => Room::Bytes(Held::new(bytes, guard, SIGN)),
             Lent::Words(words) => Room::Words(Held::new(words, guard, u32::from(SIGN))),
+            Lent::Text(bytes) => Room::Text(Held::new(bytes, guard, SIGN)),
+            Lent::Run(words) => Room::Run(Held::new(words, guard, u32::from(SIGN))),
             Lent::Numbers(numbers) => Room::Numbers(Held::new(numbers, guard, u64::from(SIGN))),
+        }
+    }
+
+    /// Where the buffer begins.
+    fn pointer(&mut self) -> *mut u8 {
+        match self {
+            Room::Bytes(held) | Room::Text(held) => held.pointer(),
+            Room::Words(held) | Room::Run(held) => held.pointer().cast(),
+            Room::Numbers(held) => held.pointer().cast(),
         }
     }
 
@@ -181,6 +205,8 @@ impl Room {
         Ok(match self {
             Room::Bytes(held) => Lent::Bytes(held.back(SIGN)?),
             Room::Words(held) => Lent::Words(held.back(u32::from(SIGN))?),
+            Room::Text(held) => Lent::Text(held.back(SIGN)?),
+            Room::Run(held) => Lent::Run(held.back(u32::from(SIGN))?),
             Room::Numbers(held) => Lent::Numbers(held.back(u64::from(SIGN))?),
         })
     }
@@ -198,40 +224,32 @@ impl Call {
     #[rustfmt::skip]
     fn pass(&self, rooms: &mut [Room]) -> u8 {
         use library::*;
+        let pointers: Vec<*mut u8> = rooms.iter_mut().map(Room::pointer).collect();
         let x = |k: usize| self.numbers[k];
-        let l = |k: usize| match &self.lent[k] {
-            Lent::Bytes(bytes) => bytes.len(),
-            Lent::Words(words) => words.len(),
-            Lent::Numbers(numbers) => numbers.len(),
-        };
-        let pointers: Vec<*mut u8> = rooms.iter_mut().map(|room| match room {
-            Room::Bytes(held) => held.pointer(),
-            Room::Words(held) => held.pointer().cast(),
-            Room::Numbers(held) => held.pointer().cast(),
-        }).collect();
+        let l = |k: usize| self.lent[k].len();
         let b = |k: usize| pointers[k];
         let w = |k: usize| pointers[k].cast::<u32>();
         let n = |k: usize| pointers[k].cast::<u64>();
         // Each pointer is that of a buffer of this kind and length, which lives until the call is over.
         unsafe {
             match self.function {
-                Function::Sizes => forkhemit_sizes(x(0), x(1), x(2), n(0), l(0)),
-                Function::ReadPair => forkhemit_read_pair(b(0), l(0), b(1), l(1), w(2), l(2), w(3), l(3), n(4), l(4)),
+                Function::Sizes => forkhemit_sizes(x(0), x(1), x(2), n(0)),
+                Function::ReadPair => forkhemit_read_pair(b(0), l(0), b(1), l(1), w(2), l(2), w(3), l(3), n(4)),
                 Function::Accept => forkhemit_accept(x(0), x(1), x(2), w(0), l(0), w(1), l(1)),
-                Function::Fresh => forkhemit_fresh(x(0), w(0), l(0)),
-                Function::Step => forkhemit_step(x(0), x(1), x(2), w(0), l(0), w(1), l(1), w(2), l(2)),
-                Function::Solve => forkhemit_solve(x(0), x(1), x(2), w(0), l(0), w(1), l(1), x(3), n(2), l(2)),
-                Function::Model => forkhemit_model(w(0), l(0), n(1), l(1)),
-                Function::Generate => forkhemit_generate(x(0), x(1), x(2), w(0), l(0), n(1), l(1)),
-                Function::Pack => forkhemit_pack(x(0), x(1), x(2), w(0), l(0), w(1), l(1), w(2), l(2), b(3), l(3)),
+                Function::Fresh => forkhemit_fresh(x(0), w(0)),
+                Function::Step => forkhemit_step(x(0), x(1), x(2), w(0), l(0), w(1), l(1), w(2)),
+                Function::Solve => forkhemit_solve(x(0), x(1), x(2), w(0), l(0), w(1), l(1), x(3), n(2)),
+                Function::Model => forkhemit_model(w(0), n(1)),
+                Function::Generate => forkhemit_generate(x(0), x(1), x(2), w(0), l(0), n(1)),
+                Function::Pack => forkhemit_pack(x(0), x(1), x(2), w(0), l(0), w(1), l(1), w(2), b(3), l(3)),
                 Function::Evaluate => forkhemit_evaluate(w(0), l(0), b(1), l(1), b(2), l(2)),
-                Function::ReadBack => forkhemit_read_back(x(0), b(0), l(0), w(1), l(1)),
-                Function::Apply => forkhemit_apply(x(0), x(1), x(2), w(0), l(0), w(1), l(1), w(2), l(2), w(3), l(3),
-                    b(4), l(4), b(5), l(5), n(6), l(6)),
-                Function::WriteLine => forkhemit_write_line(x(0), x(1), x(2), w(0), l(0), x(3), b(1), l(1), n(2), l(2)),
-                Function::WriteLines => forkhemit_write_lines(x(0), x(1), x(2), w(0), l(0), x(3), b(1), l(1), n(2), l(2)),
-                Function::ReadBudget => forkhemit_read_budget(b(0), l(0), n(1), l(1)),
-                Function::Answer => forkhemit_answer(x(0), x(1), x(2), x(3), b(0), l(0), n(1), l(1)),
+                Function::ReadBack => forkhemit_read_back(x(0), b(0), l(0), w(1)),
+                Function::Repeat => forkhemit_repeat(x(0), x(1), x(2), w(0), l(0), w(1), l(1), x(3), w(2), l(2), b(3), l(3),
+                    b(4), l(4), w(5), n(6)),
+                Function::WriteLine => forkhemit_write_line(x(0), x(1), x(2), w(0), l(0), x(3), b(1), l(1), n(2)),
+                Function::WriteLines => forkhemit_write_lines(x(0), x(1), x(2), w(0), l(0), x(3), b(1), l(1), n(2)),
+                Function::ReadBudget => forkhemit_read_budget(b(0), l(0), n(1)),
+                Function::Answer => forkhemit_answer(x(0), x(1), x(2), x(3), b(0), n(1)),
             }
         }
     }

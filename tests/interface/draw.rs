@@ -70,11 +70,14 @@ fn words_with_more(mut words: Vec<u32>, random: &mut Random) -> Lent {
     Lent::Words(words)
 }
 
-/// Room for so many numbers, for fewer or for more.
+/// Room for so many numbers.
 fn numbers_for(count: usize, random: &mut Random) -> Lent {
-    let fewer = random.below(3).min(count);
-    let count = random.between(count - fewer, count + 1);
     Lent::Numbers((0..count).map(|_| random.number()).collect())
+}
+
+/// Room for a run.
+fn room_for_run(random: &mut Random) -> Lent {
+    Lent::Run(some_words(RUN_WORDS, random))
 }
 
 // ---- Sizes, tables and runs
@@ -237,15 +240,16 @@ fn state_bytes(n: usize, random: &mut Random) -> Lent {
     Lent::Bytes(bytes)
 }
 
-/// Tables, gates, run, and room for inputs, wires and mark.
-fn application(size: Size, circuits: &Circuits, random: &mut Random) -> Result<Vec<Lent>, String> {
+/// Tables, room for gates, inputs and wires, a run, room for the repeats, and how many of them: none, some, or until the run closes.
+fn repeating(size: Size, circuits: &Circuits, random: &mut Random) -> Result<(u64, Vec<Lent>), String> {
     let (mut lent, run) = tables_and_run(size, random);
-    let gates = gates_of(size, circuits, random)?;
     let inputs = memory::input_wires(size);
-    let wires = inputs + gates.len() / 3;
-    lent.extend([Lent::Words(gates), words_with_more(run, random)]);
-    lent.extend([bytes_for(inputs, random), bytes_for(wires, random), numbers_for(1, random)]);
-    Ok(lent)
+    let wires = inputs + circuits.words(size)?.len() / 3;
+    let ceiling = model::ceiling(size.0, size.1 + size.2);
+    lent.extend([words_for(3 * ceiling, random), bytes_for(inputs, random), bytes_for(wires, random)]);
+    lent.extend([Lent::Run(run), numbers_for(2, random)]);
+    let most = if size.0 <= 5 { u64::MAX } else { 3 };
+    Ok((one(&[0, 1, 1, 2, 3, most, most], random), lent))
 }
 
 /// Gates, a line's number, and room for a line or for several.
@@ -259,7 +263,8 @@ fn line_call(function: Function, circuits: &Circuits, random: &mut Random) -> Re
     let room = one(&[next, next, next.saturating_sub(1), next + 1, 64, random.below(2_000)], random);
     let mut numbers = numbers(size);
     numbers.push(line as u64);
-    let lent = vec![Lent::Words(gates), Lent::Bytes(some_bytes(room, random)), numbers_for(2, random)];
+    let count = if function == Function::WriteLine { 1 } else { 2 };
+    let lent = vec![Lent::Words(gates), Lent::Bytes(some_bytes(room, random)), numbers_for(count, random)];
     Ok(Call { function, numbers, lent })
 }
 
@@ -282,9 +287,7 @@ fn answer(random: &mut Random) -> Call {
     let count = one(&[random.below(100) as u64, random.number(), one(&ODD, random), random.number() >> 40], random);
     let verdict = one(&[0, 1, 1, 1, 2, one(&ODD, random)], random);
     let model = one(&[random.number() & 0xffff_ffff, random.number(), one(&ODD, random)], random);
-    let length = memory::answer(n, count, verdict, model).len();
-    let room = one(&[length, length, length + 1, length - 1, 256, 0], random);
-    let lent = vec![Lent::Bytes(some_bytes(room, random)), numbers_for(1, random)];
+    let lent = vec![Lent::Text(some_bytes(256, random)), numbers_for(1, random)];
     Call { function: Function::Answer, numbers: vec![n, count, verdict, model], lent }
 }
 
@@ -292,7 +295,7 @@ fn answer(random: &mut Random) -> Call {
 fn over_tables(function: Function, size: Size, random: &mut Random) -> Vec<Lent> {
     let (mut lent, run) = tables_and_run(size, random);
     if function != Function::Accept {
-        lent.push(words_with_more(run, random));
+        lent.push(Lent::Run(run));
     }
     if function == Function::Pack {
         lent.push(bytes_for(memory::input_wires(size), random));
@@ -311,8 +314,8 @@ fn solving(size: Size, random: &mut Random) -> (u64, Vec<Lent>) {
 /// A call that is right, but for what texts, line numbers and answers bring along.
 fn right(function: Function, circuits: &Circuits, random: &mut Random) -> Result<Call, String> {
     let size = match function {
-        Function::Generate | Function::Apply if random.once_in(500) => large_size(random),
-        Function::Generate | Function::Apply => some_size(random, true),
+        Function::Generate | Function::Repeat if random.once_in(500) => large_size(random),
+        Function::Generate | Function::Repeat => some_size(random, true),
         _ => some_size(random, false),
     };
     let call = |numbers: Vec<u64>, lent: Vec<Lent>| Ok(Call { function, numbers, lent });
@@ -320,24 +323,25 @@ fn right(function: Function, circuits: &Circuits, random: &mut Random) -> Result
         Function::Sizes => call(numbers(size), vec![numbers_for(4, random)]),
         Function::ReadPair => call(vec![], texts(random)),
         Function::Accept | Function::Step | Function::Pack => call(numbers(size), over_tables(function, size, random)),
-        Function::Fresh => call(vec![size.0 as u64], vec![words_for(RUN_WORDS, random)]),
+        Function::Fresh => call(vec![size.0 as u64], vec![room_for_run(random)]),
         Function::Solve => {
             let (budget, lent) = solving(size, random);
             call([numbers(size), vec![budget]].concat(), lent)
         }
         Function::Model => {
             let run = memory::run_words(&states::random(size.0, random));
-            call(vec![], vec![words_with_more(run, random), numbers_for(1, random)])
+            call(vec![], vec![Lent::Run(run), numbers_for(1, random)])
         }
         Function::Generate => {
             let ceiling = model::ceiling(size.0, size.1 + size.2);
             call(numbers(size), vec![words_for(3 * ceiling, random), numbers_for(1, random)])
         }
         Function::Evaluate => call(vec![], evaluation(circuits, random)?),
-        Function::ReadBack => {
-            call(vec![size.0 as u64], vec![state_bytes(size.0, random), words_for(RUN_WORDS, random)])
+        Function::ReadBack => call(vec![size.0 as u64], vec![state_bytes(size.0, random), room_for_run(random)]),
+        Function::Repeat => {
+            let (times, lent) = repeating(size, circuits, random)?;
+            call([numbers(size), vec![times]].concat(), lent)
         }
-        Function::Apply => call(numbers(size), application(size, circuits, random)?),
         Function::WriteLine | Function::WriteLines => line_call(function, circuits, random),
         Function::ReadBudget => call(vec![], vec![Lent::Bytes(line(random)), numbers_for(1, random)]),
         Function::Answer => Ok(answer(random)),
@@ -380,14 +384,12 @@ fn strike_run(words: &mut [u32], random: &mut Random) {
 /// One element changed.
 fn strike_element(lent: &mut Lent, random: &mut Random) {
     match lent {
-        Lent::Bytes(bytes) if !bytes.is_empty() => {
+        Lent::Bytes(bytes) | Lent::Text(bytes) if !bytes.is_empty() => {
             let at = random.below(bytes.len());
             bytes[at] = one(&[0, 1, 1 - (bytes[at] & 1), 2, 255, bytes[at] ^ 1 << random.below(8)], random);
         }
-        Lent::Words(words) if words.len() >= RUN_WORDS && words.len() < RUN_WORDS + 8 && !random.once_in(4) => {
-            strike_run(words, random)
-        }
-        Lent::Words(words) if !words.is_empty() => {
+        Lent::Run(words) if !random.once_in(4) => strike_run(words, random),
+        Lent::Words(words) | Lent::Run(words) if !words.is_empty() => {
             let at = random.below(words.len());
             let near = [words[at] ^ 1 << random.below(32), words[at].wrapping_add(1), words[at].wrapping_sub(1)];
             words[at] = one(&[near[0], near[0], near[1], near[2], 0, 3, 1 << 31, u32::MAX], random);
@@ -396,14 +398,14 @@ fn strike_element(lent: &mut Lent, random: &mut Random) {
     }
 }
 
-/// One stroke: a number, a length or an element is changed.
+/// One stroke: a number, a length or an element is changed; an array keeps its length.
 fn strike(call: &mut Call, random: &mut Random) {
     let what = random.below(8);
     if what < 2 && !call.numbers.is_empty() {
         let k = random.below(call.numbers.len());
         let number = call.numbers[k];
-        // a budget stays one in which the model comes to an end
-        if call.function != Function::Solve || k < 3 {
+        // a number of steps stays one in which the model comes to an end
+        if !matches!(call.function, Function::Solve | Function::Repeat) || k < 3 {
             call.numbers[k] = one(&[number.wrapping_sub(1), number.wrapping_add(1), one(&ODD, random)], random);
         }
         return;
@@ -412,7 +414,6 @@ fn strike(call: &mut Call, random: &mut Random) {
     match (&mut call.lent[k], what) {
         (Lent::Bytes(bytes), 0..=4) => resize(bytes, 1, random),
         (Lent::Words(words), 0..=4) => resize(words, 1, random),
-        (Lent::Numbers(numbers), _) => resize(numbers, 1, random),
         (lent, _) => strike_element(lent, random),
     }
 }

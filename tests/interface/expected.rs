@@ -8,41 +8,34 @@ use forkhemit_tests::{model, wires};
 /// What a call writes: into the front of which buffer.
 type Writes = Vec<(usize, Lent)>;
 
-/// A refusal, and what is written all the same: in one application only, where the outputs hold no state.
-struct Refused(u8, Writes);
-
-impl From<u8> for Refused {
-    fn from(number: u8) -> Refused {
-        Refused(number, vec![])
-    }
-}
-
 /// Writes over the front of a buffer.
 fn over<T: Copy>(front: &[T], buffer: &mut [T]) {
     buffer[..front.len()].copy_from_slice(front);
 }
 
-/// Numbers go as far as there is room for them.
+/// Bytes and words go to the front of their buffer, numbers fill it.
 fn write(front: Lent, buffer: &mut Lent) {
     match (front, buffer) {
-        (Lent::Bytes(front), Lent::Bytes(buffer)) => over(&front, buffer),
+        (Lent::Bytes(front), Lent::Bytes(buffer)) | (Lent::Text(front), Lent::Text(buffer)) => over(&front, buffer),
         (Lent::Words(front), Lent::Words(buffer)) => over(&front, buffer),
-        (Lent::Numbers(front), Lent::Numbers(buffer)) => over(&front[..front.len().min(buffer.len())], buffer),
+        (Lent::Run(words), Lent::Run(buffer)) => buffer.copy_from_slice(&words),
+        (Lent::Numbers(numbers), Lent::Numbers(buffer)) => buffer.copy_from_slice(&numbers),
         _ => panic!("the model writes a kind into a buffer of another"),
     }
 }
 
 /// What the call gives.
 pub fn expected(call: &Call, circuits: &Circuits) -> Result<Given, String> {
-    let (number, writes) = match call.written(circuits)? {
-        Ok(writes) => (0, writes),
-        Err(Refused(number, writes)) => (number, writes),
-    };
     let mut lent = call.lent.clone();
-    for (k, front) in writes {
-        write(front, &mut lent[k]);
-    }
-    Ok(Given { number, lent })
+    Ok(match call.written(circuits)? {
+        Err(number) => Given { number, lent },
+        Ok(writes) => {
+            for (k, front) in writes {
+                write(front, &mut lent[k]);
+            }
+            Given { number: 0, lent }
+        }
+    })
 }
 
 impl Call {
@@ -67,39 +60,35 @@ impl Call {
     }
 
     /// What is written, or the refusal; an error where the library's circuit of a size is no such circuit.
-    fn written(&self, circuits: &Circuits) -> Result<Result<Writes, Refused>, String> {
+    fn written(&self, circuits: &Circuits) -> Result<Result<Writes, u8>, String> {
         Ok(match self.function {
-            Function::Sizes => self.sizes().map_err(Refused::from),
-            Function::ReadPair => self.read_pair().map_err(Refused::from),
-            Function::Accept => self
-                .size()
-                .and_then(|size| memory::accepted(size, self.tables()))
-                .map(|_| vec![])
-                .map_err(Refused::from),
-            Function::Fresh => self.fresh().map_err(Refused::from),
-            Function::Step => self.step().map_err(Refused::from),
-            Function::Solve => self.solve().map_err(Refused::from),
-            Function::Model => self.model().map_err(Refused::from),
-            Function::Generate => match self.room_for_gates() {
+            Function::Sizes => self.sizes(),
+            Function::ReadPair => self.read_pair(),
+            Function::Accept => self.size().and_then(|size| memory::accepted(size, self.tables())).map(|_| vec![]),
+            Function::Fresh => self.fresh(),
+            Function::Step => self.step(),
+            Function::Solve => self.solve(),
+            Function::Model => self.model(),
+            Function::Generate => match self.size().and_then(|size| self.room_for_gates(size, 0)) {
                 Ok(size) => {
                     let words = circuits.words(size)?;
                     let count = words.len() as u64 / 3;
                     Ok(vec![(0, Lent::Words(words)), (1, Lent::Numbers(vec![count]))])
                 }
-                Err(number) => Err(Refused::from(number)),
+                Err(number) => Err(number),
             },
-            Function::Pack => self.pack().map_err(Refused::from),
+            Function::Pack => self.pack(),
             Function::Evaluate => memory::evaluated(self.words(0), self.bytes(1), self.bytes(2).len())
-                .map(|wires| vec![(2, Lent::Bytes(wires))])
-                .map_err(Refused::from),
-            Function::ReadBack => self.read_back().map_err(Refused::from),
-            Function::Apply => self.apply(),
-            Function::WriteLine => self.write_line().map_err(Refused::from),
-            Function::WriteLines => self.write_lines().map_err(Refused::from),
-            Function::ReadBudget => {
-                model::budget(self.bytes(0)).map(|budget| vec![(1, Lent::Numbers(vec![budget]))]).map_err(Refused::from)
-            }
-            Function::Answer => self.answer().map_err(Refused::from),
+                .map(|wires| vec![(2, Lent::Bytes(wires))]),
+            Function::ReadBack => self.read_back(),
+            Function::Repeat => match self.size().and_then(|size| self.rows_to_repeat(size)) {
+                Ok((size, rows)) => self.repeat(size, &rows, circuits.words(size)?),
+                Err(number) => Err(number),
+            },
+            Function::WriteLine => self.write_line(),
+            Function::WriteLines => self.write_lines(),
+            Function::ReadBudget => model::budget(self.bytes(0)).map(|budget| vec![(1, Lent::Numbers(vec![budget]))]),
+            Function::Answer => self.answer(),
         })
     }
 
@@ -111,28 +100,25 @@ impl Call {
         Ok(vec![(0, Lent::Numbers(numbers.map(|number| number as u64).to_vec()))])
     }
 
-    /// The rows of two texts, n and both row counts; after the texts' refusals 6, then 4.
+    /// The rows of two texts, n and both row counts; after the texts' refusals 4, then 6.
     fn read_pair(&self) -> Result<Writes, u8> {
         let (left, right) = (model::read(self.bytes(0))?, model::read(self.bytes(1))?);
-        if left.n != right.n {
-            return Err(6);
-        }
         let words = [&left, &right].map(|table| memory::row_words(&table.rows));
         if self.words(2).len() < words[0].len() || self.words(3).len() < words[1].len() {
             return Err(4);
+        }
+        if left.n != right.n {
+            return Err(6);
         }
         let sizes = [left.n, left.rows.len(), right.rows.len()].map(|number| number as u64);
         let [left, right] = words.map(Lent::Words);
         Ok(vec![(2, left), (3, right), (4, Lent::Numbers(sizes.to_vec()))])
     }
 
-    /// The fresh run; 1, then 12 for too few words.
+    /// The fresh run.
     fn fresh(&self) -> Result<Writes, u8> {
         let n = memory::size(self.numbers[0], 1, 1)?.0;
-        if self.words(0).len() < memory::RUN_WORDS {
-            return Err(12);
-        }
-        Ok(vec![(0, Lent::Words(memory::run_words(&model::Run::fresh(n))))])
+        Ok(vec![(0, Lent::Run(memory::run_words(&model::Run::fresh(n))))])
     }
 
     /// The run after one giant step.
@@ -141,7 +127,7 @@ impl Call {
         let rows = memory::accepted(size, self.tables())?;
         let mut run = memory::run_for(size.0, self.words(2))?;
         run.step(&rows);
-        Ok(vec![(2, Lent::Words(memory::run_words(&run)))])
+        Ok(vec![(2, Lent::Run(memory::run_words(&run)))])
     }
 
     /// Count, verdict and model of the budgeted run.
@@ -168,10 +154,9 @@ impl Call {
         Ok(vec![(1, Lent::Numbers(vec![truth.fold(0, |word, (v, _)| word | 1 << v)]))])
     }
 
-    /// The size of a circuit for which there is room: 1, 2, 7.
-    fn room_for_gates(&self) -> Result<Size, u8> {
-        let size = self.size()?;
-        if self.words(0).len() < 3 * model::ceiling(size.0, size.1 + size.2) {
+    /// A size for whose circuit buffer k has room: 7.
+    fn room_for_gates(&self, size: Size, k: usize) -> Result<Size, u8> {
+        if self.words(k).len() < 3 * model::ceiling(size.0, size.1 + size.2) {
             return Err(7);
         }
         Ok(size)
@@ -183,32 +168,41 @@ impl Call {
         Ok(vec![(3, Lent::Bytes(packed))])
     }
 
-    /// The run in the bytes; after 1, 10 and 12 also 12 for too few words.
+    /// The run in the bytes: 1, 10, 12.
     fn read_back(&self) -> Result<Writes, u8> {
         let n = memory::size(self.numbers[0], 1, 1)?.0;
         let run = memory::read_back(n, self.bytes(0))?;
-        if self.words(1).len() < memory::RUN_WORDS {
-            return Err(12);
-        }
-        Ok(vec![(1, Lent::Words(memory::run_words(&run)))])
+        Ok(vec![(1, Lent::Run(memory::run_words(&run)))])
     }
 
-    /// The run after one application and its mark; inputs and wires are written also where the outputs hold no run.
-    fn apply(&self) -> Result<Writes, Refused> {
-        let size = self.size()?;
-        let packed = memory::packed(size, self.tables(), self.words(3), self.bytes(4).len())?;
-        let wires = memory::evaluated(self.words(2), &packed, self.bytes(5).len())?;
-        let outputs = &wires[wires.len() - wires::state_width(size.0) - 1..];
-        let (next, mark) = (memory::read_back(size.0, outputs), u64::from(outputs[outputs.len() - 1]));
-        let mut writes = vec![(4, Lent::Bytes(packed)), (5, Lent::Bytes(wires))];
-        match next {
-            Err(number) => Err(Refused(number, writes)),
-            Ok(run) => {
-                writes.push((3, Lent::Words(memory::run_words(&run))));
-                writes.push((6, Lent::Numbers(vec![mark])));
-                Ok(writes)
-            }
+    /// The rows on which a circuit is repeated: 4, 3, 7.
+    fn rows_to_repeat(&self, size: Size) -> Result<(Size, Vec<model::Row>), u8> {
+        let rows = memory::accepted(size, self.tables())?;
+        Ok((self.room_for_gates(size, 2)?, rows))
+    }
+
+    /// The circuit, inputs and wires of the last repeat, the run after it by giant steps, how many repeats there were, and whether
+    /// the run is closed: 10, 12, 13.
+    fn repeat(&self, size: Size, rows: &[model::Row], gates: Vec<u32>) -> Result<Writes, u8> {
+        let (inputs, room) = (memory::input_wires(size), self.bytes(4).len());
+        if self.bytes(3).len() < inputs || room < inputs + gates.len() / 3 {
+            return Err(10);
         }
+        let mut run = memory::run_for(size.0, self.words(5))?;
+        let (mut repeats, mut packed) = (0, None);
+        while run.standing == model::Standing::Open && repeats < self.numbers[3] {
+            packed = Some(memory::packed(size, self.tables(), &memory::run_words(&run), inputs)?);
+            run.step(rows);
+            repeats += 1;
+        }
+        let mark = u64::from(run.standing != model::Standing::Open);
+        let mut writes = vec![(5, Lent::Run(memory::run_words(&run))), (6, Lent::Numbers(vec![repeats, mark]))];
+        if let Some(packed) = packed {
+            writes.push((4, Lent::Bytes(memory::evaluated(&gates, &packed, room)?)));
+            writes.push((3, Lent::Bytes(packed)));
+        }
+        writes.push((2, Lent::Words(gates)));
+        Ok(writes)
     }
 
     /// The lines of the circuit's text from the one that is asked for on: 1, 2, 9.
@@ -247,13 +241,11 @@ impl Call {
         Ok(vec![(1, Lent::Bytes(text)), (2, Lent::Numbers(numbers))])
     }
 
-    /// The composed answer and its length; 11.
+    /// The composed answer and its length: 1.
     fn answer(&self) -> Result<Writes, u8> {
-        let text = memory::answer(self.numbers[0], self.numbers[1], self.numbers[2], self.numbers[3]);
-        if self.bytes(0).len() < text.len() {
-            return Err(11);
-        }
+        let n = memory::size(self.numbers[0], 1, 1)?.0;
+        let text = memory::answer(n, self.numbers[1], self.numbers[2], self.numbers[3]);
         let length = text.len() as u64;
-        Ok(vec![(0, Lent::Bytes(text)), (1, Lent::Numbers(vec![length]))])
+        Ok(vec![(0, Lent::Text(text)), (1, Lent::Numbers(vec![length]))])
     }
 }

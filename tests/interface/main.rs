@@ -1,5 +1,5 @@
 //! Tests of the library as hosts call it. Use: interface CALLS [exact]
-//! Every refusal as it was written by hand, then as many random calls over all functions: each result and every lent buffer
+//! Every refusal as it was written by hand, alone and two at once, then random calls over all functions: each result and every lent buffer
 //! is held to the model. With `exact` each buffer has an allocation of its own of exactly its length, for a memory checker;
 //! else it stands between guards. The last line is `N passed, M failed`, and the status 0 where M is 0.
 

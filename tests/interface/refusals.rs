@@ -1,9 +1,10 @@
-//! Every refusal of every function, written by hand: a call that is taken, one change to it, and the number that it then gets.
+//! Every refusal of every function, written by hand: a call that is taken, one change to it or two, and the number that it then gets.
 
 use crate::calls::{Call, Function, Lent};
 use crate::circuits::Circuits;
 use forkhemit_tests::memory::{self, RUN_WORDS};
 use forkhemit_tests::model::{self, TEXT_LIMIT};
+use std::rc::Rc;
 
 /// A call to be made: what was changed, and the number expected.
 pub struct Case {
@@ -12,7 +13,19 @@ pub struct Case {
     pub number: u8,
 }
 
-type Change = Box<dyn Fn(&mut Call)>;
+/// What a change touches: a number or a buffer.
+#[derive(Clone, Copy, PartialEq)]
+enum Place {
+    Number(usize),
+    Lent(usize),
+}
+
+/// A change to a call, and all that it touches.
+#[derive(Clone)]
+struct Change {
+    places: Vec<Place>,
+    make: Rc<dyn Fn(&mut Call)>,
+}
 
 /// What is changed, the number that it leads to, and the change.
 type Changes = Vec<(String, u8, Change)>;
@@ -51,53 +64,69 @@ fn base(function: Function, circuits: &Circuits) -> Result<Call, String> {
             (vec![], [texts.to_vec(), vec![words(2), words(2), numbers(3)]].concat())
         }
         Function::Accept => (d, tables()),
-        Function::Fresh => (vec![2], vec![words(RUN_WORDS)]),
-        Function::Step => (d, [tables(), vec![Lent::Words(run())]].concat()),
+        Function::Fresh => (vec![2], vec![Lent::Run(vec![7; RUN_WORDS])]),
+        Function::Step => (d, [tables(), vec![Lent::Run(run())]].concat()),
         Function::Solve => (vec![2, 1, 1, 9], [tables(), vec![numbers(3)]].concat()),
-        Function::Model => (vec![], vec![Lent::Words(satisfied), numbers(1)]),
+        Function::Model => (vec![], vec![Lent::Run(satisfied), numbers(1)]),
         Function::Generate => (d, vec![words(3 * model::ceiling(2, 2)), numbers(1)]),
-        Function::Pack => (d, [tables(), vec![Lent::Words(run()), bytes(inputs)]].concat()),
+        Function::Pack => (d, [tables(), vec![Lent::Run(run()), bytes(inputs)]].concat()),
         Function::Evaluate => (vec![], vec![Lent::Words(gates), Lent::Bytes(packed), bytes(wires)]),
-        Function::ReadBack => (vec![2], vec![Lent::Bytes(state), words(RUN_WORDS)]),
-        Function::Apply => {
-            let lent = vec![Lent::Words(gates), Lent::Words(run()), bytes(inputs), bytes(wires), numbers(1)];
-            (d, [tables(), lent].concat())
+        Function::ReadBack => (vec![2], vec![Lent::Bytes(state), Lent::Run(vec![7; RUN_WORDS])]),
+        Function::Repeat => {
+            let lent = vec![words(3 * model::ceiling(2, 2)), bytes(inputs), bytes(wires), Lent::Run(run()), numbers(2)];
+            (vec![2, 1, 1, 9], [tables(), lent].concat())
         }
         Function::WriteLine => (vec![2, 1, 1, 4], vec![Lent::Words(gates), bytes(64), numbers(1)]),
         Function::WriteLines => (vec![2, 1, 1, 0], vec![Lent::Words(gates), bytes(64), numbers(2)]),
         Function::ReadBudget => (vec![], vec![Lent::Bytes(b"18446744073709551615\n".to_vec()), numbers(1)]),
-        Function::Answer => (vec![2, 3, 1, 0b10], vec![bytes(256), numbers(1)]),
+        Function::Answer => (vec![2, 3, 1, 0b10], vec![Lent::Text(vec![7; 256]), numbers(1)]),
     };
     Ok(Call { function, numbers, lent })
 }
 
 // ---- Changes
 
+impl Change {
+    /// One place changed.
+    fn new(place: Place, make: impl Fn(&mut Call) + 'static) -> Change {
+        Change { places: vec![place], make: Rc::new(make) }
+    }
+}
+
 /// Another number at k.
 fn number(k: usize, to: u64) -> Change {
-    Box::new(move |call| call.numbers[k] = to)
+    Change::new(Place::Number(k), move |call| call.numbers[k] = to)
 }
 
 /// A buffer that ends after so many elements.
 fn cut(k: usize, length: usize) -> Change {
-    Box::new(move |call| match &mut call.lent[k] {
+    Change::new(Place::Lent(k), move |call| match &mut call.lent[k] {
         Lent::Bytes(bytes) => bytes.truncate(length),
         Lent::Words(words) => words.truncate(length),
-        Lent::Numbers(numbers) => numbers.truncate(length),
+        _ => panic!("an array has its length"),
+    })
+}
+
+/// A buffer an element shorter.
+fn shorter(k: usize) -> Change {
+    Change::new(Place::Lent(k), move |call| match &mut call.lent[k] {
+        Lent::Bytes(bytes) => drop(bytes.pop()),
+        Lent::Words(words) => drop(words.pop()),
+        _ => panic!("an array has its length"),
     })
 }
 
 /// Another word in buffer k.
 fn word(k: usize, at: usize, to: u32) -> Change {
-    Box::new(move |call| match &mut call.lent[k] {
-        Lent::Words(words) => words[at] = to,
+    Change::new(Place::Lent(k), move |call| match &mut call.lent[k] {
+        Lent::Words(words) | Lent::Run(words) => words[at] = to,
         _ => panic!("the buffer holds no words"),
     })
 }
 
 /// Another byte in buffer k.
 fn byte(k: usize, at: usize, to: u8) -> Change {
-    Box::new(move |call| match &mut call.lent[k] {
+    Change::new(Place::Lent(k), move |call| match &mut call.lent[k] {
         Lent::Bytes(bytes) => bytes[at] = to,
         _ => panic!("the buffer holds no bytes"),
     })
@@ -105,22 +134,23 @@ fn byte(k: usize, at: usize, to: u8) -> Change {
 
 /// Another text as buffer k.
 fn text(k: usize, text: Vec<u8>) -> Change {
-    Box::new(move |call| call.lent[k] = Lent::Bytes(text.clone()))
+    Change::new(Place::Lent(k), move |call| call.lent[k] = Lent::Bytes(text.clone()))
 }
 
 /// Two changes, one after the other.
 fn both(first: Change, second: Change) -> Change {
-    Box::new(move |call| {
-        first(call);
-        second(call);
-    })
+    let places = [first.places, second.places].concat();
+    let make = move |call: &mut Call| {
+        (first.make)(call);
+        (second.make)(call);
+    };
+    Change { places, make: Rc::new(make) }
 }
 
 /// 1 and 2, at numbers that a cut to fewer bits would make right.
 fn sizes(changes: &mut Changes) {
     for n in [0, 33, 34, 255, 256, 257, 258, 65_538, (1 << 32) + 2, u64::MAX] {
         changes.push((format!("n {n}"), 1, number(0, n)));
-        changes.push((format!("n {n} and no left rows"), 1, both(number(0, n), number(1, 0))));
     }
     for rows in [0, 129, 255, 256, 257, 65_537, (1 << 32) + 1, u64::MAX] {
         changes.push((format!("left rows {rows}"), 2, number(1, rows)));
@@ -128,7 +158,7 @@ fn sizes(changes: &mut Changes) {
     }
 }
 
-/// 4 and 3, left and right, and 4 before 3.
+/// 4 and 3, left and right.
 fn tables(changes: &mut Changes) {
     for (k, side) in [(0, "left"), (1, "right")] {
         for length in [1, 0] {
@@ -139,7 +169,6 @@ fn tables(changes: &mut Changes) {
             changes.push((format!("bit 31 in {side} word {at}"), 3, word(k, at, 1 << 31)));
         }
     }
-    changes.push(("a bit on the left, a word short on the right".into(), 4, both(word(0, 0, 8), cut(1, 1))));
 }
 
 /// 12 by every clause of well-formed, in the run at place k.
@@ -174,8 +203,6 @@ fn states(k: usize, changes: &mut Changes) {
         let change = if at_depth_0 { both(word(k, 4, 0), word(k, 7, 1)) } else { word(k, at, to) };
         changes.push((format!("run with {what}"), 12, change));
     }
-    changes.push(("a run a word short".into(), 12, cut(k, RUN_WORDS - 1)));
-    changes.push(("no run".into(), 12, cut(k, 0)));
 }
 
 /// 9, in gates at place k.
@@ -196,93 +223,97 @@ fn add(list: &mut Changes, what: &str, number: u8, change: Change) {
     list.push((what.into(), number, change));
 }
 
-/// The texts' 1, 2, 5 and 6, then 4, left and right.
+/// The texts' 1, 2 and 5, left and right, then 4 and 6. A header's 1 or 2 comes before 5, an overlong text is 5 before all else.
 fn read_pair(list: &mut Changes) {
+    let overlong = |text: &[u8]| [text, &vec![b'\n'; TEXT_LIMIT + 1 - text.len()]].concat();
     for (k, side) in [(0, "left"), (1, "right")] {
-        add(list, &format!("{side} n 33"), 1, text(k, b"p cnf 33 1\n1 0\n".to_vec()));
-        add(list, &format!("{side} n 0"), 1, text(k, b"p cnf 0 1\n1 0\n".to_vec()));
-        add(list, &format!("{side} 129 rows"), 2, text(k, b"p cnf 2 129\n1 0\n".to_vec()));
-        add(list, &format!("{side} no rows"), 2, text(k, b"p cnf 2 0\n".to_vec()));
-        add(list, &format!("{side} without a last 0"), 5, text(k, b"p cnf 2 1\n1 2\n".to_vec()));
-        add(list, &format!("{side} empty"), 5, text(k, vec![]));
-        let mut long = TEXTS[k].to_vec();
-        long.resize(TEXT_LIMIT + 1, b'\n');
-        add(list, &format!("{side} overlong"), 5, text(k, long));
-        add(list, &format!("{side} n 3"), 6, text(k, b"p cnf 3 1\n1 0\n".to_vec()));
+        for (what, number, to) in [
+            ("n 33", 1, &b"p cnf 33 1\n1 0\n"[..]),
+            ("n 0", 1, b"p cnf 0 1\n1 0\n"),
+            ("n 33 and 129 rows", 1, b"p cnf 33 129\n1 0\n"),
+            ("n 33 and a literal above n", 1, b"p cnf 33 1\n34 0\n"),
+            ("129 rows", 2, b"p cnf 2 129\n1 0\n"),
+            ("no rows", 2, b"p cnf 2 0\n"),
+            ("no rows and no last 0", 2, b"p cnf 2 0\n1\n"),
+            ("no last 0", 5, b"p cnf 2 1\n1 2\n"),
+            ("nothing", 5, b""),
+            ("n 3", 6, b"p cnf 3 1\n1 0\n"),
+        ] {
+            add(list, &format!("{side} text with {what}"), number, text(k, to.to_vec()));
+        }
+        add(list, &format!("{side} text overlong"), 5, text(k, overlong(TEXTS[k])));
+        add(list, &format!("{side} text overlong with n 33"), 5, text(k, overlong(b"p cnf 33 1\n1 0\n")));
         add(list, &format!("{side} words short"), 4, cut(2 + k, 1));
         add(list, &format!("{side} no words"), 4, cut(2 + k, 0));
     }
-    let (left, right) = (b"p cnf 2 1\n1 2\n".to_vec(), b"p cnf 33 1\n1 0\n".to_vec());
-    add(list, "left 5 before right 1", 5, both(text(0, left), text(1, right.clone())));
-    add(list, "right 1 before words short", 1, both(text(1, right), cut(2, 0)));
-    add(list, "6 before words short", 6, both(text(1, b"p cnf 3 1\n1 0\n".to_vec()), cut(2, 0)));
 }
 
-/// 1, then 12.
-fn fresh(list: &mut Changes) {
-    for n in [0, 33, 257, 258, (1 << 32) + 2, u64::MAX] {
+/// 1.
+fn variables(list: &mut Changes) {
+    for n in [0, 33, 255, 256, 257, 258, (1 << 32) + 2, u64::MAX] {
         add(list, &format!("n {n}"), 1, number(0, n));
     }
-    add(list, "n 0 and no room", 1, both(number(0, 0), cut(0, 0)));
-    add(list, "a word short", 12, cut(0, RUN_WORDS - 1));
-    add(list, "no room", 12, cut(0, 0));
 }
 
-/// 13, and a run's 12.
+/// 13, and a run's 12, in the run at place k.
+fn run_at(k: usize, list: &mut Changes) {
+    add(list, "a run of n 3", 13, word(k, 0, 3));
+    add(list, "a run of n 3 with standing 3", 12, both(word(k, 0, 3), word(k, 1, 3)));
+    states(k, list);
+}
+
+/// A run's 12 and 13.
 fn step(list: &mut Changes) {
-    add(list, "a run of n 3", 13, word(2, 0, 3));
-    add(list, "12 before 13", 12, both(word(2, 0, 3), word(2, 1, 3)));
-    add(list, "3 before 12", 3, both(word(0, 0, 8), word(2, 1, 3)));
-    states(2, list);
+    run_at(2, list);
 }
 
 /// 14, and a run's 12.
 fn model_wanted(list: &mut Changes) {
     add(list, "an open run", 14, word(0, 1, 0));
     add(list, "a refuted run", 14, word(0, 1, 2));
-    add(list, "12 before 14", 12, both(word(0, 1, 0), word(0, 3, 1)));
+    add(list, "an open run with a variable true and false", 12, both(word(0, 1, 0), word(0, 3, 1)));
     states(0, list);
 }
 
 /// 7.
 fn generate(list: &mut Changes) {
-    add(list, "a word short", 7, cut(0, 3 * model::ceiling(2, 2) - 1));
+    add(list, "a word short", 7, shorter(0));
     add(list, "no words", 7, cut(0, 0));
-    add(list, "2 before 7", 2, both(number(1, 0), cut(0, 0)));
 }
 
-/// 10 and 13, and a run's 12.
+/// 10, and a run's 12 and 13.
 fn pack(list: &mut Changes) {
-    let inputs = memory::input_wires(SIZE);
-    add(list, "a byte short", 10, cut(3, inputs - 1));
+    add(list, "a byte short", 10, shorter(3));
     add(list, "no bytes", 10, cut(3, 0));
-    add(list, "a run of n 3", 13, word(2, 0, 3));
-    add(list, "10 before 12", 10, both(cut(3, 0), word(2, 1, 3)));
-    add(list, "3 before 10", 3, both(cut(3, 0), word(0, 0, 8)));
-    states(2, list);
+    run_at(2, list);
+}
+
+/// 7 and 10, and a run's 12 and 13.
+fn repeat(list: &mut Changes) {
+    add(list, "a gate word short", 7, shorter(2));
+    add(list, "no gate words", 7, cut(2, 0));
+    add(list, "an input byte short", 10, shorter(3));
+    add(list, "a wire short", 10, shorter(4));
+    add(list, "room for the inputs alone", 10, cut(4, memory::input_wires(SIZE)));
+    run_at(5, list);
 }
 
 /// 10, and 9 by every clause of it.
 fn evaluate(list: &mut Changes) {
     let inputs = memory::input_wires(SIZE);
-    add(list, "a wire short", 10, Box::new(|call| shorten(call, 2)));
+    add(list, "a wire short", 10, shorter(2));
     add(list, "no wires", 10, cut(2, 0));
     add(list, "an input of 2", 10, byte(1, 0, 2));
     add(list, "a last input of 255", 10, byte(1, inputs - 1, 255));
-    add(list, "an input fewer", 9, cut(1, 1));
-    add(list, "9 before 10", 9, both(word(0, 0, 3), cut(2, 0)));
+    add(list, "inputs cut off", 9, cut(1, 1));
     gates(0, inputs, list);
 }
 
-/// 1 and 10, then 12 by every clause of it.
+/// 10, then 12 by every clause of it.
 fn read_back(list: &mut Changes) {
     let state = forkhemit_tests::wires::state_width(2);
-    for n in [0, 33, 257, 258, u64::MAX] {
-        add(list, &format!("n {n}"), 1, number(0, n));
-    }
+    add(list, "a byte short", 10, shorter(0));
     add(list, "n 3", 10, number(0, 3));
-    add(list, "a byte short", 10, cut(0, state - 1));
-    add(list, "10 before 12", 10, both(cut(0, state - 1), cut(1, 0)));
     add(list, "a byte of 2", 12, byte(0, 0, 2));
     add(list, "two depth wires", 12, byte(0, 4, 1));
     add(list, "no depth wire", 12, byte(0, 5, 0));
@@ -290,30 +321,13 @@ fn read_back(list: &mut Changes) {
     add(list, "a variable true and false", 12, byte(0, 2, 1));
     add(list, "an unused level", 12, byte(0, 13, 1));
     add(list, "two variables chosen", 12, byte(0, 12, 1));
-    add(list, "a run a word short", 12, cut(1, RUN_WORDS - 1));
-    add(list, "no run", 12, cut(1, 0));
-}
-
-/// 10 and 13, then 9, and a run's 12.
-fn apply(list: &mut Changes) {
-    let inputs = memory::input_wires(SIZE);
-    add(list, "packed bytes a byte short", 10, cut(4, inputs - 1));
-    add(list, "a wire short", 10, Box::new(|call| shorten(call, 5)));
-    add(list, "a run of n 3", 13, word(3, 0, 3));
-    add(list, "packing's 10 before 12", 10, both(cut(4, 0), word(3, 1, 3)));
-    add(list, "packing's 13 before 9", 13, both(word(3, 0, 3), word(2, 0, 3)));
-    add(list, "9 before the wires' 10", 9, both(word(2, 0, 3), cut(5, 0)));
-    gates(2, inputs, list);
-    states(3, list);
 }
 
 /// 11, and 9 by every clause of it.
 fn write(list: &mut Changes) {
-    let inputs = memory::input_wires(SIZE);
     add(list, "a byte for a line", 11, cut(1, 1));
     add(list, "no bytes", 11, cut(1, 0));
-    add(list, "9 before 11", 9, both(word(0, 0, 3), cut(1, 0)));
-    gates(0, inputs, list);
+    gates(0, memory::input_wires(SIZE), list);
 }
 
 /// 8.
@@ -325,52 +339,67 @@ fn read_budget(list: &mut Changes) {
     add(list, "no LF in 101 bytes", 8, text(0, b"0".repeat(101)));
 }
 
-/// 11.
-fn answer(list: &mut Changes) {
-    // `c steps 3`, `s SATISFIABLE` and `v -1 2 0` are 33 bytes with their line ends
-    add(list, "a byte short", 11, cut(0, 32));
-    add(list, "no bytes", 11, cut(0, 0));
-}
-
 /// The changes of a function, with the number that each leads to.
 fn changes(function: Function) -> Changes {
     let groups: &[fn(&mut Changes)] = match function {
         Function::Sizes => &[sizes],
         Function::ReadPair => &[read_pair],
         Function::Accept | Function::Solve => &[sizes, tables],
-        Function::Fresh => &[fresh],
+        Function::Fresh | Function::Answer => &[variables],
         Function::Step => &[sizes, tables, step],
         Function::Model => &[model_wanted],
         Function::Generate => &[sizes, generate],
         Function::Pack => &[sizes, tables, pack],
         Function::Evaluate => &[evaluate],
-        Function::ReadBack => &[read_back],
-        Function::Apply => &[sizes, tables, apply],
+        Function::ReadBack => &[variables, read_back],
+        Function::Repeat => &[sizes, tables, repeat],
         Function::WriteLine | Function::WriteLines => &[sizes, write],
         Function::ReadBudget => &[read_budget],
-        Function::Answer => &[answer],
     };
     let mut list = vec![];
     groups.iter().for_each(|group| group(&mut list));
     list
 }
 
-/// A buffer an element shorter.
-fn shorten(call: &mut Call, k: usize) {
-    if let Lent::Bytes(bytes) = &mut call.lent[k] {
-        bytes.pop();
+// ---- Two changes at once
+
+/// Which of two refusals comes first: the lower number, but 4 before 3; of two texts whatever refuses the left one, then
+/// whatever refuses the right one, then 4 and 6.
+fn order(function: Function, number: u8, change: &Change) -> u8 {
+    match (function, number) {
+        (Function::ReadPair, 1 | 2 | 5) => u8::from(change.places == [Place::Lent(1)]),
+        (_, 4) => 3,
+        (_, 3) => 4,
+        (_, number) => number,
     }
 }
 
-/// Every function's call that is taken, and every change to it.
+/// Two changes at different places, where the first one's refusal comes first. Two texts of another n may share it.
+fn pairs(function: Function, single: &Changes) -> Changes {
+    let mut list = vec![];
+    for (what, number, first) in single {
+        for (other, later, second) in single {
+            let apart = !first.places.iter().any(|place| second.places.contains(place));
+            let before = order(function, *number, first) < order(function, *later, second);
+            if apart && before {
+                list.push((format!("{what}, {other}"), *number, both(first.clone(), second.clone())));
+            }
+        }
+    }
+    list
+}
+
+/// Every function's call that is taken, every change to it, and every two changes at once.
 pub fn cases(functions: &[Function], circuits: &Circuits) -> Result<Vec<Case>, String> {
     let mut cases = vec![];
     for &function in functions {
         let call = base(function, circuits)?;
         cases.push(Case { what: format!("{function:?}: the call that is changed"), call: call.clone(), number: 0 });
-        for (what, number, change) in changes(function) {
+        let single = changes(function);
+        let double = pairs(function, &single);
+        for (what, number, change) in single.into_iter().chain(double) {
             let mut call = call.clone();
-            change(&mut call);
+            (change.make)(&mut call);
             cases.push(Case { what: format!("{function:?}: {what}"), call, number });
         }
     }

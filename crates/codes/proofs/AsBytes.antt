@@ -16,7 +16,7 @@ use Rattle.refusals.proofs.Outcomes.{check-passed, checks-taken}
 use Rattle.dimensions.specs.declared.Dimensions.{Dimensions}
 use Rattle.dimensions.specs.Sizes.{outside, sizeChecks}
 use Rattle.dimensions.proofs.Limits.{most}
-use Rattle.codes.specs.Codes.{dimensions}
+use Rattle.codes.specs.Codes.{variableChecks, dimensions}
 
 -- ---- a limit
 
@@ -29,6 +29,12 @@ above limit k h = rw (lt-ltb limit k h) (or-true (ltb k 1))
 pub inside : (limit k : ℕ) → 1 ≤ k → k ≤ limit → outside limit k ≡ false
 inside limit k h l = rw (le-ltb k 1 h, le-ltb limit k l)
 
+pub variables-refused : (n : ℕ) → outside 32 n ≡ true → Refused Variables ≡ outcome (variableChecks n)
+variables-refused n h = rw h
+
+pub variables-taken : (n : ℕ) → outside 32 n ≡ false → Taken ≡ outcome (variableChecks n)
+variables-taken n h = rw h
+
 -- ---- a number as a byte
 
 pub outside-byte : (limit k : ℕ) → limit < 255 → outside limit (min k 255) ≡ outside limit k
@@ -40,6 +46,20 @@ outside-byte limit k h =
 
 pub inside-byte : (limit k : ℕ) → limit < 255 → outside limit k ≡ false → min k 255 ≡ k
 inside-byte limit k h e = omega (arith, most limit k e)
+
+-- what is the same for every n outside the limit: its value on the byte is its value on the number
+pub on-number : {A : Type 0} (f : ℕ → A) (x : A) → ((k : ℕ) → outside 32 k ≡ true → f k ≡ x) → (n k : ℕ) → k ≡ min n 255 → f k ≡ f n
+on-number f x refused n k e =
+    ap f e
+    ∙ on (outside 32 n)
+    (λ h. refused (min n 255) (outside-byte 32 n (omega arith) ∙ h) ∙ sym (refused n h))
+    (λ h. ap f (inside-byte 32 n (omega arith) h))
+
+pub checks-are : (n k : ℕ) → k ≡ min n 255 → outcome (variableChecks k) ≡ outcome (variableChecks n)
+checks-are = on-number (λ x. outcome (variableChecks x)) (Refused Variables) (λ x h. sym (variables-refused x h))
+
+pub taken-low : (n : ℕ) → outcome (variableChecks n) ≡ Taken → n ≤ 32
+taken-low n e = most 32 n (check-passed (outside 32 n) Variables Taken e)
 
 -- ---- three numbers as bytes
 

@@ -1,26 +1,22 @@
--- Dimensions and a verdict from numbers, and a verdict as numbers.
+-- Dimensions and a verdict from numbers.
 use Prim.Native.Nat.{ℕ, _%_, _^_}
 use mathlib.Core.Bool.{cond}
+use mathlib.Core.List.{List, [], _∷_}
 use lib.Dec.{eqb}
+use Rattle.refusals.specs.Checks.{Check, check}
+use Rattle.refusals.specs.declared.Refusal.the-variants.{Variables}
+use Rattle.dimensions.specs.Sizes.{mostVariables, outside}
 use Rattle.dimensions.specs.declared.Dimensions.{Dimensions}
 use Rattle.verdicts.specs.declared.Verdict.{Verdict}
 use Rattle.verdicts.specs.declared.Verdict.the-variants.{Satisfiable, Unsatisfiable, Unknown}
 
+-- 1: n outside 1 to 32
+abbrev pub variableChecks : ℕ → List Check
+variableChecks n = check (outside mostVariables n) Variables ∷ []
+
 -- three numbers as dimensions, whatever they are: every entry judges them first
 abbrev pub dimensions : ℕ → ℕ → ℕ → Dimensions
 dimensions n left right = record { n = n; left = left; right = right }
-
--- the number of the standing that the verdict follows from
-abbrev pub verdictNumber : Verdict → ℕ
-verdictNumber Unknown = 0
-verdictNumber (Satisfiable model) = 1
-verdictNumber Unsatisfiable = 2
-
--- 0 without a model
-abbrev pub modelWord : Verdict → ℕ
-modelWord Unknown = 0
-modelWord (Satisfiable model) = model
-modelWord Unsatisfiable = 0
 
 -- the verdict of a number: any other than 1 and 2 is unknown; a model has 32 variables
 abbrev pub verdictFrom : ℕ → ℕ → Verdict

@@ -1,12 +1,15 @@
 // Results as numbers, and dimensions and verdicts from numbers.
 use dimensions::Dimensions;
 use refusals::Outcome;
+use refusals::Refusal;
 use verdicts::Verdict;
 ghost use mathlib.Core.Path.{_≡_};
 ghost use Prim.Native.Nat.{min};
 ghost use Rattle.codes.specs.Codes as Codes;
+ghost use Rattle.refusals.specs.Checks.{outcome};
 ghost use Rattle.refusals.specs.Numbers.{codeOf};
-ghost use Rattle.codes.specs.Codes.{modelWord, verdictFrom};
+ghost use Rattle.verdicts.specs.Verdicts.{verdictNumber, modelWord};
+ghost use Rattle.codes.specs.Codes.{variableChecks, verdictFrom};
 
 // A number as a byte. What no byte holds becomes 255, which no limit allows either.
 pub fn byte(x: u64) -> u8
@@ -16,6 +19,16 @@ pub fn byte(x: u64) -> u8
         return x as u8;
     }
     255
+}
+
+// Whether there may be n variables: 1 if not.
+pub fn check_variables(n: u8) -> Outcome
+    ensures { λ r. ⌜ r ≡ outcome (variableChecks n) ⌝ }
+{
+    if (n < 1) | (Dimensions::VARIABLES < n as u64) {
+        return Outcome::Refused(Refusal::Variables);
+    }
+    Outcome::Taken
 }
 
 // Three numbers as dimensions.
@@ -41,7 +54,7 @@ pub fn code(outcome: Outcome) -> u8
 
 // The number of a verdict.
 pub fn verdict_number(verdict: Verdict) -> u64
-    ensures { λ r. ⌜ r ≡ Codes.verdictNumber verdict ⌝ }
+    ensures { λ r. ⌜ r ≡ verdictNumber verdict ⌝ }
 {
     match verdict {
         Verdict::Unknown => 0,

@@ -1,6 +1,7 @@
 -- What the circuit's entries give on a host's numbers as bytes is what they give on the numbers: refused sizes are refused alike, since the checks begin with those.
 -- Assumes nothing.
 use mathlib.Core.Path.{_≡_, refl, sym, ap, subst, _∙_}
+use mathlib.Core.Bool.{_||_}
 use mathlib.Core.List.{List, [], _∷_, _++_}
 use Prim.Native.Nat.{ℕ, _+_, _*_, _≤_, min}
 use native.Mathlib.Omega.{arith}
@@ -24,17 +25,19 @@ use Rattle.wires.specs.Packing.{packChecks, packed}
 use Rattle.generator.specs.declared.Generated.{Generated}
 use Rattle.generator.specs.declared.Generated.the-variants as generated′
 use Rattle.generator.specs.Generation.{generated, written, Carried}
-use Rattle.repeats.specs.declared.Applied.{Applied}
-use Rattle.repeats.specs.Application.{turnedBack, judged, bytesAfter, wiresAfter, applied}
-use Rattle.repeats.proofs.Judging.{refuse-packing}
-use Rattle.lent.specs.Lent.{frontIf}
+use Rattle.netlist.specs.Netlist.{gatesOn}
+use Rattle.repeats.specs.declared.Repeated.{Repeated}
+use Rattle.repeats.specs.Repeating.{allowed, repeated, refusedWith, gatesAfter, bytesAfter, wiresAfter}
 use Rattle.codes.specs.Codes.{dimensions}
 use Rattle.codes.proofs.AsBytes.{asBytes, taken-same, on-numbers}
-use Rattle.host_circuits.specs.Circuits.{sizeNumbers, applyIn}
+use Rattle.host_circuits.specs.Circuits.{sizeNumbers, sizesGiven, repeatIn}
 
 -- ---- refused sizes
 
 module _ (d : Dimensions) (q : Refusal) (h : outcome (sizeChecks (d .n) (d .left) (d .right)) ≡ Refused q) where
+  pub sizes-refused : (lent : List ℕ) → lent ≡ sizesGiven d lent
+  sizes-refused lent = rw h
+
   module _ (words : List ℕ) where
     room-refused : outcome (sizeChecks (d .n) (d .left) (d .right) ++ (check (ltb (length words) (3 * ceiling d)) GateBuffer ∷ [])) ≡ Refused q
     room-refused = outcome-refused (sizeChecks (d .n) (d .left) (d .right)) (check (ltb (length words) (3 * ceiling d)) GateBuffer ∷ []) q h
@@ -55,21 +58,33 @@ module _ (d : Dimensions) (q : Refusal) (h : outcome (sizeChecks (d .n) (d .left
     unfolding packed
     pack-refused = rw (check-refused (length bytes))
 
-    module _ (gates wires : List ℕ) where
-      judged-refused : judged d tables gates run bytes wires ≡ Refused q
-      judged-refused = refuse-packing d tables gates run bytes wires q (check-refused (length bytes))
+  module _ (tables : Tables) (times : ℕ) (gates bytes wires : List ℕ) (run : Run) where
+    allowed-refused : allowed d tables times gates bytes wires run ≡ Refused q
+    unfolding allowed
+    allowed-refused =
+        outcome-refused (sizeChecks (d .n) (d .left) (d .right))
+        (wordChecks d tables ++ (check (ltb (length gates) (3 * ceiling d)) GateBuffer ∷ (check (ltb (length bytes) (inputWires d) || ltb (length wires) (inputWires d + length (gatesOn d))) Wires ∷ stateChecks d run))) q h
 
-      bytes-refused : bytesAfter d tables gates run bytes wires ≡ bytes
-      unfolding bytesAfter
-      bytes-refused = rw judged-refused
+    repeat-refused : repeated d tables times gates bytes wires run ≡ refusedWith run q
+    unfolding repeated
+    repeat-refused = rw allowed-refused
 
-      wires-refused : wiresAfter d tables gates run bytes wires ≡ wires
-      unfolding wiresAfter
-      wires-refused = rw judged-refused
+    repeat-gates-refused : gatesAfter d tables times gates bytes wires run ≡ gates
+    unfolding gatesAfter
+    repeat-gates-refused = rw allowed-refused
 
-      apply-refused : applied d tables gates run bytes wires ≡ turnedBack run q
-      unfolding applied
-      apply-refused = rw judged-refused
+    repeat-bytes-refused : bytesAfter d tables times gates bytes wires run ≡ bytes
+    unfolding bytesAfter
+    repeat-bytes-refused = rw allowed-refused
+
+    repeat-wires-refused : wiresAfter d tables times gates bytes wires run ≡ wires
+    unfolding wiresAfter
+    repeat-wires-refused = rw allowed-refused
+
+-- ---- sizes within the limits
+
+pub sizes-taken : (d : Dimensions) (lent : List ℕ) → outcome (sizeChecks (d .n) (d .left) (d .right)) ≡ Taken → sizeNumbers d ≡ sizesGiven d lent
+sizes-taken d lent h = rw h
 
 -- ---- any sizes
 
@@ -80,11 +95,8 @@ module _ (n left-rows right-rows : ℕ) (d : Dimensions) (e : d ≡ asBytes n le
   pub size-is : (o : Outcome) → o ≡ outcome (sizeChecks (d .n) (d .left) (d .right)) → o ≡ outcome (sizeChecks n left-rows right-rows)
   size-is = on-numbers n left-rows right-rows (λ x. outcome (sizeChecks (x .n) (x .left) (x .right))) Refused (λ x q h. h) d e
 
-  pub sizes-are : (o : Outcome) (lent : List ℕ) → o ≡ outcome (sizeChecks (d .n) (d .left) (d .right))
-      → frontIf o (sizeNumbers d) lent ≡ frontIf (outcome (sizeChecks n left-rows right-rows)) (sizeNumbers asked) lent
-  sizes-are o lent r =
-      on-numbers n left-rows right-rows (λ x. frontIf (outcome (sizeChecks (x .n) (x .left) (x .right))) (sizeNumbers x) lent) (λ q. lent)
-      (λ x q h. ap (λ (y : Outcome). frontIf y (sizeNumbers x) lent) h) d e _ (ap (λ (x : Outcome). frontIf x (sizeNumbers d) lent) r)
+  pub sizes-are : (lent after : List ℕ) → after ≡ sizesGiven d lent → after ≡ sizesGiven asked lent
+  sizes-are lent = on-numbers n left-rows right-rows (λ x. sizesGiven x lent) (λ q. lent) (λ x q h. sym (sizes-refused x q h lent)) d e
 
   pub ceiling-low : (k : ℕ) → k ≡ ceiling d → k ≤ 4294967296
   ceiling-low k r =
@@ -119,18 +131,27 @@ module _ (n left-rows right-rows : ℕ) (d : Dimensions) (e : d ≡ asBytes n le
         on-numbers n left-rows right-rows (λ x. packed x tables run bytes) (λ q. bytes) (λ x q h. pack-refused x q h tables run bytes) d e after r
         ∙ ap (λ (x : Run). packed asked tables x bytes) held
 
-    module _ (gates bytes wires : List ℕ) where
-      pub apply-is : (a : Applied) → a ≡ applied d tables gates run bytes wires → a ≡ applyIn asked tables gates words bytes wires
-      apply-is a r =
-          on-numbers n left-rows right-rows (λ x. applied x tables gates run bytes wires) (turnedBack run) (λ x q h. apply-refused x q h tables run bytes gates wires) d e a r
-          ∙ ap (λ (x : Run). applied asked tables gates x bytes wires) held
+    module _ (times : ℕ) (gates bytes wires : List ℕ) where
+      pub repeat-is : (r : Repeated) → r ≡ repeated d tables times gates bytes wires run → r ≡ repeatIn asked tables times gates bytes wires words
+      repeat-is r is =
+          on-numbers n left-rows right-rows (λ x. repeated x tables times gates bytes wires run) (refusedWith run)
+          (λ x q h. repeat-refused x q h tables times gates bytes wires run) d e r is
+          ∙ ap (λ (x : Run). repeated asked tables times gates bytes wires x) held
 
-      pub bytes-are : (after : List ℕ) → after ≡ bytesAfter d tables gates run bytes wires → after ≡ bytesAfter asked tables gates (runIn words) bytes wires
-      bytes-are after r =
-          on-numbers n left-rows right-rows (λ x. bytesAfter x tables gates run bytes wires) (λ q. bytes) (λ x q h. bytes-refused x q h tables run bytes gates wires) d e after r
-          ∙ ap (λ (x : Run). bytesAfter asked tables gates x bytes wires) held
+      pub repeat-gates-are : (after : List ℕ) → after ≡ gatesAfter d tables times gates bytes wires run → after ≡ gatesAfter asked tables times gates bytes wires (runIn words)
+      repeat-gates-are after is =
+          on-numbers n left-rows right-rows (λ x. gatesAfter x tables times gates bytes wires run) (λ q. gates)
+          (λ x q h. repeat-gates-refused x q h tables times gates bytes wires run) d e after is
+          ∙ ap (λ (x : Run). gatesAfter asked tables times gates bytes wires x) held
 
-      pub wires-are : (after : List ℕ) → after ≡ wiresAfter d tables gates run bytes wires → after ≡ wiresAfter asked tables gates (runIn words) bytes wires
-      wires-are after r =
-          on-numbers n left-rows right-rows (λ x. wiresAfter x tables gates run bytes wires) (λ q. wires) (λ x q h. wires-refused x q h tables run bytes gates wires) d e after r
-          ∙ ap (λ (x : Run). wiresAfter asked tables gates x bytes wires) held
+      pub repeat-bytes-are : (after : List ℕ) → after ≡ bytesAfter d tables times gates bytes wires run → after ≡ bytesAfter asked tables times gates bytes wires (runIn words)
+      repeat-bytes-are after is =
+          on-numbers n left-rows right-rows (λ x. bytesAfter x tables times gates bytes wires run) (λ q. bytes)
+          (λ x q h. repeat-bytes-refused x q h tables times gates bytes wires run) d e after is
+          ∙ ap (λ (x : Run). bytesAfter asked tables times gates bytes wires x) held
+
+      pub repeat-wires-are : (after : List ℕ) → after ≡ wiresAfter d tables times gates bytes wires run → after ≡ wiresAfter asked tables times gates bytes wires (runIn words)
+      repeat-wires-are after is =
+          on-numbers n left-rows right-rows (λ x. wiresAfter x tables times gates bytes wires run) (λ q. wires)
+          (λ x q h. repeat-wires-refused x q h tables times gates bytes wires run) d e after is
+          ∙ ap (λ (x : Run). wiresAfter asked tables times gates bytes wires x) held

@@ -1,50 +1,39 @@
--- What calls on circuits return to hosts and leave in the buffers that they lend.
+-- What calls on circuits leave in the buffers that hosts lend.
 use Prim.Native.Nat.{ℕ, _*_}
-use mathlib.Core.List.{List, [], _∷_, _++_}
+use mathlib.Core.List.{List, [], _∷_}
 use Rattle.words.specs.Booleans.{digit}
-use Rattle.refusals.specs.Numbers.{numberOf}
-use Rattle.refusals.specs.Checks.{Check}
-use Rattle.dimensions.specs.Sizes.{ceiling, inputWires, stateWires}
+use Rattle.refusals.specs.Checks.{outcome, given}
+use Rattle.dimensions.specs.Sizes.{sizeChecks, ceiling, inputWires, stateWires}
 use Rattle.dimensions.specs.declared.Dimensions.{Dimensions}
 use Rattle.tables.specs.Tables.{Tables}
-use Rattle.generator.specs.declared.Generated.{Generated}
-use Rattle.generator.specs.declared.Generated.the-variants as generated
+use Rattle.readback.specs.declared.Read.{Read}
+use Rattle.repeats.specs.declared.Repeated.{Repeated}
+use Rattle.repeats.specs.Repeating.{repeated}
 use Rattle.stored.specs.Words.{runIn}
-use Rattle.readback.specs.Reading.{readChecks}
-use Rattle.repeats.specs.declared.Applied.{Applied}
-use Rattle.repeats.specs.Application.{applied}
-use Rattle.lent.specs.Lent.{frontIf, storedIf, roomCheck}
+use Rattle.lent.specs.Lent.{storedIf}
 
 -- the gate ceiling, three words a gate of it, input wires, state wires
 abbrev pub sizeNumbers : Dimensions → List ℕ
 sizeNumbers d = ceiling d ∷ (3 * ceiling d ∷ (inputWires d ∷ (stateWires (d .n) ∷ [])))
 
--- ---- the generator
+-- the lent sizes of dimensions within the limits; of others what stood there
+abbrev pub sizesGiven : Dimensions → List ℕ → List ℕ
+sizesGiven d lent = given (outcome (sizeChecks (d .n) (d .left) (d .right))) (sizeNumbers d) (λ r. lent)
 
--- what the generator returns
-abbrev pub generatedCode : Generated → ℕ
-generatedCode (generated.Of count) = 0
-generatedCode (generated.Refused r) = numberOf r
+-- the lent run after reading back
+abbrev pub readStored : Read → List ℕ → List ℕ
+readStored r words = storedIf (r .outcome) (r .run) words
 
--- how many gates were written
-abbrev pub generatedNumbers : Generated → List ℕ
-generatedNumbers (generated.Of count) = count ∷ []
-generatedNumbers (generated.Refused r) = []
+-- ---- repeats
 
--- ---- runs
-
--- a run read back: 1, 10, 12
-abbrev pub backChecks : ℕ → List ℕ → List ℕ → List Check
-backChecks n bytes words = readChecks n bytes ++ (roomCheck words ∷ [])
-
--- one application of gates to the run in lent words
-abbrev pub applyIn : Dimensions → Tables → List ℕ → List ℕ → List ℕ → List ℕ → Applied
-applyIn d tables gates words bytes wires = applied d tables gates (runIn words) bytes wires
+-- the circuit repeated on the run in lent words
+abbrev pub repeatIn : Dimensions → Tables → ℕ → List ℕ → List ℕ → List ℕ → List ℕ → Repeated
+repeatIn d tables times gates bytes wires words = repeated d tables times gates bytes wires (runIn words)
 
 -- the lent words after it
-abbrev pub applyStored : Applied → List ℕ → List ℕ
-applyStored a words = storedIf (a .outcome) (a .run) words
+abbrev pub repeatStored : Repeated → List ℕ → List ℕ
+repeatStored r words = storedIf (r .outcome) (r .run) words
 
--- the lent mark after it
-abbrev pub applyMarked : Applied → List ℕ → List ℕ
-applyMarked a mark = frontIf (a .outcome) (digit (a .mark) ∷ []) mark
+-- the lent numbers after it: how many repeats, and the last mark
+abbrev pub repeatNumbers : Repeated → List ℕ → List ℕ
+repeatNumbers r lent = given (r .outcome) (r .repeats ∷ (digit (r .mark) ∷ [])) (λ q. lent)

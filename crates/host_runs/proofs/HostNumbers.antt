@@ -1,8 +1,8 @@
--- What acceptance, step and budgeted run give on a host's numbers as bytes is what they give on the numbers: refused sizes are refused alike, since the checks begin with those.
+-- What the fresh run, acceptance, step and budgeted run give on a host's numbers as bytes is what they give on the numbers: refused sizes are refused alike, since the checks begin with those.
 -- Assumes nothing.
 use mathlib.Core.Path.{_≡_, ap, _∙_}
 use mathlib.Core.List.{List}
-use Prim.Native.Nat.{ℕ}
+use Prim.Native.Nat.{ℕ, min}
 use Rattle.refusals.specs.Checks.{outcome}
 use Rattle.refusals.specs.declared.Refusal.{Refusal}
 use Rattle.refusals.specs.declared.Outcome.{Outcome}
@@ -13,14 +13,16 @@ use Rattle.dimensions.specs.Sizes.{sizeChecks}
 use Rattle.tables.specs.Tables.{Tables}
 use Rattle.tables.specs.Acceptance.{wordChecks, tableChecks}
 use Rattle.state.specs.declared.Run.{Run}
+use Rattle.state.specs.State.{fresh, runOf}
 use Rattle.state.specs.WellFormed.{stateChecks}
 use Rattle.solver.specs.declared.Stepped.{Stepped}
 use Rattle.solver.specs.declared.Solved.{Solved}
 use Rattle.solver.specs.declared.Solved.the-variants as solved′
 use Rattle.solver.specs.Entries.{stepped, solved}
 use Rattle.stored.specs.Words.{runIn}
-use Rattle.codes.specs.Codes.{dimensions}
-use Rattle.codes.proofs.AsBytes.{asBytes, on-numbers}
+use Rattle.lent.specs.Lent.{storedIf}
+use Rattle.codes.specs.Codes.{variableChecks, dimensions}
+use Rattle.codes.proofs.AsBytes.{asBytes, on-number, on-numbers}
 use Rattle.host_runs.specs.Runs.{stepIn}
 
 -- ---- refused sizes
@@ -36,6 +38,12 @@ module _ (tables : Tables) (d : Dimensions) (q : Refusal) (h : outcome (sizeChec
   solve-refused : (budget : ℕ) → solved d tables budget ≡ solved′.Refused q
   unfolding solved
   solve-refused budget = rw accept-refused
+
+-- ---- any n
+
+pub fresh-is : (n k : ℕ) → k ≡ min n 255 → (words : List ℕ)
+    → storedIf (outcome (variableChecks k)) (runOf k fresh) words ≡ storedIf (outcome (variableChecks n)) (runOf n fresh) words
+fresh-is n k e words = on-number (λ x. storedIf (outcome (variableChecks x)) (runOf x fresh) words) words (λ x h. rw h) n k e
 
 -- ---- any sizes
 

@@ -1,7 +1,6 @@
 // For hosts in C and Rust: whether tables are accepted, the giant step in place, and the budgeted run.
-// Each function is a thin call of a proved entry. A slice passes as a pointer and then a length.
+// Each function is a thin call of a proved entry. A slice passes as a pointer and then a length, an array as a pointer.
 // It returns 0 where the call is taken, else the refusal's number, and then it writes nothing.
-use refusals::Refusal;
 use solver::Solved;
 use state::Run;
 use verdicts::Modelled;
@@ -9,14 +8,14 @@ ghost use mathlib.Core.Path.{_≡_};
 ghost use Rattle.refusals.specs.Checks.{outcome};
 ghost use Rattle.tables.specs.Tables.{allTables};
 ghost use Rattle.tables.specs.Acceptance.{tableChecks};
-ghost use Rattle.solver.specs.Entries.{solved};
-ghost use Rattle.verdicts.specs.Verdicts.{modelOf};
+ghost use Rattle.solver.specs.Entries.{solved, solvedCode, solvedNumbers};
+ghost use Rattle.verdicts.specs.Verdicts.{modelOf, modelCode, modelNumbers};
 ghost use Rattle.state.specs.State.{fresh, runOf};
 ghost use Rattle.stored.specs.Words.{runIn};
 ghost use Rattle.refusals.specs.Numbers.{codeOf};
-ghost use Rattle.lent.specs.Lent.{front, storedIf};
-ghost use Rattle.codes.specs.Codes.{dimensions};
-ghost use Rattle.host_runs.specs.Runs.{freshChecks, stepIn, stepStored, solvedCode, solvedNumbers, modelCode, modelNumbers};
+ghost use Rattle.lent.specs.Lent.{numbersOr, storedIf};
+ghost use Rattle.codes.specs.Codes.{dimensions, variableChecks};
+ghost use Rattle.host_runs.specs.Runs.{stepIn, stepStored};
 
 // Whether two tables are accepted: 1, 2, 4 or 3 if not.
 #[no_mangle]
@@ -33,22 +32,19 @@ pub extern "C" fn forkhemit_accept(
     codes::code(tables::accept(d, left, right))
 }
 
-// The fresh run of n variables; 1 or 12 where it is turned back, and then no word changes.
+// The fresh run of n variables; 1 where it is turned back, and then no word changes.
 #[no_mangle]
-pub extern "C" fn forkhemit_fresh(n: u64, run: &mut [u32]) -> u8
-    ensures { λ r. ⌜ r ≡ codeOf (outcome (freshChecks n (now (run .entry)))) ⌝ }
-    ensures { λ _. ⌜ now (run .exit) ≡ storedIf (outcome (freshChecks n (now (run .entry)))) (runOf n fresh) (now (run .entry)) ⌝ }
+pub extern "C" fn forkhemit_fresh(n: u64, run: &mut [u32; 101]) -> u8
+    ensures { λ r. ⌜ r ≡ codeOf (outcome (variableChecks n)) ⌝ }
+    ensures { λ _. ⌜ now (run .exit) ≡ storedIf (outcome (variableChecks n)) (runOf n fresh) (now (run .entry)) ⌝ }
 {
-    if n < 1 {
-        return refusals::number(Refusal::Variables);
-    }
-    if 32 < n {
-        return refusals::number(Refusal::Variables);
-    }
-    codes::code(stored::store(Run::fresh(n as u8), run))
+    let k = codes::byte(n);
+    let outcome = codes::check_variables(k);
+    lent::store_if(outcome, Run::fresh(k), run);
+    codes::code(outcome)
 }
 
-// One giant step of the run in the lent words; 1, 2, 4, 3, 12 or 13 where it is turned back, and then no word changes.
+// One giant step of the run in the lent words, which is lent to the in-place entry; 1, 2, 4, 3, 12 or 13 where it is turned back, and then no word changes.
 #[no_mangle]
 pub extern "C" fn forkhemit_step(
     n: u64,
@@ -56,13 +52,13 @@ pub extern "C" fn forkhemit_step(
     right_rows: u64,
     left: &[u32],
     right: &[u32],
-    run: &mut [u32],
+    run: &mut [u32; 101],
 ) -> u8
     ensures { λ r. ⌜ r ≡ codeOf (stepIn (dimensions n «left_rows» «right_rows») (allTables (now (left .entry)) (now (right .entry))) (now (run .entry)) .outcome) ⌝ }
     ensures { λ _. ⌜ now (run .exit) ≡ stepStored (stepIn (dimensions n «left_rows» «right_rows») (allTables (now (left .entry)) (now (right .entry))) (now (run .entry))) (now (run .entry)) ⌝ }
 {
     let d = codes::dimensions(n, left_rows, right_rows);
-    let stepped = solver::step(d, left, right, stored::load(run));
+    let stepped = solver::step_lent(d, left, right, stored::load(*run));
     let outcome = stepped.outcome;
     let next = stepped.run;
     lent::store_if(outcome, next, run);
@@ -78,21 +74,20 @@ pub extern "C" fn forkhemit_solve(
     left: &[u32],
     right: &[u32],
     budget: u64,
-    answer: &mut [u64],
+    answer: &mut [u64; 3],
 ) -> u8
     ensures { λ r. ⌜ r ≡ solvedCode (solved (dimensions n «left_rows» «right_rows») (allTables (now (left .entry)) (now (right .entry))) budget) ⌝ }
-    ensures { λ _. ⌜ now (answer .exit) ≡ front (solvedNumbers (solved (dimensions n «left_rows» «right_rows») (allTables (now (left .entry)) (now (right .entry))) budget)) (now (answer .entry)) ⌝ }
+    ensures { λ _. ⌜ now (answer .exit) ≡ numbersOr (solvedNumbers (solved (dimensions n «left_rows» «right_rows») (allTables (now (left .entry)) (now (right .entry))) budget)) (now (answer .entry)) ⌝ }
 {
     let d = codes::dimensions(n, left_rows, right_rows);
     match solver::solve(d, left, right, budget) {
         Solved::Of(given) => {
             let verdict = given.verdict;
-            let numbers = [
+            *answer = [
                 given.count,
                 codes::verdict_number(verdict),
                 codes::model_word(verdict),
             ];
-            lent::put(&numbers, answer);
             return 0;
         }
         Solved::Refused(refusal) => return refusals::number(refusal),
@@ -101,14 +96,13 @@ pub extern "C" fn forkhemit_solve(
 
 // The model of a satisfied run, the variables that are true, as a word; 12 or 14 where it is turned back, and then no number is written.
 #[no_mangle]
-pub extern "C" fn forkhemit_model(run: &[u32], model: &mut [u64]) -> u8
+pub extern "C" fn forkhemit_model(run: &[u32; 101], model: &mut [u64; 1]) -> u8
     ensures { λ r. ⌜ r ≡ modelCode (modelOf (runIn (now (run .entry)))) ⌝ }
-    ensures { λ _. ⌜ now (model .exit) ≡ front (modelNumbers (modelOf (runIn (now (run .entry))))) (now (model .entry)) ⌝ }
+    ensures { λ _. ⌜ now (model .exit) ≡ numbersOr (modelNumbers (modelOf (runIn (now (run .entry))))) (now (model .entry)) ⌝ }
 {
-    match verdicts::model(stored::load(run)) {
+    match verdicts::model(stored::load(*run)) {
         Modelled::Model(word) => {
-            let numbers = [word as u64];
-            lent::put(&numbers, model);
+            *model = [word as u64];
             return 0;
         }
         Modelled::Refused(refusal) => return refusals::number(refusal),

@@ -1,56 +1,84 @@
 // For hosts in C and Rust: two texts and the budget line are read, the circuit's lines and the answer written.
-// Each function is a thin call of a proved entry. A slice passes as a pointer and then a length.
+// Each function is a thin call of a proved entry. A slice passes as a pointer and then a length, an array as a pointer.
 // It returns 0 where the call is taken, else the refusal's number, and then it writes nothing.
 use bristol::Written;
 use bristol::WrittenLines;
+use dimacs::Table;
 use lines::Budget;
+use refusals::Outcome;
+use refusals::Refusal;
 use solver::Answer;
 ghost use mathlib.Core.Path.{_≡_};
-ghost use Prim.Native.Nat.{min};
 ghost use lib.ListN as ListN;
 ghost use Rattle.bristol.specs.Writing as Writing;
+ghost use Rattle.bristol.specs.Writing.{lineCode, lineNumbers, linesCode, linesNumbers};
 ghost use Rattle.answers.specs.Printed.{answerText};
-ghost use Rattle.lines.specs.Numbers.{budgetOf};
+ghost use Rattle.dimacs.specs.Text.{tableOf};
+ghost use Rattle.refusals.specs.Checks.{outcome};
+ghost use Rattle.lines.specs.Numbers.{budgetOf, budgetCode, budgetNumbers};
 ghost use Rattle.refusals.specs.Numbers.{codeOf};
-ghost use Rattle.lent.specs.Lent.{front, textOutcome};
-ghost use Rattle.codes.specs.Codes.{dimensions};
-ghost use Rattle.host_texts.specs.Texts.{pairIn, pairOutcome, leftRead, rightRead, sizesRead, budgetCode, budgetNumbers, lineCode, lineNumbers, linesCode, linesNumbers, answerFrom, textWritten, lengthWritten};
+ghost use Rattle.lent.specs.Lent.{numbersOr};
+ghost use Rattle.codes.specs.Codes.{dimensions, variableChecks};
+ghost use Rattle.host_texts.specs.Texts.{pairOutcome, leftRead, rightRead, sizesRead, answerFrom, textGiven, lengthGiven};
 
-// Reads two texts into tables, with n and the row counts; 1, 2, 5, 6 or 4 where it is turned back.
+// What two texts are refused with, left before right; then 4 where their rows have no room in so many words; then 6.
+fn judge(left: Table, right: Table, left_words: usize, right_words: usize) -> Outcome
+    ensures { λ r. ⌜ r ≡ pairOutcome left right «left_words» «right_words» ⌝ }
+{
+    let left_outcome = left.outcome;
+    if let Outcome::Refused(refusal) = left_outcome {
+        return Outcome::Refused(refusal);
+    }
+    let right_outcome = right.outcome;
+    if let Outcome::Refused(refusal) = right_outcome {
+        return Outcome::Refused(refusal);
+    }
+    if (left_words < 2 * (left.rows as usize)) | (right_words < 2 * (right.rows as usize)) {
+        return Outcome::Refused(Refusal::RowBuffer);
+    }
+    if left.n != right.n {
+        return Outcome::Refused(Refusal::TextsDiffer);
+    }
+    Outcome::Taken
+}
+
+// Reads two texts into tables, with n and the row counts; the left text's 1, 2 or 5, the right text's, then 4 or 6 where it is turned back.
 #[no_mangle]
 pub extern "C" fn forkhemit_read_pair(
     left_text: &[u8],
     right_text: &[u8],
     left: &mut [u32],
     right: &mut [u32],
-    sizes: &mut [u64],
+    sizes: &mut [u64; 3],
 ) -> u8
-    ensures { λ r. ⌜ r ≡ codeOf (pairOutcome (pairIn (now («left_text» .entry)) (now («right_text» .entry))) (now (left .entry)) (now (right .entry))) ⌝ }
-    ensures { λ _. ⌜ now (left .exit) ≡ leftRead (pairIn (now («left_text» .entry)) (now («right_text» .entry))) (now (left .entry)) (now (right .entry)) ⌝ }
-    ensures { λ _. ⌜ now (right .exit) ≡ rightRead (pairIn (now («left_text» .entry)) (now («right_text» .entry))) (now (left .entry)) (now (right .entry)) ⌝ }
-    ensures { λ _. ⌜ now (sizes .exit) ≡ sizesRead (pairIn (now («left_text» .entry)) (now («right_text» .entry))) (now (left .entry)) (now (right .entry)) (now (sizes .entry)) ⌝ }
+    ensures { λ r. ⌜ r ≡ codeOf (pairOutcome (tableOf (now («left_text» .entry))) (tableOf (now («right_text» .entry))) (ListN.length (now (left .entry))) (ListN.length (now (right .entry)))) ⌝ }
+    ensures { λ _. ⌜ now (left .exit) ≡ leftRead (tableOf (now («left_text» .entry))) (tableOf (now («right_text» .entry))) (now (left .entry)) (now (right .entry)) ⌝ }
+    ensures { λ _. ⌜ now (right .exit) ≡ rightRead (tableOf (now («left_text» .entry))) (tableOf (now («right_text» .entry))) (now (left .entry)) (now (right .entry)) ⌝ }
+    ensures { λ _. ⌜ now (sizes .exit) ≡ sizesRead (tableOf (now («left_text» .entry))) (tableOf (now («right_text» .entry))) (now (left .entry)) (now (right .entry)) (now (sizes .entry)) ⌝ }
 {
-    let pair = dimacs::read_pair(left_text, right_text);
-    let outcome = lent::check_room(pair, left.len(), right.len());
-    let left_words = pair.left;
-    let right_words = pair.right;
-    let numbers = [pair.n as u64, pair.left_rows as u64, pair.right_rows as u64];
-    lent::put_rows(outcome, left_words, pair.left_rows, left);
-    lent::put_rows(outcome, right_words, pair.right_rows, right);
-    lent::put_if(outcome, &numbers, sizes);
-    codes::code(outcome)
+    let l = dimacs::read(left_text);
+    let r = dimacs::read(right_text);
+    match judge(l, r, left.len(), right.len()) {
+        Outcome::Taken => {}
+        Outcome::Refused(refusal) => return refusals::number(refusal),
+    }
+    let left_words = l.words;
+    let right_words = r.words;
+    lent::put_rows(left_words, l.rows, left);
+    lent::put_rows(right_words, r.rows, right);
+    *sizes = [l.n as u64, l.rows as u64, r.rows as u64];
+    0
 }
 
 // The budget of a line, digits and LF, at most 100 bytes; 8 where it is turned back, and then no number is written.
 #[no_mangle]
-pub extern "C" fn forkhemit_read_budget(line: &[u8], budget: &mut [u64]) -> u8
+pub extern "C" fn forkhemit_read_budget(line: &[u8], budget: &mut [u64; 1]) -> u8
     ensures { λ r. ⌜ r ≡ budgetCode (budgetOf (now (line .entry))) ⌝ }
-    ensures { λ _. ⌜ now (budget .exit) ≡ front (budgetNumbers (budgetOf (now (line .entry)))) (now (budget .entry)) ⌝ }
+    ensures { λ _. ⌜ now (budget .exit) ≡ numbersOr (budgetNumbers (budgetOf (now (line .entry)))) (now (budget .entry)) ⌝ }
 {
     match lines::read_budget(line) {
         Budget::Of(count) => {
-            let numbers = [count];
-            lent::put(&numbers, budget);
+            *budget = [count];
             return 0;
         }
         Budget::Refused(refusal) => return refusals::number(refusal),
@@ -66,22 +94,20 @@ pub extern "C" fn forkhemit_write_line(
     gates: &[u32],
     line: u64,
     bytes: &mut [u8],
-    length: &mut [u64],
+    length: &mut [u64; 1],
 ) -> u8
     ensures { λ r. ⌜ r ≡ lineCode (Writing.written (dimensions n «left_rows» «right_rows») (now (gates .entry)) line (now (bytes .entry))) ⌝ }
     ensures { λ _. ⌜ now (bytes .exit) ≡ Writing.filled (dimensions n «left_rows» «right_rows») (now (gates .entry)) line (now (bytes .entry)) ⌝ }
-    ensures { λ _. ⌜ now (length .exit) ≡ front (lineNumbers (Writing.written (dimensions n «left_rows» «right_rows») (now (gates .entry)) line (now (bytes .entry)))) (now (length .entry)) ⌝ }
+    ensures { λ _. ⌜ now (length .exit) ≡ numbersOr (lineNumbers (Writing.written (dimensions n «left_rows» «right_rows») (now (gates .entry)) line (now (bytes .entry)))) (now (length .entry)) ⌝ }
 {
     let d = codes::dimensions(n, left_rows, right_rows);
     match bristol::write_line(d, gates, line as usize, bytes) {
         Written::Line(k) => {
-            let numbers = [k as u64];
-            lent::put(&numbers, length);
+            *length = [k as u64];
             return 0;
         }
         Written::Past => {
-            let numbers = [0u64];
-            lent::put(&numbers, length);
+            *length = [0];
             return 0;
         }
         Written::Refused(refusal) => return refusals::number(refusal),
@@ -97,40 +123,47 @@ pub extern "C" fn forkhemit_write_lines(
     gates: &[u32],
     line: u64,
     bytes: &mut [u8],
-    written: &mut [u64],
+    written: &mut [u64; 2],
 ) -> u8
     ensures { λ r. ⌜ r ≡ linesCode (Writing.writtenLines (dimensions n «left_rows» «right_rows») (now (gates .entry)) line (now (bytes .entry))) ⌝ }
     ensures { λ _. ⌜ now (bytes .exit) ≡ Writing.filledLines (dimensions n «left_rows» «right_rows») (now (gates .entry)) line (now (bytes .entry)) ⌝ }
-    ensures { λ _. ⌜ now (written .exit) ≡ front (linesNumbers (Writing.writtenLines (dimensions n «left_rows» «right_rows») (now (gates .entry)) line (now (bytes .entry)))) (now (written .entry)) ⌝ }
+    ensures { λ _. ⌜ now (written .exit) ≡ numbersOr (linesNumbers (Writing.writtenLines (dimensions n «left_rows» «right_rows») (now (gates .entry)) line (now (bytes .entry)))) (now (written .entry)) ⌝ }
 {
     let d = codes::dimensions(n, left_rows, right_rows);
     match bristol::write_lines(d, gates, line as usize, bytes) {
         WrittenLines::Lines(count, size) => {
-            let numbers = [count as u64, size as u64];
-            lent::put(&numbers, written);
+            *written = [count as u64, size as u64];
             return 0;
         }
         WrittenLines::Refused(refusal) => return refusals::number(refusal),
     }
 }
 
-// Writes the answer as the pair program prints it, and its length; 11 where it is longer than the bytes. A model's first n variables are printed, 32 at most.
+// Writes the answer as the pair program prints it over the front of the text, and its length; 1 where it is turned back, and then nothing is written.
 #[no_mangle]
 pub extern "C" fn forkhemit_answer(
     n: u64,
     count: u64,
     verdict: u64,
     model: u64,
-    bytes: &mut [u8],
-    length: &mut [u64],
+    text: &mut [u8; 256],
+    length: &mut [u64; 1],
 ) -> u8
-    ensures { λ r. ⌜ r ≡ codeOf (textOutcome (ListN.length (answerText (min n 32) (answerFrom count verdict model))) (now (bytes .entry))) ⌝ }
-    ensures { λ _. ⌜ now (bytes .exit) ≡ textWritten (answerText (min n 32) (answerFrom count verdict model)) (now (bytes .entry)) ⌝ }
-    ensures { λ _. ⌜ now (length .exit) ≡ lengthWritten (answerText (min n 32) (answerFrom count verdict model)) (now (bytes .entry)) (now (length .entry)) ⌝ }
+    ensures { λ r. ⌜ r ≡ codeOf (outcome (variableChecks n)) ⌝ }
+    ensures { λ _. ⌜ now (text .exit) ≡ textGiven n (answerText n (answerFrom count verdict model)) (now (text .entry)) ⌝ }
+    ensures { λ _. ⌜ now (length .exit) ≡ lengthGiven n (answerText n (answerFrom count verdict model)) (now (length .entry)) ⌝ }
 {
+    let k = codes::byte(n);
+    match codes::check_variables(k) {
+        Outcome::Taken => {}
+        Outcome::Refused(refusal) => return refusals::number(refusal),
+    }
     let answer = Answer {
         count,
         verdict: codes::verdict_from(verdict, model),
     };
-    lent::put_text(answers::answer_text(codes::byte(n), answer), bytes, length)
+    let printed = answers::answer_text(k, answer);
+    *length = [printed.length as u64];
+    lent::put_text(printed, text);
+    0
 }

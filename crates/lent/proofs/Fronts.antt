@@ -44,7 +44,7 @@ module _ (values : List ℕ) (count n : ℕ) (e : n ≡ min count (length values
       (λ t. let h : n ≡ count = omega (arith, leb-false (length values) count t) in ap (λ (k : ℕ). take k values) h)
 
   -- and copied, where they fit, they are those written over the front
-  pub front-copied : (lent : List ℕ) → count ≤ length lent
+  pub front-copied : (lent : List ℕ) → n ≤ length lent
       → let first = take n values in take (length first) first ++ drop (length first) lent ≡ front (take count values) lent
   front-copied lent h =
       let first = take n values in

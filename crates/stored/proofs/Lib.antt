@@ -2,3 +2,4 @@ pub mod Levels
 pub mod Holding
 pub mod Storing
 pub mod RoundTrip
+pub mod Examples

@@ -1,20 +1,14 @@
 -- A run in 32-bit words, for hosts that lend them: n, standing, T, F, depth, then for each of the 32 levels T, F and the chosen variable.
 use Prim.Native.Nat.{ℕ, zero, suc, _-_, _^_, min}
 use mathlib.Core.Bool.{Bool, _&&_, cond}
-use mathlib.Core.List.{List, [], _∷_, _++_}
-use lib.Dec.{eqb, leb, ltb}
-use lib.ListN.{length, getD, drop}
+use mathlib.Core.List.{List, [], _∷_}
+use lib.Dec.{eqb, ltb}
+use lib.ListN.{getD, drop}
 use Rattle.state.specs.declared.Level.{Level}
 use Rattle.state.specs.declared.Run.{Run}
 use Rattle.state.specs.declared.Standing.{Standing}
 use Rattle.state.specs.declared.Standing.the-variants.{Open, Satisfied, Refuted}
-use Rattle.state.specs.State.{fresh, runOf}
-
--- the number of a standing
-abbrev pub numberOf : Standing → ℕ
-numberOf Open = 0
-numberOf Satisfied = 1
-numberOf Refuted = 2
+use Rattle.state.specs.State.{fresh, runOf, standingNumber as numberOf}
 
 -- three words a level: T, F, the chosen variable
 unfoldable pub levelWords : List Level → List ℕ
@@ -26,11 +20,6 @@ unfoldable pub wordsOf : Run → List ℕ
 unfolding levelWords
 wordsOf run = run .n ∷ (numberOf (run .standing) ∷ (run .t ∷ (run .f ∷ (min (run .depth) (2 ^ 32 - 1) ∷ levelWords (run .levels)))))
 
--- the lent words with the run at their front; too few of them stay as they were
-unfoldable pub stored : Run → List ℕ → List ℕ
-unfolding wordsOf
-stored run words = cond (ltb (length words) 101) words (wordsOf run ++ drop 101 words)
-
 -- the standing of a number below 3
 abbrev pub standingOf : ℕ → Standing
 standingOf k = cond (eqb k 1) Satisfied (cond (eqb k 2) Refuted Open)
@@ -40,9 +29,9 @@ unfoldable pub levelsIn : ℕ → List ℕ → List Level
 levelsIn zero words = []
 levelsIn (suc k) words = record { t = getD words 0 0; f = getD words 1 0; chosen = getD words 2 0 } ∷ levelsIn k (drop 3 words)
 
--- 101 words, an n that a run's byte holds, and a standing
+-- an n that a run's byte holds, and a standing
 abbrev pub holdsRun : List ℕ → Bool
-holdsRun words = leb 101 (length words) && (ltb (getD words 0 0) 256 && ltb (getD words 1 0) 3)
+holdsRun words = ltb (getD words 0 0) 256 && ltb (getD words 1 0) 3
 
 -- the run that such words hold, well-formed or not
 unfoldable pub heldRun : List ℕ → Run

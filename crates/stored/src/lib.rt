@@ -1,31 +1,22 @@
-// A run in 101 words that a host lends: n, standing, T, F, depth, then for each of the 32 levels T, F and the chosen variable.
-// Words past these are neither read nor changed.
-use refusals::Outcome;
-use refusals::Refusal;
+// A run in 101 words, as hosts hold it: n, standing, T, F, depth, then for each of the 32 levels T, F and the chosen variable.
 use state::Level;
 use state::Run;
 use state::Standing;
 ghost use mathlib.Core.Path.{_≡_};
 ghost use mathlib.Core.Bool.{true};
-ghost use mathlib.Core.List.{[], _∷_};
-ghost use Prim.Native.Nat.{_-_, _^_, _≤_, min};
-ghost use lib.Dec.{ltb};
-ghost use lib.ListN.{length, drop};
+ghost use Prim.Native.Nat.{_-_, _^_, min};
+ghost use lib.ListN.{drop};
 ghost use lib.Seq.{sets};
-ghost use Rattle.refusals.specs.Checks.{check, outcome};
-ghost use Rattle.refusals.specs.declared.Refusal.the-variants.{State};
-ghost use Rattle.stored.specs.Words.{numberOf, standingOf, levelWords, levelsIn, holdsRun, heldRun, runIn, stored};
+ghost use Rattle.state.specs.State.{standingNumber as numberOf};
+ghost use Rattle.stored.specs.Words.{standingOf, levelWords, levelsIn, holdsRun, heldRun, wordsOf, runIn};
 
 // The words of a run.
-const WORDS: usize = 101;
+pub type RunWords = [u32; 101];
 
 // Whether the words hold a run, well-formed or not.
-fn holds(words: &[u32]) -> bool
-    ensures { λ r. ⌜ r ≡ holdsRun (now (words .entry)) ⌝ }
+fn holds(words: RunWords) -> bool
+    ensures { λ r. ⌜ r ≡ holdsRun words ⌝ }
 {
-    if words.len() < WORDS {
-        return false;
-    }
     if 255 < words[0] {
         return false;
     }
@@ -44,9 +35,8 @@ fn standing_of(number: u32) -> Standing
 }
 
 // The levels behind the first five words.
-fn get_levels(words: &[u32]) -> [Level; 32]
-    requires { ⌜ 101 ≤ length (now words) ⌝ }
-    ensures { λ r. ⌜ r ≡ levelsIn 32 (drop 5 (now (words .entry))) ⌝ }
+fn get_levels(words: RunWords) -> [Level; 32]
+    ensures { λ r. ⌜ r ≡ levelsIn 32 (drop 5 words) ⌝ }
 {
     let mut levels = [Level {
         t: 0,
@@ -67,9 +57,9 @@ fn get_levels(words: &[u32]) -> [Level; 32]
 }
 
 // The run of words that hold one.
-fn get_run(words: &[u32]) -> Run
-    requires { ⌜ holdsRun (now words) ≡ true ⌝ }
-    ensures { λ r. ⌜ r ≡ heldRun (now (words .entry)) ⌝ }
+fn get_run(words: RunWords) -> Run
+    requires { ⌜ holdsRun words ≡ true ⌝ }
+    ensures { λ r. ⌜ r ≡ heldRun words ⌝ }
 {
     let standing = standing_of(words[1]);
     let levels = get_levels(words);
@@ -84,8 +74,8 @@ fn get_run(words: &[u32]) -> Run
 }
 
 // The run in the words, well-formed or not; one of no variables, which is not well-formed, if they hold none.
-pub fn load(words: &[u32]) -> Run
-    ensures { λ r. ⌜ r ≡ runIn (now (words .entry)) ⌝ }
+pub fn load(words: RunWords) -> Run
+    ensures { λ r. ⌜ r ≡ runIn words ⌝ }
 {
     if !holds(words) {
         return Run::fresh(0);
@@ -114,37 +104,34 @@ fn depth_word(depth: usize) -> u32
     0xffff_ffff
 }
 
-// Writes the levels behind the first five words.
-fn put_levels(levels: [Level; 32], words: &mut [u32])
-    requires { ⌜ 101 ≤ length (now words) ⌝ }
-    ensures { λ _. ⌜ now (words .exit) ≡ sets (now (words .entry)) 5 (levelWords levels) ⌝ }
+// The words with the levels behind the first five.
+fn put_levels(levels: [Level; 32], words: RunWords) -> RunWords
+    ensures { λ r. ⌜ r ≡ sets words 5 (levelWords levels) ⌝ }
 {
+    let mut out = words;
     let mut l = 0;
     while l < 32 {
         let at = 5 + 3 * l;
         let level = levels[l];
-        words[at] = level.t;
-        words[at + 1] = level.f;
-        words[at + 2] = level.chosen;
+        out[at] = level.t;
+        out[at + 1] = level.f;
+        out[at + 2] = level.chosen;
         l += 1;
     }
+    out
 }
 
-// Writes the run over the front of the words; 12 where they can hold none, and then no word changes.
-pub fn store(run: Run, words: &mut [u32]) -> Outcome
-    ensures { λ r. ⌜ r ≡ outcome (check (ltb (length (now (words .entry))) 101) State ∷ []) ⌝ }
-    ensures { λ _. ⌜ now (words .exit) ≡ stored run (now (words .entry)) ⌝ }
+// The words of a run.
+pub fn words(run: Run) -> RunWords
+    ensures { λ r. ⌜ r ≡ wordsOf run ⌝ }
 {
-    if words.len() < WORDS {
-        return Outcome::Refused(Refusal::State);
-    }
     let standing = run.standing;
     let levels = run.levels;
-    words[0] = run.n as u32;
-    words[1] = number(standing);
-    words[2] = run.t;
-    words[3] = run.f;
-    words[4] = depth_word(run.depth);
-    put_levels(levels, words);
-    Outcome::Taken
+    let mut out = [0u32; 101];
+    out[0] = run.n as u32;
+    out[1] = number(standing);
+    out[2] = run.t;
+    out[3] = run.f;
+    out[4] = depth_word(run.depth);
+    put_levels(levels, out)
 }

@@ -25,13 +25,15 @@ same-length : tie.Need-same-length
 same-length c = search needs
 
 returns : tie.Need-returns
-returns c = let s = c .before .before .before .before .before .before .before .before .before .before .before in
-    let a = s .args in
-    let dims = c .before .before .before .before .before .before .dimensions .ensures in
-    let held = c .before .before .before .before .before .load .ensures in
-    let pack = c .before .before .before .pack .ensures in (
-      c .code .ensures ∙ ap codeOf (check-is (a .n) (a .left-rows) (a .right-rows) _ dims (allTables (a .left .now) (a .right .now)) (a .run .now) _ held (length (a .bytes .now)) _ (pack .0)),
-      packed-is (a .n) (a .left-rows) (a .right-rows) _ dims _ (a .run .now) _ held (a .bytes .now) _ (pack .1),
+returns c =
+    let pack = c .before .before .before in
+    let load = pack .before .before in
+    let dims = load .before .before in
+    let a = dims .before .before .before .before .args in
+    let held = load .load .ensures in (
+      c .code .ensures
+          ∙ ap codeOf (check-is (a .n) (a .left-rows) (a .right-rows) _ (dims .dimensions .ensures) (allTables (a .left .now) (a .right .now)) (a .run .now) _ held (length (a .bytes .now)) _ (pack .pack .ensures .0)),
+      packed-is (a .n) (a .left-rows) (a .right-rows) _ (dims .dimensions .ensures) _ (a .run .now) _ held (a .bytes .now) _ (pack .pack .ensures .1),
     )
 
 pub forkhemit-pack-spec : {M : Type 1} → statement M

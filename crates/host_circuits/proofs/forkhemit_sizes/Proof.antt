@@ -1,12 +1,11 @@
 -- `forkhemit_sizes` meets its contract: the numbers as bytes give what the numbers give, written where they are within the limits; three times the ceiling is no overflow.
 -- Assumes nothing.
-use mathlib.Core.Path.{ap, _∙_}
+use mathlib.Core.Path.{sym, ap, _∙_}
 use mathlib.Core.List.{[], _∷_}
 use Prim.Native.Nat.{_*_}
 use native.Mathlib.Omega.{arith}
 use Rattle.refusals.specs.Numbers.{codeOf}
-use Rattle.lent.specs.Lent.{frontIf}
-use Rattle.host_circuits.proofs.HostNumbers.{size-is, sizes-are, ceiling-low}
+use Rattle.host_circuits.proofs.HostNumbers.{size-is, sizes-refused, sizes-taken, sizes-are, ceiling-low}
 use borrow.Author.Needs.{needs}
 use Rattle.host_circuits.proofs.forkhemit_sizes.Statement.{statement}
 use Rattle.host_circuits.proofs.forkhemit_sizes.Tie as tie
@@ -17,8 +16,34 @@ dimensions-requires c κs = search needs
 check-requires : tie.Need-check-requires
 check-requires c κs = search needs
 
+enum-told : tie.Need-enum-told
+enum-told c = search needs
+
+enum-known-refusal : tie.Need-enum-known-refusal
+enum-known-refusal c = search needs
+
+number-requires : tie.Need-number-requires
+number-requires c κs = search needs
+
+returns : tie.Need-returns
+returns c =
+    let told = c .before .before in
+    let check = told .before .before in
+    let dims = check .before in
+    let a = dims .before .args in
+    let is = sym (check .check .ensures) ∙ told .refusal .given .1 in (
+      c .number .ensures ∙ ap codeOf (size-is (a .n) (a .left-rows) (a .right-rows) _ (dims .dimensions .ensures) _ (sym is)),
+      sizes-are (a .n) (a .left-rows) (a .right-rows) _ (dims .dimensions .ensures) (a .sizes .now) _ (sizes-refused (dims .dimensions .result) _ is (a .sizes .now)),
+    )
+
 ceiling-requires : tie.Need-ceiling-requires
 ceiling-requires c κs = search needs
+
+mul-t10 : tie.Need-mul-t10
+mul-t10 c =
+    let dims = c .before .before .before .before in
+    let a = dims .before .args in
+    record { fits = omega (arith, ceiling-low (a .n) (a .left-rows) (a .right-rows) _ (dims .dimensions .ensures) _ (c .ceiling .ensures)) }
 
 input-wires-requires : tie.Need-input-wires-requires
 input-wires-requires c κs = search needs
@@ -26,33 +51,20 @@ input-wires-requires c κs = search needs
 state-wires-requires : tie.Need-state-wires-requires
 state-wires-requires c κs = search needs
 
-mul-t13 : tie.Need-mul-t13
-mul-t13 c = let s = c .before .before .before .before .before .before in
-    let a = s .args in
-    record { fits = omega (arith, ceiling-low (a .n) (a .left-rows) (a .right-rows) _ (c .before .before .before .before .dimensions .ensures) _ (c .before .before .ceiling .ensures)) }
-
-slice-aggregate-put-if : tie.Need-slice-aggregate-put-if
-slice-aggregate-put-if c = search needs
-
-put-if-requires : tie.Need-put-if-requires
-put-if-requires c κs = search needs
-
-code-requires : tie.Need-code-requires
-code-requires c κs = search needs
-
-same-length : tie.Need-same-length
-same-length c = search needs
-
-returns : tie.Need-returns
-returns c = let s = c .before .before .before .before .before .before .before .before .before .before .before .before in
-    let a = s .args in
-    let dims = c .before .before .before .before .before .before .before .before .before .before .dimensions .ensures in
-    let check = c .before .before .before .before .before .before .before .before .before .check .ensures in
-    let k = c .before .before .before .before .before .before .before .before .ceiling .ensures in (
-      c .code .ensures ∙ ap codeOf (size-is (a .n) (a .left-rows) (a .right-rows) _ dims _ check),
-      c .before .before .before .put-if .ensures
-          ∙ (λ i. frontIf (c .before .before .before .before .before .before .before .before .before .check .result) (k i ∷ (3 * k i ∷ (c .before .before .before .before .before .before .before .input-wires .ensures i ∷ (c .before .before .before .before .before .before .state-wires .ensures i ∷ [])))) (a .sizes .now))
-          ∙ sizes-are (a .n) (a .left-rows) (a .right-rows) _ dims _ (a .sizes .now) check,
+returns-2 : tie.Need-returns-2
+returns-2 c =
+    let state = c .before in
+    let inputs = state .before in
+    let ceiling = inputs .before in
+    let told = ceiling .before in
+    let check = told .before .before in
+    let dims = check .before in
+    let a = dims .before .args in
+    let k = ceiling .ceiling .ensures in
+    let is = sym (check .check .ensures) ∙ told .enum-told .given .1 in (
+      ap codeOf (size-is (a .n) (a .left-rows) (a .right-rows) _ (dims .dimensions .ensures) _ (sym is)),
+      (λ i. k i ∷ (3 * k i ∷ (inputs .input-wires .ensures i ∷ (state .state-wires .ensures i ∷ []))))
+          ∙ sizes-are (a .n) (a .left-rows) (a .right-rows) _ (dims .dimensions .ensures) (a .sizes .now) _ (sizes-taken (dims .dimensions .result) (a .sizes .now) is),
     )
 
 pub forkhemit-sizes-spec : {M : Type 1} → statement M
@@ -61,12 +73,12 @@ forkhemit-sizes-spec =
     (tie.spec
     dimensions-requires
     check-requires
+    enum-told
+    enum-known-refusal
+    number-requires
+    returns
     ceiling-requires
+    mul-t10
     input-wires-requires
     state-wires-requires
-    mul-t13
-    slice-aggregate-put-if
-    put-if-requires
-    code-requires
-    same-length
-    returns)
+    returns-2)

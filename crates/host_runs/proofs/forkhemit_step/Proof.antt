@@ -3,7 +3,7 @@
 use mathlib.Core.Path.{ap, _∙_}
 use Rattle.solver.specs.declared.Stepped.{Stepped}
 use Rattle.refusals.specs.Numbers.{codeOf}
-use Rattle.lent.specs.Lent.{storedIf}
+use Rattle.host_runs.specs.Runs.{stepStored}
 use Rattle.host_runs.proofs.HostNumbers.{step-is}
 use borrow.Author.Needs.{needs}
 use Rattle.host_runs.proofs.forkhemit_step.Statement.{statement}
@@ -15,8 +15,8 @@ dimensions-requires c κs = search needs
 load-requires : tie.Need-load-requires
 load-requires c κs = search needs
 
-step-requires : tie.Need-step-requires
-step-requires c κs = search needs
+step-lent-requires : tie.Need-step-lent-requires
+step-lent-requires c κs = search needs
 
 store-if-requires : tie.Need-store-if-requires
 store-if-requires c κs = search needs
@@ -24,14 +24,15 @@ store-if-requires c κs = search needs
 code-requires : tie.Need-code-requires
 code-requires c κs = search needs
 
-same-length : tie.Need-same-length
-same-length c = search needs
-
 returns : tie.Need-returns
-returns c = let s = c .before .before .before .before .before .before .before .before .before .before .before .before .before in
-    let a = s .args in
-    let e = step-is (a .n) (a .left-rows) (a .right-rows) _ (c .before .before .before .before .before .before .before .before .before .dimensions .ensures) _ (a .run .now) _ (c .before .before .before .before .before .before .before .load .ensures) _ (c .before .before .before .before .before .before .step .ensures) in
-    (c .code .ensures ∙ ap (λ (x : Stepped). codeOf (x .outcome)) e, c .before .before .before .store-if .ensures ∙ ap (λ (x : Stepped). storedIf (x .outcome) (x .run) (a .run .now)) e)
+returns c =
+    let store = c .before in
+    let step = store .before .before .before in
+    let load = step .before in
+    let dims = load .before .before in
+    let a = dims .before .before .before .args in
+    let e = step-is (a .n) (a .left-rows) (a .right-rows) _ (dims .dimensions .ensures) _ (a .run .now) _ (load .load .ensures) _ (step .step-lent .ensures) in
+    (c .code .ensures ∙ ap (λ (x : Stepped). codeOf (x .outcome)) e, store .store-if .ensures ∙ ap (λ (x : Stepped). stepStored x (a .run .now)) e)
 
 pub forkhemit-step-spec : {M : Type 1} → statement M
 forkhemit-step-spec =
@@ -39,8 +40,7 @@ forkhemit-step-spec =
     (tie.spec
     dimensions-requires
     load-requires
-    step-requires
+    step-lent-requires
     store-if-requires
     code-requires
-    same-length
     returns)

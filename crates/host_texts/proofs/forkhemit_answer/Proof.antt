@@ -1,27 +1,55 @@
--- `forkhemit_answer` meets its contract: the text is the composed answer's, written where it fits.
+-- `forkhemit_answer` meets its contract: n as a byte is refused like n or is n itself; the text is the composed answer's.
 -- Assumes nothing.
-use mathlib.Core.Path.{_≡_, ap, _∙_}
+use mathlib.Core.Path.{_≡_, sym, ap, _∙_}
 use mathlib.Core.List.{List, [], _∷_}
 use Prim.Native.Nat.{ℕ, min}
 use native.Mathlib.Omega.{arith}
 use lib.ListN.{length, take}
+use Rattle.refusals.specs.Checks.{given}
+use Rattle.refusals.specs.Numbers.{codeOf}
+use Rattle.refusals.specs.declared.Outcome.{Outcome}
 use Rattle.text.specs.declared.Text.{Text}
 use Rattle.text.specs.Texts.{textOf}
-use Rattle.verdicts.specs.declared.Verdict.{Verdict}
-use Rattle.answers.specs.Printed.{answerText}
-use Rattle.refusals.specs.Numbers.{codeOf}
-use Rattle.host_texts.specs.Texts.{answerFrom}
-use Rattle.lent.specs.Lent.{frontIf, textOutcome}
 use Rattle.text.proofs.Appending.{text-back}
+use Rattle.answers.specs.Printed.{answerText}
+use Rattle.codes.proofs.AsBytes.{checks-are, taken-low}
+use Rattle.lent.specs.Lent.{front}
+use Rattle.host_texts.specs.Texts.{answerFrom}
 use borrow.Author.Needs.{needs}
 use Rattle.host_texts.proofs.forkhemit_answer.Statement.{statement}
 use Rattle.host_texts.proofs.forkhemit_answer.Tie as tie
 
-verdict-from-requires : tie.Need-verdict-from-requires
-verdict-from-requires c κs = search needs
-
 byte-requires : tie.Need-byte-requires
 byte-requires c κs = search needs
+
+check-variables-requires : tie.Need-check-variables-requires
+check-variables-requires c κs = search needs
+
+enum-told : tie.Need-enum-told
+enum-told c = search needs
+
+enum-known-refusal : tie.Need-enum-known-refusal
+enum-known-refusal c = search needs
+
+number-requires : tie.Need-number-requires
+number-requires c κs = search needs
+
+returns : tie.Need-returns
+returns c =
+    let check = c .before .before .before .before in
+    let byte = check .before in
+    let a = byte .before .args in
+    let text = answerText (a .n) (answerFrom (a .count) (a .verdict) (a .model)) in
+    let is = sym (c .before .before .refusal .given .1) ∙ check .check-variables .ensures ∙ checks-are (a .n) _ (byte .byte .ensures) in (
+      c .number .ensures ∙ ap codeOf is,
+      (
+        ap (λ (o : Outcome). given o (front text (a .text .now)) (λ r. a .text .now)) is,
+        ap (λ (o : Outcome). given o (length text ∷ []) (λ r. a .length .now)) is,
+      ),
+    )
+
+verdict-from-requires : tie.Need-verdict-from-requires
+verdict-from-requires c κs = search needs
 
 answer-text-requires : tie.Need-answer-text-requires
 answer-text-requires c κs = search needs
@@ -29,27 +57,24 @@ answer-text-requires c κs = search needs
 put-text-requires : tie.Need-put-text-requires
 put-text-requires c κs = search needs
 
-same-length : tie.Need-same-length
-same-length c = search needs
-
-same-length-2 : tie.Need-same-length-2
-same-length-2 c = search needs
-
-returns : tie.Need-returns
-returns c = let s = c .before .before .before .before .before .before .before .before .before .before .before .before in
-    let a = s .args in
-    let k = c .before .before .before .before .before .before .before .before .byte .ensures in
-    let low : min (c .before .before .before .before .before .before .before .before .byte .result) 32 ≡ min (a .n) 32 = omega (arith, k) in
-    let text : List ℕ = answerText (min (a .n) 32) (answerFrom (a .count) (a .verdict) (a .model)) in
-    let e : c .before .before .before .before .before .before .before .answer-text .result ≡ textOf text =
-    c .before .before .before .before .before .before .before .answer-text .ensures ∙ ap (λ (x : ℕ). textOf (answerText x (record { count = a .count; verdict = c .before .before .before .before .before .before .before .before .before .verdict-from .result }))) low
-    ∙ ap (λ (x : Verdict). textOf (answerText (min (a .n) 32) (record { count = a .count; verdict = x }))) (c .before .before .before .before .before .before .before .before .before .verdict-from .ensures) in
-    let put = c .before .before .before .before .put-text .ensures in (
-      put .0 ∙ ap (λ (x : Text). codeOf (textOutcome (x .length) (a .bytes .now))) e,
+returns-2 : tie.Need-returns-2
+returns-2 c =
+    let print = c .before .before .before in
+    let verdict = print .before in
+    let told = verdict .before in
+    let check = told .before .before in
+    let byte = check .before in
+    let a = byte .before .args in
+    let text = answerText (a .n) (answerFrom (a .count) (a .verdict) (a .model)) in
+    let is = sym (told .enum-told .given .1) ∙ check .check-variables .ensures ∙ checks-are (a .n) _ (byte .byte .ensures) in
+    let low : min (byte .byte .result) 32 ≡ a .n = omega (arith, byte .byte .ensures, taken-low (a .n) (sym is)) in
+    let e = print .answer-text .ensures ∙ (λ i. textOf (answerText (low i) (record { count = a .count; verdict = verdict .verdict-from .ensures i }))) in (
+      ap codeOf is,
       (
-        put .1 .0 ∙ ap (λ (x : Text). frontIf (textOutcome (x .length) (a .bytes .now)) (take (x .length) (x .bytes)) (a .bytes .now)) e
-            ∙ ap (λ (x : List ℕ). frontIf (textOutcome (length text) (a .bytes .now)) x (a .bytes .now)) (text-back text),
-        put .1 .1 ∙ ap (λ (x : Text). frontIf (textOutcome (x .length) (a .bytes .now)) (x .length ∷ []) (a .length .now)) e,
+        c .put-text .ensures ∙ ap (λ (t : Text). front (take (t .length) (t .bytes)) (a .text .now)) e
+            ∙ ap (λ (bytes : List ℕ). front bytes (a .text .now)) (text-back text)
+            ∙ ap (λ (o : Outcome). given o (front text (a .text .now)) (λ r. a .text .now)) is,
+        ap (λ (t : Text). t .length ∷ []) e ∙ ap (λ (o : Outcome). given o (length text ∷ []) (λ r. a .length .now)) is,
       ),
     )
 
@@ -57,10 +82,13 @@ pub forkhemit-answer-spec : {M : Type 1} → statement M
 forkhemit-answer-spec =
     tie.close
     (tie.spec
-    verdict-from-requires
     byte-requires
+    check-variables-requires
+    enum-told
+    enum-known-refusal
+    number-requires
+    returns
+    verdict-from-requires
     answer-text-requires
     put-text-requires
-    same-length
-    same-length-2
-    returns)
+    returns-2)

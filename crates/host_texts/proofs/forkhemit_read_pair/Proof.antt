@@ -1,31 +1,57 @@
--- `forkhemit_read_pair` meets its contract: tables and sizes of the pair are written where its texts are taken and its rows have room.
+-- `forkhemit_read_pair` meets its contract: tables and sizes are written where the texts are taken, have room and share their n.
 -- Assumes nothing.
 use mathlib.Core.Path.{ap, _∙_}
+use mathlib.Core.List.{[], _∷_}
 use Prim.Native.Nat.{_*_}
-use lib.ListN.{take}
-use Rattle.dimacs.specs.declared.Pair.{Pair}
-use Rattle.refusals.specs.declared.Outcome.{Outcome}
+use lib.ListN.{length, take}
+use Rattle.refusals.specs.Checks.{given}
 use Rattle.refusals.specs.Numbers.{codeOf}
-use Rattle.lent.specs.Lent.{frontIf}
-use Rattle.host_texts.specs.Texts.{pairOutcome, pairNumbers}
+use Rattle.refusals.specs.declared.Outcome.{Outcome}
+use Rattle.dimacs.specs.declared.Table.{Table}
+use Rattle.dimacs.specs.Text.{tableOf}
+use Rattle.lent.specs.Lent.{front}
+use Rattle.host_texts.proofs.Pairs.{of-texts}
 use borrow.Author.Needs.{needs}
 use Rattle.host_texts.proofs.forkhemit_read_pair.Statement.{statement}
 use Rattle.host_texts.proofs.forkhemit_read_pair.Tie as tie
 
-read-pair-requires : tie.Need-read-pair-requires
-read-pair-requires c κs = search needs
+read-requires : tie.Need-read-requires
+read-requires c κs = search needs
 
-check-room-requires : tie.Need-check-room-requires
-check-room-requires c κs = search needs
+read-requires-2 : tie.Need-read-requires-2
+read-requires-2 c κs = search needs
 
-cast-t13 : tie.Need-cast-t13
-cast-t13 c = search needs
+judge-requires : tie.Need-judge-requires
+judge-requires c κs = search needs
 
-cast-t14 : tie.Need-cast-t14
-cast-t14 c = search needs
+enum-told : tie.Need-enum-told
+enum-told c = search needs
 
-cast-t15 : tie.Need-cast-t15
-cast-t15 c = search needs
+enum-known-refusal : tie.Need-enum-known-refusal
+enum-known-refusal c = search needs
+
+number-requires : tie.Need-number-requires
+number-requires c κs = search needs
+
+returns : tie.Need-returns
+returns c =
+    let judge = c .before .before .before .before in
+    let read-right = judge .before in
+    let read-left = read-right .before in
+    let a = read-left .before .before .before .before .before .args in
+    let l = tableOf (a .left-text .now) in
+    let r = tableOf (a .right-text .now) in
+    let is =
+    of-texts l r _ _ (read-left .read .ensures) (read-right .read2 .ensures) (length (a .left .now)) (length (a .right .now)) _ _ (judge .judge .ensures) (c .before .before .refusal .given .1) in (
+      c .number .ensures ∙ ap codeOf is,
+      (
+        ap (λ (o : Outcome). given o (front (take (2 * l .rows) (l .words)) (a .left .now)) (λ q. a .left .now)) is,
+        (
+          ap (λ (o : Outcome). given o (front (take (2 * r .rows) (r .words)) (a .right .now)) (λ q. a .right .now)) is,
+          ap (λ (o : Outcome). given o (l .n ∷ (l .rows ∷ (r .rows ∷ []))) (λ q. a .sizes .now)) is,
+        ),
+      ),
+    )
 
 put-rows-requires : tie.Need-put-rows-requires
 put-rows-requires c κs = search needs
@@ -33,14 +59,14 @@ put-rows-requires c κs = search needs
 put-rows-requires-2 : tie.Need-put-rows-requires-2
 put-rows-requires-2 c κs = search needs
 
-slice-aggregate-put-if : tie.Need-slice-aggregate-put-if
-slice-aggregate-put-if c = search needs
+cast-t19 : tie.Need-cast-t19
+cast-t19 c = search needs
 
-put-if-requires : tie.Need-put-if-requires
-put-if-requires c κs = search needs
+cast-t20 : tie.Need-cast-t20
+cast-t20 c = search needs
 
-code-requires : tie.Need-code-requires
-code-requires c κs = search needs
+cast-t21 : tie.Need-cast-t21
+cast-t21 c = search needs
 
 same-length : tie.Need-same-length
 same-length c = search needs
@@ -48,24 +74,28 @@ same-length c = search needs
 same-length-2 : tie.Need-same-length-2
 same-length-2 c = search needs
 
-same-length-3 : tie.Need-same-length-3
-same-length-3 c = search needs
-
-returns : tie.Need-returns
-returns c = let s = c .before .before .before .before .before .before .before .before .before .before .before .before .before .before .before .before .before .before .before .before .before .before .before .before .before .before in
-    let a = s .args in
-    let e = c .before .before .before .before .before .before .before .before .before .before .before .before .before .before .before .before .before .before .before .before .read-pair .ensures in
-    let p = c .before .before .before .before .before .before .before .before .before .before .before .before .before .before .before .before .before .before .before .before .read-pair .result in
-    let o = c .before .before .before .before .before .before .before .before .before .before .before .before .before .before .before .before .before .before .before .check-room .ensures in (
-      c .code .ensures ∙ ap codeOf o ∙ ap (λ (x : Pair). codeOf (pairOutcome x (a .left .now) (a .right .now))) e,
+returns-2 : tie.Need-returns-2
+returns-2 c =
+    let put-right = c .before .before .before .before .before .before in
+    let put-left = put-right .before .before .before .before in
+    let told = put-left .before .before .before .before in
+    let judge = told .before .before in
+    let read-right = judge .before in
+    let read-left = read-right .before in
+    let a = read-left .before .before .before .before .before .args in
+    let l = tableOf (a .left-text .now) in
+    let r = tableOf (a .right-text .now) in
+    let is =
+    of-texts l r _ _ (read-left .read .ensures) (read-right .read2 .ensures) (length (a .left .now)) (length (a .right .now)) _ _ (judge .judge .ensures) (told .enum-told .given .1) in (
+      ap codeOf is,
       (
-        c .before .before .before .before .before .before .before .before .before .before .before .before .put-rows .ensures ∙ ap (λ (x : Outcome). frontIf x (take (2 * p .«left_rows») (p .left)) (a .left .now)) o
-            ∙ ap (λ (x : Pair). frontIf (pairOutcome x (a .left .now) (a .right .now)) (take (2 * x .«left_rows») (x .left)) (a .left .now)) e,
+        put-left .put-rows .ensures ∙ ap (λ (t : Table). front (take (2 * t .rows) (t .words)) (a .left .now)) (read-left .read .ensures)
+            ∙ ap (λ (o : Outcome). given o (front (take (2 * l .rows) (l .words)) (a .left .now)) (λ q. a .left .now)) is,
         (
-          c .before .before .before .before .before .before .before .before .put-rows2 .ensures ∙ ap (λ (x : Outcome). frontIf x (take (2 * p .«right_rows») (p .right)) (a .right .now)) o
-              ∙ ap (λ (x : Pair). frontIf (pairOutcome x (a .left .now) (a .right .now)) (take (2 * x .«right_rows») (x .right)) (a .right .now)) e,
-          c .before .before .before .put-if .ensures ∙ ap (λ (x : Outcome). frontIf x (pairNumbers p) (a .sizes .now)) o
-              ∙ ap (λ (x : Pair). frontIf (pairOutcome x (a .left .now) (a .right .now)) (pairNumbers x) (a .sizes .now)) e,
+          put-right .put-rows2 .ensures ∙ ap (λ (t : Table). front (take (2 * t .rows) (t .words)) (a .right .now)) (read-right .read2 .ensures)
+              ∙ ap (λ (o : Outcome). given o (front (take (2 * r .rows) (r .words)) (a .right .now)) (λ q. a .right .now)) is,
+          (λ i. read-left .read .ensures i .n ∷ (read-left .read .ensures i .rows ∷ (read-right .read2 .ensures i .rows ∷ [])))
+              ∙ ap (λ (o : Outcome). given o (l .n ∷ (l .rows ∷ (r .rows ∷ []))) (λ q. a .sizes .now)) is,
         ),
       ),
     )
@@ -74,17 +104,18 @@ pub forkhemit-read-pair-spec : {M : Type 1} → statement M
 forkhemit-read-pair-spec =
     tie.close
     (tie.spec
-    read-pair-requires
-    check-room-requires
-    cast-t13
-    cast-t14
-    cast-t15
+    read-requires
+    read-requires-2
+    judge-requires
+    enum-told
+    enum-known-refusal
+    number-requires
+    returns
     put-rows-requires
     put-rows-requires-2
-    slice-aggregate-put-if
-    put-if-requires
-    code-requires
+    cast-t19
+    cast-t20
+    cast-t21
     same-length
     same-length-2
-    same-length-3
-    returns)
+    returns-2)

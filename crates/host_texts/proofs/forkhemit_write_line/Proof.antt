@@ -2,8 +2,8 @@
 -- Assumes nothing.
 use mathlib.Core.Path.{sym, ap, _∙_}
 use Rattle.bristol.specs.declared.Written.{Written}
-use Rattle.host_texts.specs.Texts.{lineCode, lineNumbers}
-use Rattle.lent.specs.Lent.{front}
+use Rattle.bristol.specs.Writing.{lineCode, lineNumbers}
+use Rattle.lent.specs.Lent.{numbersOr}
 use Rattle.host_texts.proofs.HostNumbers.{line-is, line-bytes-are}
 use borrow.Author.Needs.{needs}
 use Rattle.host_texts.proofs.forkhemit_write_line.Statement.{statement}
@@ -18,50 +18,44 @@ write-line-requires c κs = search needs
 enum-known-k : tie.Need-enum-known-k
 enum-known-k c = search needs
 
-slice-aggregate-put : tie.Need-slice-aggregate-put
-slice-aggregate-put c = search needs
-
-put-requires : tie.Need-put-requires
-put-requires c κs = search needs
-
 same-length : tie.Need-same-length
 same-length c = search needs
 
-same-length-2 : tie.Need-same-length-2
-same-length-2 c = search needs
-
 returns : tie.Need-returns
-returns c = let s = c .before .before .before .before .before .before .before .before .before .before .before .before .before .before .before .before in
-    let a = s .args in
-    let dims = c .before .before .before .before .before .before .before .before .before .before .before .before .dimensions .ensures in
-    let w = c .before .before .before .before .before .before .before .before .before .before .write-line .ensures in
-    let e = line-is (a .gates .now) (a .line) (a .bytes .now) (a .n) (a .left-rows) (a .right-rows) _ dims _ (w .0) in
-    let told = c .before .before .before .before .before .before .k .given .1 in
-    (sym (ap lineCode (sym e ∙ told)), (line-bytes-are (a .gates .now) (a .line) (a .bytes .now) (a .n) (a .left-rows) (a .right-rows) _ dims _ (w .1), c .before .before .put .ensures ∙ ap (λ (x : Written). front (lineNumbers x) (a .length .now)) (sym told ∙ e)))
+returns c =
+    let told = c .before .before in
+    let write = told .before .before .before .before in
+    let dims = write .before .before in
+    let a = dims .before .before .before .args in
+    let w = write .write-line .ensures in
+    let is = sym (told .k .given .1) ∙ line-is (a .gates .now) (a .line) (a .bytes .now) (a .n) (a .left-rows) (a .right-rows) _ (dims .dimensions .ensures) _ (w .0) in (
+      ap lineCode is,
+      (
+        line-bytes-are (a .gates .now) (a .line) (a .bytes .now) (a .n) (a .left-rows) (a .right-rows) _ (dims .dimensions .ensures) _ (w .1 .0),
+        ap (λ (x : Written). numbersOr (lineNumbers x) (a .length .now)) is,
+      ),
+    )
 
 enum-told : tie.Need-enum-told
 enum-told c = search needs
 
-slice-aggregate-put-2 : tie.Need-slice-aggregate-put-2
-slice-aggregate-put-2 c = search needs
-
-put-requires-2 : tie.Need-put-requires-2
-put-requires-2 c κs = search needs
-
-same-length-3 : tie.Need-same-length-3
-same-length-3 c = search needs
-
-same-length-4 : tie.Need-same-length-4
-same-length-4 c = search needs
+same-length-2 : tie.Need-same-length-2
+same-length-2 c = search needs
 
 returns-2 : tie.Need-returns-2
-returns-2 c = let s = c .before .before .before .before .before .before .before .before .before .before .before .before .before .before .before in
-    let a = s .args in
-    let dims = c .before .before .before .before .before .before .before .before .before .before .before .dimensions .ensures in
-    let w = c .before .before .before .before .before .before .before .before .before .write-line .ensures in
-    let e = line-is (a .gates .now) (a .line) (a .bytes .now) (a .n) (a .left-rows) (a .right-rows) _ dims _ (w .0) in
-    let told = c .before .before .before .before .before .enum-told .given .1 in
-    (sym (ap lineCode (sym e ∙ told)), (line-bytes-are (a .gates .now) (a .line) (a .bytes .now) (a .n) (a .left-rows) (a .right-rows) _ dims _ (w .1), c .before .before .put2 .ensures ∙ ap (λ (x : Written). front (lineNumbers x) (a .length .now)) (sym told ∙ e)))
+returns-2 c =
+    let told = c .before in
+    let write = told .before .before .before .before in
+    let dims = write .before .before in
+    let a = dims .before .before .before .args in
+    let w = write .write-line .ensures in
+    let is = sym (told .enum-told .given .1) ∙ line-is (a .gates .now) (a .line) (a .bytes .now) (a .n) (a .left-rows) (a .right-rows) _ (dims .dimensions .ensures) _ (w .0) in (
+      ap lineCode is,
+      (
+        line-bytes-are (a .gates .now) (a .line) (a .bytes .now) (a .n) (a .left-rows) (a .right-rows) _ (dims .dimensions .ensures) _ (w .1 .0),
+        ap (λ (x : Written). numbersOr (lineNumbers x) (a .length .now)) is,
+      ),
+    )
 
 enum-known-refusal : tie.Need-enum-known-refusal
 enum-known-refusal c = search needs
@@ -69,17 +63,23 @@ enum-known-refusal c = search needs
 number-requires : tie.Need-number-requires
 number-requires c κs = search needs
 
-same-length-5 : tie.Need-same-length-5
-same-length-5 c = search needs
+same-length-3 : tie.Need-same-length-3
+same-length-3 c = search needs
 
 returns-3 : tie.Need-returns-3
-returns-3 c = let s = c .before .before .before .before .before .before .before .before .before .before .before .before in
-    let a = s .args in
-    let dims = c .before .before .before .before .before .before .before .before .dimensions .ensures in
-    let w = c .before .before .before .before .before .before .write-line .ensures in
-    let e = line-is (a .gates .now) (a .line) (a .bytes .now) (a .n) (a .left-rows) (a .right-rows) _ dims _ (w .0) in
-    let told = c .before .before .refusal .given .1 in
-    (c .number .ensures ∙ sym (ap lineCode (sym e ∙ told)), (line-bytes-are (a .gates .now) (a .line) (a .bytes .now) (a .n) (a .left-rows) (a .right-rows) _ dims _ (w .1), ap (λ (x : Written). front (lineNumbers x) (a .length .now)) (sym told ∙ e)))
+returns-3 c =
+    let told = c .before .before in
+    let write = told .before .before .before .before in
+    let dims = write .before .before in
+    let a = dims .before .before .before .args in
+    let w = write .write-line .ensures in
+    let is = sym (told .refusal .given .1) ∙ line-is (a .gates .now) (a .line) (a .bytes .now) (a .n) (a .left-rows) (a .right-rows) _ (dims .dimensions .ensures) _ (w .0) in (
+      c .number .ensures ∙ ap lineCode is,
+      (
+        line-bytes-are (a .gates .now) (a .line) (a .bytes .now) (a .n) (a .left-rows) (a .right-rows) _ (dims .dimensions .ensures) _ (w .1 .0),
+        ap (λ (x : Written). numbersOr (lineNumbers x) (a .length .now)) is,
+      ),
+    )
 
 pub forkhemit-write-line-spec : {M : Type 1} → statement M
 forkhemit-write-line-spec =
@@ -88,18 +88,12 @@ forkhemit-write-line-spec =
     dimensions-requires
     write-line-requires
     enum-known-k
-    slice-aggregate-put
-    put-requires
     same-length
-    same-length-2
     returns
     enum-told
-    slice-aggregate-put-2
-    put-requires-2
-    same-length-3
-    same-length-4
+    same-length-2
     returns-2
     enum-known-refusal
     number-requires
-    same-length-5
+    same-length-3
     returns-3)

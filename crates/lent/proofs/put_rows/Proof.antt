@@ -1,19 +1,15 @@
--- `put_rows` meets its contract: the words are the callee's, and a refusal writes none.
+-- `put_rows` meets its contract: the words are the callee's, and no more than there are.
 -- Assumes nothing.
-use mathlib.Core.Path.{sym, ap, _∙_}
+use mathlib.Core.Path.{ap, _∙_}
 use mathlib.Core.List.{List}
 use Prim.Native.Nat.{ℕ, _*_}
 use native.Mathlib.Omega.{arith}
-use lib.ListN.{take, length-take}
-use Rattle.refusals.specs.declared.Outcome.{Outcome}
-use Rattle.lent.specs.Lent.{front, frontIf}
+use lib.ListN.{length-take}
+use Rattle.lent.specs.Lent.{front}
 use Rattle.lent.proofs.Fronts.{first-values}
 use borrow.Author.Needs.{needs}
 use Rattle.lent.proofs.put_rows.Statement.{statement}
 use Rattle.lent.proofs.put_rows.Tie as tie
-
-enum-told : tie.Need-enum-told
-enum-told c = search needs
 
 mul-least : tie.Need-mul-least
 mul-least c = search needs
@@ -25,39 +21,31 @@ array-share-prefix-words : tie.Need-array-share-prefix-words
 array-share-prefix-words c = search needs
 
 slice-aggregate-put-words : tie.Need-slice-aggregate-put-words
-slice-aggregate-put-words c = omega (arith, c .before .least .ensures, length-take (c .before .least .result) (c .before .before .before .before .before .args .t2))
+slice-aggregate-put-words c =
+    let least = c .before in omega (arith, least .least .ensures, length-take (least .least .result) (least .before .before .args .t1))
 
 put-words-requires : tie.Need-put-words-requires
 put-words-requires c κs = search needs
-
-enum-told-2 : tie.Need-enum-told-2
-enum-told-2 c = search needs
 
 same-length : tie.Need-same-length
 same-length c = search needs
 
 returns : tie.Need-returns
 returns c =
-    let l = c .before .before .before .before .before in
-    let a = l .before .before .before .before .args in
-    let t = first-values (a .t2) (2 * a .rows) (l .least .result) (omega (arith, l .least .ensures)) in
-    c .before .before .put-words .ensures ∙ ap (λ (v : List ℕ). front v (a .lent .now)) t
-    ∙ sym (ap (λ (o : Outcome). frontIf o (take (2 * a .rows) (a .t2)) (a .lent .now)) (l .before .enum-told .given .1))
-
-returns-2 : tie.Need-returns-2
-returns-2 c = search needs
+    let put = c .before .before in
+    let least = put .before .before .before in
+    let start = least .before .before in
+    let t = first-values (start .args .t1) (2 * start .args .rows) (least .least .result) (omega (arith, least .least .ensures)) in
+    put .put-words .ensures ∙ ap (λ (v : List ℕ). front v (start .args .lent .now)) t
 
 pub put-rows-spec : {M : Type 1} → statement M
 put-rows-spec =
     tie.close
     (tie.spec
-    enum-told
     mul-least
     least-requires
     array-share-prefix-words
     slice-aggregate-put-words
     put-words-requires
-    enum-told-2
     same-length
-    returns
-    returns-2)
+    returns)

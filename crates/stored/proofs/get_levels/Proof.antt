@@ -26,29 +26,29 @@ mul-at c = search needs
 add-at : tie.Need-add-at Inv-loop μ-loop
 add-at c = search needs
 
-mul-t7 : tie.Need-mul-t7 Inv-loop μ-loop
-mul-t7 c = search needs
+mul-t8 : tie.Need-mul-t8 Inv-loop μ-loop
+mul-t8 c = search needs
 
-shared-slice-read-t9 : tie.Need-shared-slice-read-t9 Inv-loop μ-loop
-shared-slice-read-t9 c = search needs
+array-read-t11 : tie.Need-array-read-t11 Inv-loop μ-loop
+array-read-t11 c = search needs
 
-add-t10 : tie.Need-add-t10 Inv-loop μ-loop
-add-t10 c = search needs
+add-t12 : tie.Need-add-t12 Inv-loop μ-loop
+add-t12 c = search needs
 
-mul-t11 : tie.Need-mul-t11 Inv-loop μ-loop
-mul-t11 c = search needs
+mul-t13 : tie.Need-mul-t13 Inv-loop μ-loop
+mul-t13 c = search needs
 
-shared-slice-read-t13 : tie.Need-shared-slice-read-t13 Inv-loop μ-loop
-shared-slice-read-t13 c = search needs
+array-read-t16 : tie.Need-array-read-t16 Inv-loop μ-loop
+array-read-t16 c = search needs
 
-add-t14 : tie.Need-add-t14 Inv-loop μ-loop
-add-t14 c = search needs
+add-t17 : tie.Need-add-t17 Inv-loop μ-loop
+add-t17 c = search needs
 
-mul-t15 : tie.Need-mul-t15 Inv-loop μ-loop
-mul-t15 c = search needs
+mul-t18 : tie.Need-mul-t18 Inv-loop μ-loop
+mul-t18 c = search needs
 
-shared-slice-read-t17 : tie.Need-shared-slice-read-t17 Inv-loop μ-loop
-shared-slice-read-t17 c = search needs
+array-read-t21 : tie.Need-array-read-t21 Inv-loop μ-loop
+array-read-t21 c = search needs
 
 mul-levels : tie.Need-mul-levels Inv-loop μ-loop
 mul-levels c = search needs
@@ -63,15 +63,15 @@ loop-less : tie.Need-loop-less Inv-loop μ-loop
 loop-less c = search needs
 
 loop-again : tie.Need-loop-again Inv-loop μ-loop
-loop-again c = let l = c .before .before .before .before in
+loop-again c = let l = c .before in
     let s = l .before in
-    (search needs, simp length-set (l .loop .inv .1), read-turn (s .args .words .now) (l .loop .levels) (l .loop .l) (l .loop .inv .1) (c .before .before .before .loop-test .taken) ∙ l .loop .inv .2)
+    (search needs, simp length-set (l .loop .inv .1), read-turn (s .args .t1) (l .loop .levels) (l .loop .l) (l .loop .inv .1) (c .loop-test .taken) ∙ l .loop .inv .2)
 
 returns : tie.Need-returns Inv-loop μ-loop
 returns c = let l = c .before in
     let s = l .before in
     let e : l .loop .l ≡ 32 = omega arith in
-    sym (read-end (s .args .words .now) (l .loop .levels) (l .loop .l) (l .loop .inv .1) e) ∙ l .loop .inv .2
+    sym (read-end (s .args .t1) (l .loop .levels) (l .loop .l) (l .loop .inv .1) e) ∙ l .loop .inv .2
 
 pub get-levels-spec : {M : Type 1} → statement M
 get-levels-spec =
@@ -82,14 +82,14 @@ get-levels-spec =
     loop-holds
     mul-at
     add-at
-    mul-t7
-    shared-slice-read-t9
-    add-t10
-    mul-t11
-    shared-slice-read-t13
-    add-t14
-    mul-t15
-    shared-slice-read-t17
+    mul-t8
+    array-read-t11
+    add-t12
+    mul-t13
+    array-read-t16
+    add-t17
+    mul-t18
+    array-read-t21
     mul-levels
     array-set-from-levels
     add-l

@@ -10,10 +10,10 @@ use Rattle.stored.proofs.put_levels.Statement.{statement}
 use Rattle.stored.proofs.put_levels.Tie as tie
 
 abbrev Inv-loop : tie.InvT-loop
-Inv-loop words₀ levels l₀ words l = (l ≤ 32) × (length words ≡ length words₀) × (withRest levels words l ≡ withRest levels words₀ 0)
+Inv-loop levels words₀ l₀ words l = (l ≤ 32) × (length words ≡ length words₀) × (withRest levels words l ≡ withRest levels words₀ 0)
 
 abbrev μ-loop : tie.MeasureT-loop
-μ-loop words₀ levels l₀ words l = 32 - l
+μ-loop levels words₀ l₀ words l = 32 - l
 
 loop-holds : tie.Need-loop-holds Inv-loop μ-loop
 loop-holds c = (search needs, refl, refl)
@@ -30,29 +30,29 @@ mul-level c = search needs
 array-copy-out-level : tie.Need-array-copy-out-level Inv-loop μ-loop
 array-copy-out-level c = search needs
 
-mul-words : tie.Need-mul-words Inv-loop μ-loop
-mul-words c = search needs
+mul-out : tie.Need-mul-out Inv-loop μ-loop
+mul-out c = search needs
 
-slice-write-words : tie.Need-slice-write-words Inv-loop μ-loop
-slice-write-words c = search needs
+array-write-out : tie.Need-array-write-out Inv-loop μ-loop
+array-write-out c = search needs
 
-add-words : tie.Need-add-words Inv-loop μ-loop
-add-words c = search needs
+add-out : tie.Need-add-out Inv-loop μ-loop
+add-out c = search needs
 
-mul-words-2 : tie.Need-mul-words-2 Inv-loop μ-loop
-mul-words-2 c = search needs
+mul-out-2 : tie.Need-mul-out-2 Inv-loop μ-loop
+mul-out-2 c = search needs
 
-slice-write-words-2 : tie.Need-slice-write-words-2 Inv-loop μ-loop
-slice-write-words-2 c = simp length-set (omega arith)
+array-write-out-2 : tie.Need-array-write-out-2 Inv-loop μ-loop
+array-write-out-2 c = search needs
 
-add-words-2 : tie.Need-add-words-2 Inv-loop μ-loop
-add-words-2 c = search needs
+add-out-2 : tie.Need-add-out-2 Inv-loop μ-loop
+add-out-2 c = search needs
 
-mul-words-3 : tie.Need-mul-words-3 Inv-loop μ-loop
-mul-words-3 c = search needs
+mul-out-3 : tie.Need-mul-out-3 Inv-loop μ-loop
+mul-out-3 c = search needs
 
-slice-write-words-3 : tie.Need-slice-write-words-3 Inv-loop μ-loop
-slice-write-words-3 c = simp length-set (omega arith)
+array-write-out-3 : tie.Need-array-write-out-3 Inv-loop μ-loop
+array-write-out-3 c = search needs
 
 add-l : tie.Need-add-l Inv-loop μ-loop
 add-l c = search needs
@@ -63,16 +63,13 @@ loop-less c = search needs
 loop-again : tie.Need-loop-again Inv-loop μ-loop
 loop-again c = let l = c .before .before in
     let s = l .before in
-    (search needs, simp length-set (l .loop .inv .1), store-turn (s .args .t1) (l .loop .words) (l .loop .l) (search needs) ∙ l .loop .inv .2)
-
-same-length : tie.Need-same-length Inv-loop μ-loop
-same-length c = c .before .loop .inv .1
+    (search needs, simp length-set (l .loop .inv .1), store-turn (s .args .t1) (l .loop .out) (l .loop .l) (search needs) ∙ l .loop .inv .2)
 
 returns : tie.Need-returns Inv-loop μ-loop
 unfolding withRest
 returns c = let l = c .before in
     let s = l .before in
-    sym (store-end (s .args .t1) (l .loop .words) (l .loop .l) (search needs)) ∙ l .loop .inv .2
+    sym (store-end (s .args .t1) (l .loop .out) (l .loop .l) (search needs)) ∙ l .loop .inv .2
 
 pub put-levels-spec : {M : Type 1} → statement M
 put-levels-spec =
@@ -85,16 +82,15 @@ put-levels-spec =
     add-at
     mul-level
     array-copy-out-level
-    mul-words
-    slice-write-words
-    add-words
-    mul-words-2
-    slice-write-words-2
-    add-words-2
-    mul-words-3
-    slice-write-words-3
+    mul-out
+    array-write-out
+    add-out
+    mul-out-2
+    array-write-out-2
+    add-out-2
+    mul-out-3
+    array-write-out-3
     add-l
     loop-less
     loop-again
-    same-length
     returns)
