@@ -1,7 +1,8 @@
 # make test: proves and tests everything. make run: solves the example. make lib: the library for hosts, target/lib/libforkhemit.a.
 # make examples: builds the example hosts and runs them. make bench: compares with other solvers and with plain Rust.
 # make checktime: how long each crate's check takes, from nothing. make pictures: draws docs/pictures anew.
-.PHONY: test run lib examples bench checktime pictures fmt
+# make fmt: puts every file in its layout. make fmt-check: says which are not.
+.PHONY: test run lib examples bench checktime pictures fmt fmt-check
 
 test:
 	.ci/run
@@ -65,3 +66,8 @@ fmt:
 	rt fmt
 	cargo fmt --manifest-path tests/Cargo.toml
 	rustfmt --edition 2021 --config-path tests/rustfmt.toml examples/host/host.rs
+
+fmt-check:
+	rt fmt --check
+	cargo fmt --check --manifest-path tests/Cargo.toml
+	rustfmt --check --edition 2021 --config-path tests/rustfmt.toml examples/host/host.rs

@@ -1,16 +1,42 @@
 //! Runs a program as a whole process, in a folder of its own.
 
-use std::fs::{self, File, Permissions};
-use std::io::{Read, Seek, Write};
-use std::os::unix::fs::{symlink, MetadataExt, PermissionsExt};
+use std::ffi::CString;
+use std::fs::{self, File, OpenOptions, Permissions};
+use std::io::{ErrorKind, Read, Seek, Write};
+use std::os::raw::{c_char, c_int, c_ulong};
+use std::os::unix::ffi::OsStrExt;
+use std::os::unix::fs::{symlink, MetadataExt, OpenOptionsExt, PermissionsExt};
+use std::os::unix::io::{AsRawFd, FromRawFd, OwnedFd};
 use std::os::unix::process::CommandExt;
 use std::path::{Path, PathBuf};
-use std::process::{Child, Command, Stdio};
-use std::sync::mpsc;
-use std::time::Duration;
+use std::process::{Child, ChildStdin, Command, Stdio};
+use std::sync::atomic::{AtomicBool, Ordering};
+use std::sync::mpsc::{self, RecvTimeoutError};
+use std::time::{Duration, Instant};
 
-const PATIENCE: Duration = Duration::from_secs(30);
 const NOBODY: u32 = 65_534;
+/// How often a process is looked at that has not ended.
+const LOOK: Duration = Duration::from_secs(1);
+/// Processor time, in hundredths of a second, after which a process is taken to run for ever: no test needs a tenth of it.
+const MOST_TICKS: u64 = 6_000;
+/// Looks that find a process asleep, with no processor time taken since the look before, until it is taken to wait for ever.
+const MOST_ASLEEP: usize = 60;
+
+// Of the C library and Linux.
+const F_SETFL: c_int = 4;
+const F_SETPIPE_SZ: c_int = 1_031;
+const O_NONBLOCK: c_int = 0o4_000;
+const O_CLOEXEC: c_int = 0o2_000_000;
+/// Asks how many bytes wait in a pipe.
+const FIONREAD: c_ulong = 0x541b;
+
+extern "C" {
+    fn close(fd: c_int) -> c_int;
+    fn fcntl(fd: c_int, command: c_int, value: c_int) -> c_int;
+    fn ioctl(file: c_int, request: c_ulong, ...) -> c_int;
+    fn mkfifo(path: *const c_char, mode: u32) -> c_int;
+    fn pipe2(ends: *mut c_int, flags: c_int) -> c_int;
+}
 
 /// A station's file as the program finds it.
 #[derive(Clone, Debug)]
@@ -28,13 +54,15 @@ pub enum Source {
     Breaking(Vec<u8>),
     /// The same, and the second read fails, that one alone.
     Faltering(Vec<u8>),
+    /// A named pipe: one writer feeds both, the left one whole before it opens the right one.
+    Piped(Vec<u8>),
 }
 
 impl Source {
     /// The bytes that can be read, or None.
     pub fn text(&self) -> Option<&[u8]> {
         match self {
-            Source::Text(text) | Source::Slow(text) => Some(text),
+            Source::Text(text) | Source::Slow(text) | Source::Piped(text) => Some(text),
             _ => None,
         }
     }
@@ -43,6 +71,16 @@ impl Source {
     pub fn is_whole(&self) -> bool {
         !matches!(self, Source::Slow(_) | Source::Breaking(_) | Source::Faltering(_))
     }
+}
+
+/// How standard input comes to a program.
+#[derive(Clone, Copy, PartialEq)]
+pub enum Input {
+    File,
+    /// A pipe that brings it in two parts and is not closed before the program ends.
+    Held,
+    /// Not at all: its descriptor is closed, and the next file to be opened gets its number.
+    Closed,
 }
 
 /// What a program did.
@@ -80,15 +118,71 @@ impl Room {
 
     /// Runs a program that takes arguments in the folder of these files.
     pub fn run_with(&self, arguments: &[&str], left: &Source, right: &Source, input: &[u8]) -> std::io::Result<Ran> {
-        let data = self.folder.join("data");
-        place(&data.join("left.cnf"), left)?;
-        place(&data.join("right.cnf"), right)?;
         let given = self.folder.join("stdin");
         fs::write(&given, input)?;
         let mut shared = File::open(&given)?;
+        let mut command = self.command(left, right)?;
+        let child = command.args(arguments).stdin(shared.try_clone()?).spawn()?;
+        let mut ran = self.finish(child, left, right)?;
+        ran.taken = Some(shared.stream_position()?);
+        Ok(ran)
+    }
+
+    /// Runs it with standard input a pipe that brings `input` in two parts and is not closed before the program ends.
+    pub fn run_held(&self, left: &Source, right: &Source, input: &[u8]) -> std::io::Result<Ran> {
+        let mut child = self.command(left, right)?.stdin(Stdio::piped()).spawn()?;
+        let mut pipe = child.stdin.take().expect("a pipe was asked for");
+        for part in input.chunks(input.len() / 2 + 1) {
+            pipe.write_all(part)?;
+            await_taken(&mut child, &pipe)?;
+        }
+        let ran = self.finish(child, left, right);
+        drop(pipe);
+        ran
+    }
+
+    /// Runs it without a standard input.
+    pub fn run_closed(&self, left: &Source, right: &Source) -> std::io::Result<Ran> {
+        let mut command = self.command(left, right)?;
+        // SAFETY: close may be called between fork and exec.
+        unsafe {
+            command.pre_exec(|| match close(0) {
+                0 => Ok(()),
+                _ => Err(std::io::Error::last_os_error()),
+            })
+        };
+        self.finish(command.spawn()?, left, right)
+    }
+
+    /// What comes through a standard output that holds 4,096 bytes and fails when it is full, read with a pause before each read.
+    pub fn run_narrow(&self, input: &[u8], pause: Duration) -> std::io::Result<Vec<u8>> {
+        let (mut reader, writer) = narrow_pipe()?;
+        let mut command = self.command(&Source::Missing, &Source::Missing)?;
+        let mut child = command.stdin(Stdio::piped()).stdout(writer).spawn()?;
+        drop(command); // it holds the end to write to
+        child.stdin.take().expect("a pipe was asked for").write_all(input)?;
+        let (mut output, mut part) = (vec![], [0; 4_096]);
+        loop {
+            let start = Instant::now();
+            while start.elapsed() < pause {
+                std::hint::spin_loop();
+            }
+            match reader.read(&mut part)? {
+                0 => break,
+                count => output.extend(&part[..count]),
+            }
+        }
+        child.wait()?;
+        Ok(output)
+    }
+
+    /// The program in the folder of these files.
+    fn command(&self, left: &Source, right: &Source) -> std::io::Result<Command> {
+        let data = self.folder.join("data");
         let mut command = Command::new(&self.program);
-        command.args(arguments).current_dir(&data).stdin(shared.try_clone()?);
+        command.current_dir(&data).stdout(Stdio::piped()).stderr(Stdio::piped());
         for (name, source) in [("left.cnf", left), ("right.cnf", right)] {
+            place(&data.join(name), source)?;
             match source {
                 Source::Locked if is_root()? => drop(command.uid(NOBODY).gid(NOBODY)),
                 Source::Slow(_) => drop(command.env("LD_PRELOAD", small_parts()?)),
@@ -97,27 +191,27 @@ impl Room {
                 _ => (),
             }
         }
-        let mut ran = finish(command)?;
-        ran.taken = Some(shared.stream_position()?);
-        Ok(ran)
+        Ok(command)
     }
 
-    /// Runs it with standard input a pipe that brings `input` in two parts and is not closed before the program ends.
-    pub fn run_held(&self, left: &Source, right: &Source, input: &[u8]) -> std::io::Result<Ran> {
+    /// Waits for the end of a program while named pipes are fed.
+    fn finish(&self, child: Child, left: &Source, right: &Source) -> std::io::Result<Ran> {
         let data = self.folder.join("data");
-        place(&data.join("left.cnf"), left)?;
-        place(&data.join("right.cnf"), right)?;
-        let mut command = Command::new(&self.program);
-        command.current_dir(&data).stdin(Stdio::piped()).stdout(Stdio::piped()).stderr(Stdio::piped());
-        let mut child = command.spawn()?;
-        let mut pipe = child.stdin.take().expect("a pipe was asked for");
-        for part in input.chunks(input.len() / 2 + 1) {
-            pipe.write_all(part)?;
-            std::thread::sleep(Duration::from_millis(20));
-        }
-        let ran = gather(child);
-        drop(pipe);
-        ran
+        let ended = AtomicBool::new(false);
+        std::thread::scope(|scope| {
+            if [left, right].iter().any(|source| matches!(source, Source::Piped(_))) {
+                scope.spawn(|| {
+                    for (name, source) in [("left.cnf", left), ("right.cnf", right)] {
+                        if let Source::Piped(text) = source {
+                            feed(&data.join(name), text, &ended);
+                        }
+                    }
+                });
+            }
+            let ran = gather(child);
+            ended.store(true, Ordering::Relaxed);
+            ran
+        })
     }
 
     /// Another solver's verdict on a DIMACS text: whether it is satisfiable.
@@ -167,14 +261,100 @@ fn place(path: &Path, source: &Source) -> std::io::Result<()> {
             fs::write(path, "p cnf 1 1\n1 0\n")?;
             fs::set_permissions(path, Permissions::from_mode(0o000))
         }
+        Source::Piped(_) => {
+            let path = CString::new(path.as_os_str().as_bytes())?;
+            // SAFETY: the path ends in 0.
+            match unsafe { mkfifo(path.as_ptr(), 0o644) } {
+                0 => Ok(()),
+                _ => Err(std::io::Error::last_os_error()),
+            }
+        }
         // a process's memory opens, and has nothing to read at its start
         Source::Failing => symlink("/proc/self/mem", path),
     }
 }
 
-/// Runs a command to its end and gathers what it writes.
-fn finish(mut command: Command) -> std::io::Result<Ran> {
-    gather(command.stdout(Stdio::piped()).stderr(Stdio::piped()).spawn()?)
+/// Writes a text to a named pipe, waiting for a reader and for room, until it is written, nobody reads it any more, or the program has ended.
+fn feed(pipe: &Path, text: &[u8], ended: &AtomicBool) {
+    let wait = || {
+        std::thread::sleep(Duration::from_millis(1));
+        !ended.load(Ordering::Relaxed)
+    };
+    let mut writer = loop {
+        match OpenOptions::new().write(true).custom_flags(O_NONBLOCK).open(pipe) {
+            Ok(writer) => break writer,
+            Err(_) if wait() => (),
+            Err(_) => return,
+        }
+    };
+    let mut rest = text;
+    while !rest.is_empty() {
+        match writer.write(rest) {
+            Ok(count) => rest = &rest[count..],
+            Err(error) if error.kind() == ErrorKind::WouldBlock && wait() => (),
+            Err(_) => return,
+        }
+    }
+}
+
+/// A pipe of 4,096 bytes, a write to which fails when it is full.
+fn narrow_pipe() -> std::io::Result<(File, OwnedFd)> {
+    let mut ends = [0; 2];
+    // SAFETY: there is room for two descriptors, which nothing else owns.
+    let (reader, writer) = unsafe {
+        if pipe2(ends.as_mut_ptr(), O_CLOEXEC) != 0 {
+            return Err(std::io::Error::last_os_error());
+        }
+        (OwnedFd::from_raw_fd(ends[0]), OwnedFd::from_raw_fd(ends[1]))
+    };
+    for (command, value) in [(F_SETPIPE_SZ, 4_096), (F_SETFL, O_NONBLOCK)] {
+        // SAFETY: the descriptor is open.
+        if unsafe { fcntl(writer.as_raw_fd(), command, value) } < 0 {
+            return Err(std::io::Error::last_os_error());
+        }
+    }
+    Ok((File::from(reader), writer))
+}
+
+/// Waits until a process has taken what stands in its pipe, or has ended or is stuck.
+fn await_taken(child: &mut Child, pipe: &ChildStdin) -> std::io::Result<()> {
+    let (mut waiting, mut watch): (c_int, Watch) = (1, Watch::default());
+    loop {
+        // SAFETY: the request stores one int
+        if unsafe { ioctl(pipe.as_raw_fd(), FIONREAD, &mut waiting) } < 0 {
+            return Err(std::io::Error::last_os_error());
+        }
+        if waiting == 0 || child.try_wait()?.is_some() || watch.look(child.id())?.is_some() {
+            return Ok(());
+        }
+        std::thread::sleep(Duration::from_millis(1));
+    }
+}
+
+/// Tells a process that will not end from one that is slow. The time gone by says nothing where other work goes on beside.
+#[derive(Default)]
+struct Watch {
+    ticks: u64,
+    asleep: usize,
+}
+
+impl Watch {
+    /// Looks at a process once more; what is wrong with it, if it is to be ended.
+    fn look(&mut self, process: u32) -> std::io::Result<Option<String>> {
+        let stat = fs::read_to_string(format!("/proc/{process}/stat"))?;
+        // behind the name, which stands in brackets: the state, and 11 numbers on the ticks, the process's own and the system's
+        let fields: Vec<&str> = stat.rsplit(')').next().unwrap_or("").split_whitespace().collect();
+        let ticks = fields[11..13].iter().filter_map(|ticks| ticks.parse::<u64>().ok()).sum();
+        self.asleep = if fields[0] == "S" && ticks == self.ticks { self.asleep + 1 } else { 0 };
+        self.ticks = ticks;
+        Ok(if ticks > MOST_TICKS {
+            Some(format!("no end after {} s of processor time", ticks / 100))
+        } else if self.asleep > MOST_ASLEEP {
+            Some("it waits for something that does not come".into())
+        } else {
+            None
+        })
+    }
 }
 
 /// Waits for the end of a program, and ends it where it does not.
@@ -187,13 +367,20 @@ fn gather(mut child: Child) -> std::io::Result<Ran> {
         let read = out.read_to_end(&mut output).and_then(|_| err.read_to_end(&mut said));
         let _ = sender.send(read.map(|_| (output, said)));
     });
-    let (output, said) = match receiver.recv_timeout(PATIENCE) {
-        Ok(read) => read?,
-        Err(_) => {
+    let mut watch = Watch::default();
+    let (output, said) = loop {
+        match receiver.recv_timeout(LOOK) {
+            Ok(read) => break read?,
+            Err(RecvTimeoutError::Disconnected) => return Err(std::io::ErrorKind::BrokenPipe.into()),
+            Err(RecvTimeoutError::Timeout) => (),
+        }
+        if child.try_wait()?.is_some() {
+            continue;
+        }
+        if let Some(fault) = watch.look(child.id())? {
             child.kill()?;
             child.wait()?;
-            let fault = Some(format!("no end after {} s", PATIENCE.as_secs()));
-            return Ok(Ran { output: vec![], taken: None, fault });
+            return Ok(Ran { output: vec![], taken: None, fault: Some(fault) });
         }
     };
     let status = child.wait()?;

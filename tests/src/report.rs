@@ -2,7 +2,7 @@
 
 use crate::layout;
 use crate::model::{self, Row, Standing};
-use crate::process::{Ran, Room, Source};
+use crate::process::{Input, Ran, Room, Source};
 use std::collections::BTreeMap;
 use std::path::Path;
 use std::sync::atomic::{AtomicUsize, Ordering};
@@ -23,8 +23,8 @@ pub struct Test {
     pub expected: Option<String>,
     /// Both tables as they were made, where the answer is held to them and to another solver.
     pub made: Option<(usize, Vec<Row>)>,
-    /// Whether standard input is a pipe that stays open.
-    pub held: bool,
+    /// How standard input comes.
+    pub way: Input,
 }
 
 impl Test {
@@ -37,7 +37,7 @@ impl Test {
             input,
             expected: None,
             made: None,
-            held: false,
+            way: Input::File,
         }
     }
 }
@@ -102,10 +102,21 @@ impl Ledger {
     }
 }
 
-/// Does the work of every number below `count`, each thread in a room of its own.
-pub fn spread(program: &Path, count: usize, work: impl Fn(usize, &Room) + Sync) -> std::io::Result<()> {
+/// Does the work of every number below `count`, each thread in rooms of its own, one for each program. All rooms are there
+/// before a thread starts: a process that is started while a program is still being copied could keep the copy open, and it
+/// could then not be run.
+pub fn spread<const N: usize>(
+    programs: [&Path; N],
+    count: usize,
+    work: impl Fn(usize, &[Room; N]) + Sync,
+) -> std::io::Result<()> {
     let next = AtomicUsize::new(0);
-    let rooms = (0..THREADS).map(|id| Room::new(program, id)).collect::<Result<Vec<_>, _>>()?;
+    let mut rooms: Vec<[Room; N]> = vec![];
+    for thread in 0..THREADS {
+        let own = programs.iter().enumerate().map(|(place, program)| Room::new(program, thread * N + place));
+        let own = own.collect::<Result<Vec<_>, _>>()?;
+        rooms.push(own.try_into().unwrap_or_else(|_| unreachable!("a room for each program")));
+    }
     std::thread::scope(|scope| {
         for room in &rooms {
             scope.spawn(|| loop {
@@ -123,7 +134,7 @@ pub fn spread(program: &Path, count: usize, work: impl Fn(usize, &Room) + Sync) 
 /// Runs a group's tests and prints what it came to.
 pub fn run(group: &Group, program: &Path, solver: &str) -> std::io::Result<Tally> {
     let ledger = Ledger::default();
-    spread(program, group.count, |number, room| {
+    spread([program], group.count, |number, [room]| {
         for test in (group.make)(number) {
             let (kind, failure) = judge(&test, room, solver);
             ledger.kind(&kind, 1);
@@ -141,8 +152,12 @@ fn judge(test: &Test, room: &Room, solver: &str) -> (String, Option<String>) {
         Ok(answer) => (format!("{:?}", answer.standing).to_lowercase(), model::printed(answer)),
         Err(number) => (format!("refused {number}"), model::refused(*number)),
     };
-    let run = if test.held { Room::run_held } else { Room::run };
-    let failure = match run(room, &test.left, &test.right, &test.input) {
+    let ran = match test.way {
+        Input::File => room.run(&test.left, &test.right, &test.input),
+        Input::Held => room.run_held(&test.left, &test.right, &test.input),
+        Input::Closed => room.run_closed(&test.left, &test.right),
+    };
+    let failure = match ran {
         Err(error) => Some(format!("it could not be run: {error}")),
         Ok(ran) => wrong(test, &ran, &output).or_else(|| match (&test.made, &answer) {
             (Some(_), Err(number)) => Some(format!("an accepted pair is refused with {number}")),
@@ -198,7 +213,11 @@ fn unlike_others(made: &(usize, Vec<Row>), output: &[u8], room: &Room, solver: &
 /// A test as it is printed where it fails.
 pub fn shown(test: &Test) -> String {
     let text = |source: &Source| match source {
-        Source::Text(bytes) | Source::Slow(bytes) | Source::Breaking(bytes) | Source::Faltering(bytes) => quoted(bytes),
+        Source::Text(bytes)
+        | Source::Slow(bytes)
+        | Source::Breaking(bytes)
+        | Source::Faltering(bytes)
+        | Source::Piped(bytes) => quoted(bytes),
         other => format!("{other:?}"),
     };
     format!("  left.cnf  {}\n  right.cnf {}\n  stdin     {}", text(&test.left), text(&test.right), quoted(&test.input))
