@@ -1,2 +1,4 @@
 pub mod Literals
 pub mod Reading
+pub mod Unplaced
+pub mod Examples

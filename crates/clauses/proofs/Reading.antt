@@ -9,21 +9,32 @@ use lib.Dec.{ltb}
 use lib.ListN.{length}
 use borrow.Author.Tests.{lt-ltb, le-ltb}
 use Rattle.words.proofs.Truth.{on, and-l, and-r, and-i}
-use Rattle.lexer.specs.Bytes.{isSeparator}
-use Rattle.lexer.specs.Pieces.{Piece, behind, tokensFrom}
+use Rattle.lexer.specs.Pieces.{Piece, behind}
 use Rattle.lexer.specs.Places.{part, firstOf}
-use Rattle.lexer.proofs.Cuts.{Found, found}
+use Rattle.lexer.specs.Blanks.{tokensPast}
+use Rattle.lexer.proofs.Cuts.{FoundBy}
+use Rattle.lexer.proofs.Tokens.{found}
 use Rattle.numbers.specs.Numbers.{Number, number, malformed, numberOf}
 use Rattle.numbers.specs.Held.{numberHeld}
 use Rattle.numbers.specs.declared.Number.the-variants as L
 use Rattle.numbers.proofs.Decimals.{held-value, held-none}
 use Rattle.clauses.specs.Rows.{Literal, rowOf}
 use Rattle.clauses.specs.Clauses.{Reading, clause, ended, unreadable, joined, before, clauses}
-use Rattle.clauses.specs.First.{clausesFrom, emptyRow, rowWith, withLiterals, first}
+use Rattle.clauses.specs.First.{clausesFrom, emptyRow, rowWith, withLiterals, first, clauseCode, clauseNumbers, firstSaid}
 use Rattle.clauses.specs.declared.Row.{Row}
 use Rattle.clauses.specs.declared.Clause.{Clause}
 use Rattle.clauses.specs.declared.Clause.the-variants.{Read, Unreadable}
 use Rattle.clauses.proofs.Literals.{below, below-more, row-filled}
+
+-- what is given says its number and its values
+pub said : (n : ℕ) (text : List ℕ) (at : ℕ) (c : Clause) → first (clausesFrom n text at) ≡ c
+    → (c ≡ first (clausesFrom n text at)) × (clauseCode c ∷ clauseNumbers c ≡ firstSaid (clausesFrom n text at))
+said n text at c e = (sym e, ap (λ (y : Clause). clauseCode y ∷ clauseNumbers y) (sym e) ∙ go (clausesFrom n text at))
+  where
+    go : (y : Reading) → clauseCode (first y) ∷ clauseNumbers (first y) ≡ firstSaid y
+    go (clause ls from to rest) = refl
+    go ended = refl
+    go unreadable = refl
 
 -- a clause begun at a place, with a row so far, goes on with the first clause of a reading
 abbrev pub carried : Row → ℕ → Reading → Clause
@@ -54,11 +65,11 @@ first-before n t (number s (suc i)) rest =
 abbrev tokenThen : ℕ → List ℕ → ℕ → ℕ → Reading
 tokenThen n text from to = before n (record { at = from; bytes = part from to text }) (numberOf (part from to text)) (clausesFrom n text to)
 
-next-is : (n : ℕ) (text : List ℕ) (at from to : ℕ) → Found isSeparator text at from to → clausesFrom n text at ≡ tokenThen n text from to
+next-is : (n : ℕ) (text : List ℕ) (at from to : ℕ) → FoundBy (tokensPast text) text at from to → clausesFrom n text at ≡ tokenThen n text from to
 unfolding clauses
 next-is n text at from to F = ap (clauses n) (F .pieces)
 
-pub no-clause : (n : ℕ) (text : List ℕ) (at : ℕ) → tokensFrom text at ≡ [] → clausesFrom n text at ≡ ended
+pub no-clause : (n : ℕ) (text : List ℕ) (at : ℕ) → tokensPast text at ≡ [] → clausesFrom n text at ≡ ended
 unfolding clauses
 no-clause n text at e = rw e
 
@@ -69,7 +80,7 @@ pub record Begun (n : ℕ) (text : List ℕ) (at start : ℕ) (row : Row) (from 
   pub within : to ≤ length text
   pub ends : from + length (part from to text) ≡ to
 
-pub begun : (n : ℕ) (text : List ℕ) (at from to : ℕ) → Found isSeparator text at from to → Begun n text at from emptyRow from to
+pub begun : (n : ℕ) (text : List ℕ) (at from to : ℕ) → FoundBy (tokensPast text) text at from to → Begun n text at from emptyRow from to
 begun n text at from to F = record {
   whole = sym (ap first (next-is n text at from to F) ∙ first-before n (record { at = from; bytes = part from to text }) (numberOf (part from to text)) (clausesFrom n text to));
   filled = F .filled;
@@ -108,10 +119,10 @@ module _ {n : ℕ} {text : List ℕ} {at start : ℕ} {row : Row} {from to : ℕ
           by-number (number minus (suc i)) (x .1 ∙ ap (number minus) q)
           ∙ rw (lt-ltb i n (omega (arith, z))) (carried-joined row start from (record { minus = minus; bit = i }) (clausesFrom n text to))
 
-      pub no-more : tokensFrom text to ≡ [] → first (clausesFrom n text at) ≡ Unreadable
+      pub no-more : tokensPast text to ≡ [] → first (clausesFrom n text at) ≡ Unreadable
       no-more q = joins ∙ ap (carried (rowWith minus (v - 1) row) start) (no-clause n text to q)
 
-      pub goes-on : (r : Row) → r ≡ rowWith minus (v - 1) row → (next end : ℕ) → Found isSeparator text to next end → Begun n text at start r next end
+      pub goes-on : (r : Row) → r ≡ rowWith minus (v - 1) row → (next end : ℕ) → FoundBy (tokensPast text) text to next end → Begun n text at start r next end
       goes-on r w next end F = record {
         whole = ap (λ (x : Row). carried x start (tokenThen n text next end)) w ∙ sym (joins ∙ ap (carried (rowWith minus (v - 1) row) start) (next-is n text to next end F));
         filled = F .filled;
@@ -149,20 +160,20 @@ clauses-below n (t ∷ ts) = before-below n t (numberOf (t .bytes)) (clauses n t
 
 module _ (n : ℕ) (text : List ℕ) where
   -- behind a token stand the tokens of the text from its end on
-  tail-is : (i : ℕ) (t : Piece) (ts : List Piece) → t ∷ ts ≡ tokensFrom text i → ts ≡ tokensFrom text (behind t)
+  tail-is : (i : ℕ) (t : Piece) (ts : List Piece) → t ∷ ts ≡ tokensPast text i → ts ≡ tokensPast text (behind t)
   tail-is i t ts e =
-      let F = found isSeparator text i (t .at) (behind t) (sym (ap firstOf e)) in
-      let both : t ∷ ts ≡ record { at = t .at; bytes = part (t .at) (behind t) text } ∷ tokensFrom text (behind t) = e ∙ F .pieces in
+      let F = found text i (t .at) (behind t) (sym (ap firstOf e)) in
+      let both : t ∷ ts ≡ record { at = t .at; bytes = part (t .at) (behind t) text } ∷ tokensPast text (behind t) = e ∙ F .pieces in
       cc both
 
-  rest-step : (t : Piece) (x : Number) (ts : List Piece) (y : Reading) (ls : List Literal) (s e : ℕ) (rest : Reading) → ts ≡ tokensFrom text (behind t) → y ≡ clauses n ts
+  rest-step : (t : Piece) (x : Number) (ts : List Piece) (y : Reading) (ls : List Literal) (s e : ℕ) (rest : Reading) → ts ≡ tokensPast text (behind t) → y ≡ clauses n ts
       → ((ls : List Literal) (s e : ℕ) (rest : Reading) → y ≡ clause ls s e rest → rest ≡ clausesFrom n text e)
       → before n t x y ≡ clause ls s e rest → rest ≡ clausesFrom n text e
   rest-step t malformed ts y ls s e rest h q ih f = absurd (let z : _≡_ {A = ℕ} 0 1 = cc in omega arith)
   rest-step t (number m zero) ts y ls s e rest h q ih f =
       let a : y ≡ rest = cc in
       let b : behind t ≡ e = cc in
-      sym a ∙ q ∙ ap (clauses n) (h ∙ ap (tokensFrom text) b)
+      sym a ∙ q ∙ ap (clauses n) (h ∙ ap (tokensPast text) b)
   rest-step t (number m (suc i)) ts y ls s e rest h q ih f =
       on (ltb i n)
       (λ g. go y ih (rw g at f))
@@ -177,7 +188,7 @@ module _ (n : ℕ) (text : List ℕ) where
       go ended ih k = absurd (let z : _≡_ {A = ℕ} 0 1 = cc in omega arith)
       go unreadable ih k = absurd (let z : _≡_ {A = ℕ} 0 1 = cc in omega arith)
 
-  rest-is : (ts : List Piece) (i : ℕ) → ts ≡ tokensFrom text i → (ls : List Literal) (s e : ℕ) (rest : Reading)
+  rest-is : (ts : List Piece) (i : ℕ) → ts ≡ tokensPast text i → (ls : List Literal) (s e : ℕ) (rest : Reading)
       → clauses n ts ≡ clause ls s e rest → rest ≡ clausesFrom n text e
   unfolding clauses
   rest-is [] i h ls s e rest f = absurd (let z : _≡_ {A = ℕ} 0 1 = cc in omega arith)
@@ -188,7 +199,7 @@ module _ (n : ℕ) (text : List ℕ) where
   -- where the first clause ends, the reading of the rest starts; its row is the definition's where the words have a bit for each variable
   pub read-is : n ≤ 32 → (at : ℕ) (r : Row) (s e : ℕ) → first (clausesFrom n text at) ≡ Read r s e
       → (ls : List Literal) × (clausesFrom n text at ≡ clause ls s e (clausesFrom n text e)) × (rowOf ls ≡ r)
-  read-is h at r s e f = go (clausesFrom n text at) refl (clauses-below n (tokensFrom text at)) f
+  read-is h at r s e f = go (clausesFrom n text at) refl (clauses-below n (tokensPast text at)) f
     where
       go : (x : Reading) → clausesFrom n text at ≡ x → belowAll n x ≡ true → first x ≡ Read r s e
           → (ls : List Literal) × (clausesFrom n text at ≡ clause ls s e (clausesFrom n text e)) × (rowOf ls ≡ r)
@@ -196,7 +207,7 @@ module _ (n : ℕ) (text : List ℕ) where
           let a : s′ ≡ s = cc in
           let c : e′ ≡ e = cc in
           let w : withLiterals emptyRow ls ≡ r = cc in
-          let d : rest ≡ clausesFrom n text e = rest-is (tokensFrom text at) at refl ls s′ e′ rest q ∙ ap (clausesFrom n text) c in
+          let d : rest ≡ clausesFrom n text e = rest-is (tokensPast text at) at refl ls s′ e′ rest q ∙ ap (clausesFrom n text) c in
           (ls, cc, sym (row-filled ls (below-more n 32 ls h (and-l (below n ls) (belowAll n rest) b))) ∙ w)
       go ended q b k = absurd (let z : _≡_ {A = ℕ} 0 1 = cc in omega arith)
       go unreadable q b k = absurd (let z : _≡_ {A = ℕ} 0 1 = cc in omega arith)

@@ -2,7 +2,8 @@
 use lexer::pieces::Piece;
 use numbers::Number;
 ghost use mathlib.Core.Path.{_≡_};
-ghost use Rattle.clauses.specs.First.{clausesFrom, rowWith, first};
+ghost use mathlib.Core.List.{_∷_};
+ghost use Rattle.clauses.specs.First.{clausesFrom, rowWith, first, clauseCode, clauseNumbers, firstSaid};
 
 // A row: bit i - 1 of each word stands for variable i.
 pub struct Row {
@@ -37,6 +38,7 @@ fn with_literal(row: Row, minus: bool, i: u32) -> Row
 // The clause at a place, its variables from 1 to n.
 pub fn read_clause(text: &[u8], at: usize, n: u8) -> Clause
     ensures { λ r. ⌜ r ≡ first (clausesFrom n (now (text .entry)) at) ⌝ }
+    ensures { λ r. ⌜ clauseCode r ∷ clauseNumbers r ≡ firstSaid (clausesFrom n (now (text .entry)) at) ⌝ }
 {
     let Piece::At(start, start_end) = lexer::pieces::next_token(text, at) else {
         return Clause::End;

@@ -11,12 +11,14 @@ use lib.Pow.{pow-pos}
 use lib.ListN.{length, getD, replicate, length-append, length-replicate}
 use borrow.Author.Tests.{eqb-true, eqb-false}
 use Rattle.words.proofs.Truth.{on, and-l, and-r}
+use Rattle.lexer.specs.Remarks.{withoutRemarks}
 use Rattle.lexer.specs.Pieces.{Piece, tokensFrom}
 use Rattle.refusals.specs.declared.Refusal.{Refusal}
 use Rattle.refusals.specs.declared.Refusal.the-variants as R
 use Rattle.refusals.specs.declared.Outcome.{Outcome}
 use Rattle.refusals.specs.declared.Outcome.the-variants.{Taken, Refused}
 use Rattle.refusals.proofs.Outcomes.{refused-taken}
+use Rattle.dimensions.specs.Sizes.{mostVariables, mostRows}
 use Rattle.header.specs.Header.{headerOf}
 use Rattle.header.proofs.Limits.{header-either}
 use Rattle.clauses.specs.Rows.{wordsOf}
@@ -49,9 +51,9 @@ zeros-lt n (suc k) (suc i) = zeros-lt n k i
 -- refusals 1 to 4 do not apply, and the words are 256
 pub record Within (n rows : ℕ) (words : List ℕ) : Type 0 where
   pub variables-low : 1 ≤ n
-  pub variables-high : n ≤ 32
+  pub variables-high : n ≤ mostVariables
   pub rows-low : 1 ≤ rows
-  pub rows-high : rows ≤ 128
+  pub rows-high : rows ≤ mostRows
   pub sized : length words ≡ 256
   pub no-high-bit : (i : ℕ) → getD words i 0 < 2 ^ n
 
@@ -61,7 +63,7 @@ Fine t = t .outcome ≡ Taken → Within (t .n) (t .rows) (t .words)
 refused-fine : (r : Refusal) → Fine (refused r)
 refused-fine r e = absurd (refused-taken e)
 
-body-fine : (n m : ℕ) (ts : List Piece) → (1 ≤ n) × (n ≤ 32) → (1 ≤ m) × (m ≤ 128) → Fine (bodyOf n m (clauses n ts))
+body-fine : (n m : ℕ) (ts : List Piece) → (1 ≤ n) × (n ≤ mostVariables) → (1 ≤ m) × (m ≤ mostRows) → Fine (bodyOf n m (clauses n ts))
 body-fine n m ts hn hm =
     on (complete (clauses n ts) && eqb (length (rowsOf (clauses n ts))) m)
     (λ c. let k : length (rowsOf (clauses n ts)) ≡ m = eqb-true _ m (and-r (complete (clauses n ts)) _ c) in
@@ -85,7 +87,7 @@ unfolding tableOf
 accepted-text text =
     on (ltb 65536 (length text))
     (λ e. rw e (refused-fine R.Text))
-    (λ e. rw e (header-fine text (headerOf text .end)))
+    (λ e. rw e (let plain = withoutRemarks text in header-fine plain (headerOf plain .end)))
 
 -- ---- an accepted pair
 

@@ -11,6 +11,7 @@ use lib.ListN.{length}
 use borrow.Author.Tests.{eqb-true}
 use Rattle.words.specs.Booleans.{digit}
 use Rattle.words.proofs.Truth.{on}
+use Rattle.lexer.specs.Remarks.{withoutRemarks}
 use Rattle.lexer.specs.Pieces.{tokensFrom}
 use Rattle.refusals.specs.Numbers.{numberOf, codeOf}
 use Rattle.refusals.specs.Checks.{given}
@@ -41,7 +42,7 @@ unfolding tableOf
 text-ending text =
     on (ltb 65536 (length text))
     (λ e. rw e)
-    (λ e. rw e (header-ending text (headerOf text .end)))
+    (λ e. rw e (let plain = withoutRemarks text in header-ending plain (headerOf plain .end)))
 
 -- ---- two texts
 

@@ -9,6 +9,7 @@ use Rattle.words.specs.Sets.{put}
 use Rattle.words.specs.Sameness.{same}
 use Rattle.lexer.specs.Spelling.{bytes}
 use Rattle.lexer.specs.Bytes.{run, trimmed}
+use Rattle.lexer.specs.Remarks.{linesOf, kept, withoutRemarks}
 use Rattle.lexer.specs.Pieces.{cut, filled, partsFrom}
 use Rattle.numbers.specs.Numbers.{digitsAfter, decimalOf, numberOf}
 use Rattle.refusals.specs.Numbers.{codeOf}
@@ -18,7 +19,7 @@ use Rattle.dimacs.specs.Text.{tableOf}
 
 -- the outcome, n, the row count and the first four words
 meaning : String → List ℕ
-unfolding tableOf headerOf pastRemarks partsFrom cut filled run trimmed same clauses numberOf decimalOf digitsAfter put
+unfolding tableOf withoutRemarks linesOf kept headerOf pastRemarks partsFrom cut filled run trimmed same clauses numberOf decimalOf digitsAfter put
 meaning s = let t = tableOf (bytes s) in codeOf (t .outcome) ∷ (t .n ∷ (t .rows ∷ take 4 (t .words)))
 
 abbrev table : ℕ → ℕ → ℕ → ℕ → ℕ → ℕ → List ℕ
@@ -59,9 +60,23 @@ clause-too-many : meaning "p cnf 2 1\n1 0 2 0" ≡ refusal 5
 unfolding meaning
 clause-too-many = refl
 
-late-remark : meaning "p cnf 2 1\nc no\n1 2 0" ≡ refusal 5
+-- remarks right behind the header, in the middle of a clause, as the last line without an LF
+remarks : meaning "c\np cnf 2 2\nc 1 0\n1\nc x\r\nc\n2 0\n-1 0\nc 2 0" ≡ table 2 2 3 0 0 1
 unfolding meaning
-late-remark = refl
+remarks = refl
+
+-- an empty line before the header is no remark
+remarks-empty-line : meaning "c\n\np cnf 2 1\n1 2 0" ≡ refusal 5
+unfolding meaning
+remarks-empty-line = refl
+
+c-in-line : meaning "p cnf 2 1\n1 c\n2 0" ≡ refusal 5
+unfolding meaning
+c-in-line = refl
+
+c-second : meaning "p cnf 2 1\n c\n1 2 0" ≡ refusal 5
+unfolding meaning
+c-second = refl
 
 return-in-header : meaning "p cnf 2\r1\n1 2 0" ≡ refusal 5
 unfolding meaning

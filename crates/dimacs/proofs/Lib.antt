@@ -1,4 +1,5 @@
 pub mod Fill
+pub mod Remarks
 pub mod Texts
 pub mod Pairs
 pub mod Accepted

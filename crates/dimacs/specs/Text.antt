@@ -1,9 +1,10 @@
--- What a station's text means: a table, or refusal 1, 2 or 5 (document 01, "DIMACS" and "Turned back").
+-- What a station's text means: a table, or refusal 1, 2 or 5 (document 01, "DIMACS" and "Turned back"; document 02, "Remarks between clauses").
 use Prim.Native.Nat.{ℕ, _-_, _*_}
 use mathlib.Core.Bool.{_&&_, cond}
 use mathlib.Core.List.{List, _++_}
 use lib.Dec.{eqb, ltb}
 use lib.ListN.{length, replicate}
+use Rattle.lexer.specs.Remarks.{withoutRemarks}
 use Rattle.lexer.specs.Pieces.{tokensFrom}
 use Rattle.refusals.specs.declared.Refusal.{Refusal}
 use Rattle.refusals.specs.declared.Refusal.the-variants.{Text}
@@ -33,6 +34,10 @@ abbrev pub fromHeader : List ℕ → ℕ → Sizes → Table
 fromHeader text end (S.Refused r) = refused r
 fromHeader text end (S.Of n m) = bodyOf n m (clauses n (tokensFrom text end))
 
--- an overlong text is 5 before all else
+-- the table of a text in which remarks stand before the header only
+abbrev pub plainTable : List ℕ → Table
+plainTable text = fromHeader text (headerOf text .end) (headerOf text .sizes)
+
+-- an overlong text is 5 before all else; any other has the table that it has without its remark lines
 unfoldable pub tableOf : List ℕ → Table
-tableOf text = cond (ltb 65536 (length text)) (refused Text) (fromHeader text (headerOf text .end) (headerOf text .sizes))
+tableOf text = cond (ltb 65536 (length text)) (refused Text) (plainTable (withoutRemarks text))

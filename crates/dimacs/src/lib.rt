@@ -5,6 +5,7 @@ use refusals::Outcome;
 use refusals::Refusal;
 ghost use mathlib.Core.Path.{_≡_};
 ghost use Prim.Native.Nat.{_≤_};
+ghost use Rattle.dimensions.specs.Sizes.{mostVariables, mostRows};
 ghost use Rattle.clauses.specs.First.{clausesFrom};
 ghost use Rattle.dimacs.specs.Text.{tableOf, bodyOf, refused};
 ghost use Rattle.dimacs.specs.Pair.{pairOf, refusedPair};
@@ -41,8 +42,8 @@ fn refuse(refusal: Refusal) -> Table
 
 // The table of m clauses with which the text ends.
 fn read_rows(text: &[u8], start: usize, n: u8, m: u8) -> Table
-    requires { ⌜ n ≤ 32 ⌝ }
-    requires { ⌜ m ≤ 128 ⌝ }
+    requires { ⌜ n ≤ mostVariables ⌝ }
+    requires { ⌜ m ≤ mostRows ⌝ }
     ensures { λ r. ⌜ r ≡ bodyOf n m (clausesFrom n (now (text .entry)) start) ⌝ }
 {
     let rows = m as usize;

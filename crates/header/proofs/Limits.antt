@@ -1,13 +1,13 @@
 -- n and m as they are judged: a value held up to 1000 passes the tests that the exact one passes, and what is taken is within the limits. By the tests' cases.
 -- Assumes nothing.
 use mathlib.Core.Path.{_≡_, refl, sym, ap, ap₂, _∙_}
-use mathlib.Core.Bool.{Bool, true, false, _&&_, false≢true}
+use mathlib.Core.Bool.{Bool, false, _&&_, _||_}
 use mathlib.Core.List.{List, [], _∷_}
 use Prim.Native.Nat.{ℕ, _≤_}
 use native.Mathlib.Omega.{arith}
-use lib.Dec.{leb, eqb}
-use borrow.Author.Tests.{le-leb, lt-leb, leb-true, leb-false}
-use Rattle.words.proofs.Truth.{on, and-l, and-r}
+use lib.Dec.{eqb, ltb}
+use borrow.Author.Tests.{lt-ltb, le-ltb, ltb-true, ltb-false}
+use Rattle.words.proofs.Truth.{on, or-r}
 use Rattle.lexer.specs.Spelling.{bytes}
 use Rattle.words.specs.Sameness.{same}
 use Rattle.lexer.specs.Bytes.{isBlank, isTail, trimmed}
@@ -16,44 +16,47 @@ use Rattle.numbers.specs.Numbers.{Number, number, malformed, numberOf}
 use Rattle.numbers.specs.Held.{held, numberHeld}
 use Rattle.numbers.specs.declared.Number.the-variants as L
 use Rattle.numbers.proofs.Decimals.{held-value, held-none}
+use Rattle.dimensions.specs.Sizes.{mostVariables, mostRows, outside}
+use Rattle.dimensions.proofs.Limits.{least, most}
 use Rattle.refusals.specs.declared.Refusal.the-variants.{Variables, RowCount, Text}
 use Rattle.header.specs.declared.Sizes.{Sizes}
 use Rattle.header.specs.declared.Sizes.the-variants.{Of, Refused}
-use Rattle.header.specs.Header.{pastRemarks, within, judged, twoNumbers, headerParts, headed, headerOf}
+use Rattle.header.specs.Header.{pastRemarks, beyond, judged, twoNumbers, headerParts, headed, headerOf}
 
-pub within-is : (most : ℕ) (s : Bool) (v : ℕ) → within most s v ≡ true → (1 ≤ v) × (v ≤ most)
-within-is most true v e = absurd (false≢true e)
-within-is most false v e = (leb-true 1 v (and-l (leb 1 v) (leb v most) e), leb-true v most (and-r (leb 1 v) (leb v most) e))
+-- what is not beyond a limit is from 1 to it
+pub within : (limit : ℕ) (s : Bool) (v : ℕ) → beyond limit s v ≡ false → (1 ≤ v) × (v ≤ limit)
+within limit s v e = let o = or-r s (outside limit v) e in (least limit v o, most limit v o)
 
 -- ---- held values
 
-leb-held : (most v : ℕ) → most ≤ 999 → leb (held v) most ≡ leb v most
-leb-held most v h =
-    on (leb v most)
-    (λ e. le-leb (held v) most (omega (arith, leb-true v most e)) ∙ sym e)
-    (λ e. lt-leb (held v) most (omega (arith, leb-false v most e)) ∙ sym e)
+held-low : (v : ℕ) → ltb (held v) 1 ≡ ltb v 1
+held-low v =
+    on (ltb v 1)
+    (λ e. lt-ltb (held v) 1 (omega (arith, ltb-true v 1 e)) ∙ sym e)
+    (λ e. le-ltb (held v) 1 (omega (arith, ltb-false v 1 e)) ∙ sym e)
 
-held-leb : (v : ℕ) → leb 1 (held v) ≡ leb 1 v
-held-leb v =
-    on (leb 1 v)
-    (λ e. le-leb 1 (held v) (omega (arith, leb-true 1 v e)) ∙ sym e)
-    (λ e. lt-leb 1 (held v) (omega (arith, leb-false 1 v e)) ∙ sym e)
+held-high : (limit v : ℕ) → limit ≤ 999 → ltb limit (held v) ≡ ltb limit v
+held-high limit v h =
+    on (ltb limit v)
+    (λ e. lt-ltb limit (held v) (omega (arith, ltb-true limit v e)) ∙ sym e)
+    (λ e. le-ltb limit (held v) (omega (arith, ltb-false limit v e)) ∙ sym e)
 
-within-held : (most : ℕ) (s : Bool) (v : ℕ) → most ≤ 999 → within most s (held v) ≡ within most s v
-within-held most true v h = refl
-within-held most false v h = ap₂ (λ (a b : Bool). a && b) (held-leb v) (leb-held most v h)
+beyond-held : (limit : ℕ) (s : Bool) (v : ℕ) → limit ≤ 999 → beyond limit s (held v) ≡ beyond limit s v
+beyond-held limit s v h = ap₂ (λ (a b : Bool). s || (a || b)) (held-low v) (held-high limit v h)
 
 -- a value within its limit is held as it is
-held-within : (most : ℕ) (s : Bool) (v : ℕ) → most ≤ 999 → within most s v ≡ true → held v ≡ v
-held-within most s v h e = omega (arith, within-is most s v e .1)
+held-within : (limit : ℕ) (s : Bool) (v : ℕ) → limit ≤ 999 → beyond limit s v ≡ false → held v ≡ v
+held-within limit s v h e = omega (arith, within limit s v e .1)
 
 judged-held : (s t : Bool) (v w : ℕ) → judged (number s (held v)) (number t (held w)) ≡ judged (number s v) (number t w)
 judged-held s t v w =
-    on (within 32 s v)
-    (λ a. on (within 128 t w)
-    (λ b. rw (within-held 32 s v (omega arith), within-held 128 t w (omega arith), a, b) (ap₂ Of (held-within 32 s v (omega arith) a) (held-within 128 t w (omega arith) b)))
-    (λ b. rw (within-held 32 s v (omega arith), within-held 128 t w (omega arith), a, b)))
-    (λ a. rw (within-held 32 s v (omega arith), a))
+    let n-held = beyond-held mostVariables s v (omega arith) in
+    let m-held = beyond-held mostRows t w (omega arith) in
+    on (beyond mostVariables s v)
+    (λ a. rw (n-held, a))
+    (λ a. on (beyond mostRows t w)
+    (λ b. rw (n-held, m-held, a, b))
+    (λ b. rw (n-held, m-held, a, b) (ap₂ Of (held-within mostVariables s v (omega arith) a) (held-within mostRows t w (omega arith) b))))
 
 -- ---- two parts as they are read
 
@@ -78,16 +81,16 @@ module _ (n m : List ℕ) where
 -- ---- whatever holds of refusals 1, 2 and 5 and of n and m within their limits holds of a header
 
 module _ (P : Sizes → Type 0) (text-refused : P (Refused Text)) (n-refused : P (Refused Variables)) (m-refused : P (Refused RowCount))
-    (taken : (n m : ℕ) → (1 ≤ n) × (n ≤ 32) → (1 ≤ m) × (m ≤ 128) → P (Of n m)) where
+    (taken : (n m : ℕ) → (1 ≤ n) × (n ≤ mostVariables) → (1 ≤ m) × (m ≤ mostRows) → P (Of n m)) where
   judged-either : (x y : Number) → P (judged x y)
   judged-either malformed y = text-refused
   judged-either (number s n) malformed = text-refused
   judged-either (number s n) (number t m) =
-      on (within 32 s n)
-      (λ a. on (within 128 t m)
-      (λ b. rw (a, b) (taken n m (within-is 32 s n a) (within-is 128 t m b)))
-      (λ b. rw (a, b) m-refused))
+      on (beyond mostVariables s n)
       (λ a. rw a n-refused)
+      (λ a. on (beyond mostRows t m)
+      (λ b. rw (a, b) m-refused)
+      (λ b. rw (a, b) (taken n m (within mostVariables s n a) (within mostRows t m b))))
 
   two-either : (ps : List Piece) → P (twoNumbers ps)
   two-either [] = text-refused

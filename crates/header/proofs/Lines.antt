@@ -1,6 +1,6 @@
 -- The lines before the header, one at a time: past a remark stand the lines of the text that follows it.
 -- Assumes nothing.
-use mathlib.Core.Path.{_≡_, sym, ap, ap₂, _∙_}
+use mathlib.Core.Path.{_≡_, refl, sym, ap, ap₂, _∙_}
 use mathlib.Core.Bool.{Bool, not}
 use mathlib.Core.List.{List, [], _∷_}
 use Prim.Native.Nat.{ℕ, suc, _+_, _-_, _≤_, _<_}
@@ -12,12 +12,14 @@ use lib.Seq.{drop-cons, drop-drop}
 use borrow.Author.Tests.{eq-eqb, ne-eqb, eqb-true}
 use Rattle.words.proofs.Truth.{on}
 use Rattle.lexer.specs.Bytes.{isLineFeed, run, trimmed}
+use Rattle.lexer.specs.Remarks.{isRemark}
 use Rattle.lexer.specs.Pieces.{cut, filled, linesFrom, partsFrom}
 use Rattle.lexer.specs.Places.{runEnd, part}
 use Rattle.refusals.specs.declared.Refusal.the-variants.{Text}
 use Rattle.lexer.proofs.Runs.{end-le}
 use Rattle.lexer.proofs.Cuts.{later, cut-first}
-use Rattle.header.specs.Header.{isRemark, pastRemarks, sizesOf, headed}
+use Rattle.header.specs.Header.{pastRemarks, sizesOf, headed, headerOf, sizesSaid, headerSaid}
+use Rattle.header.specs.declared.Header.{Header}
 use Rattle.header.specs.declared.Sizes.the-variants.{Refused}
 
 abbrev inLine : ℕ → Bool
@@ -81,3 +83,7 @@ module _ (text : List ℕ) (at : ℕ) where
       let width : k ≡ end - at = omega (arith, e) in
       let place : at + length (take k (drop at text)) ≡ end = simp (length-take, length-drop) (omega (arith, e, bound)) in
       ap (headed text) lines-first ∙ ap₂ (λ (i j : ℕ). record { sizes = sizesOf (take i (drop at text)); end = j }) width place
+
+-- what is given says its number and its values
+pub said : (text : List ℕ) (h : Header) → h ≡ headerOf text → (h ≡ headerOf text) × (sizesSaid (h .sizes) ≡ headerSaid text)
+said text h e = (e, ap (λ (x : Header). sizesSaid (x .sizes)) e)

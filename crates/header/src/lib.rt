@@ -1,15 +1,17 @@
 // The header of a DIMACS text, behind its remarks: n and m within their limits, or the refusal.
+use dimensions::Dimensions;
 use lexer::kinds::Kind;
 use lexer::pieces::Piece;
 use numbers::Number;
 use refusals::Refusal;
 ghost use mathlib.Core.Path.{_≡_};
+ghost use mathlib.Core.List.{_∷_};
 ghost use Prim.Native.Nat.{_≤_};
 ghost use lib.ListN.{length};
 ghost use Rattle.lexer.specs.Bytes.{isBlank};
 ghost use Rattle.lexer.specs.Pieces.{linesFrom, partsFrom};
 ghost use Rattle.numbers.specs.Numbers.{number, numberOf};
-ghost use Rattle.header.specs.Header.{within, judged, twoNumbers, headerParts, sizesOf, headed, headerOf};
+ghost use Rattle.header.specs.Header.{beyond, judged, twoNumbers, headerParts, sizesOf, headed, headerOf, sizesSaid, headerSaid};
 
 // n and m, or 1, 2 or 5.
 pub enum Sizes {
@@ -23,21 +25,21 @@ pub struct Header {
     pub end: usize,
 }
 
-// Whether a number is from 1 to `most`.
-fn is_within(minus: bool, v: u32, most: u32) -> bool
-    ensures { λ r. ⌜ r ≡ within most minus v ⌝ }
+// Whether a number is not from 1 to the limit.
+fn is_beyond(limit: u64, minus: bool, v: u32) -> bool
+    ensures { λ r. ⌜ r ≡ beyond limit minus v ⌝ }
 {
-    !minus & ((1 <= v) & (v <= most))
+    minus | ((v < 1) | (limit < v as u64))
 }
 
 // Two numbers as n and m, where both are within their limits.
 fn judge(s: bool, v: u32, t: bool, w: u32) -> Sizes
     ensures { λ r. ⌜ r ≡ judged (number s v) (number t w) ⌝ }
 {
-    if !is_within(s, v, 32) {
+    if is_beyond(Dimensions::VARIABLES, s, v) {
         return Sizes::Refused(Refusal::Variables);
     }
-    if !is_within(t, w, 128) {
+    if is_beyond(Dimensions::ROWS, t, w) {
         return Sizes::Refused(Refusal::RowCount);
     }
     Sizes::Of(v as u8, w as u8)
@@ -124,6 +126,7 @@ fn find_header(text: &[u8]) -> usize
 // The header of a text: the first line that is no remark.
 pub fn read_header(text: &[u8]) -> Header
     ensures { λ r. ⌜ r ≡ headerOf (now (text .entry)) ⌝ }
+    ensures { λ r. ⌜ sizesSaid (r .sizes) ≡ headerSaid (now (text .entry)) ⌝ }
 {
     let at = find_header(text);
     let end = lexer::kinds::find(text, at, Kind::LineFeed);

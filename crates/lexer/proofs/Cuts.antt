@@ -18,12 +18,12 @@ use Rattle.words.proofs.Truth.{on}
 use Rattle.lexer.proofs.Runs.{end-ge, end-le}
 
 -- where a run has ended, none starts
-run-over : (p : ℕ → Bool) (bs : List ℕ) → run p (drop (run p bs) bs) ≡ 0
+pub run-over : (p : ℕ → Bool) (bs : List ℕ) → run p (drop (run p bs) bs) ≡ 0
 unfolding run
 run-over p [] = refl
 run-over p (b ∷ bs) = on (p b) (λ e. rw e (run-over p bs)) (λ e. rw (e, run) (rw e))
 
-no-run : (p : ℕ → Bool) (b : ℕ) (bs : List ℕ) → run p (b ∷ bs) ≡ 0 → p b ≡ false
+pub no-run : (p : ℕ → Bool) (b : ℕ) (bs : List ℕ) → run p (b ∷ bs) ≡ 0 → p b ≡ false
 unfolding run
 no-run p b bs h = on (p b) (λ e. absurd (let z : suc (run p bs) ≡ 0 = rw e at h in omega arith)) (λ e. e)
 
@@ -51,7 +51,7 @@ filled-later p at [] h = refl
 filled-later p at (b ∷ bs) h = on (p b) (λ e. rw e) (λ e. absurd (true≢false (sym (ap not e) ∙ no-run (λ b. not (p b)) b bs h)))
 
 -- bytes to cut at, in front, do not count
-skip-run : (p : ℕ → Bool) (at : ℕ) (bs : List ℕ) → filled (cut p at bs) ≡ filled (cut p (at + run p bs) (drop (run p bs) bs))
+pub skip-run : (p : ℕ → Bool) (at : ℕ) (bs : List ℕ) → filled (cut p at bs) ≡ filled (cut p (at + run p bs) (drop (run p bs) bs))
 unfolding cut filled run
 skip-run p at [] = refl
 skip-run p at (b ∷ bs) =
@@ -59,7 +59,7 @@ skip-run p at (b ∷ bs) =
     (λ e. rw (e, filled) (skip-run p (suc at) bs ∙ rw (add-suc, suc-add)))
     (λ e. rw (e, add-zero at, e))
 
-one-piece : (p : ℕ → Bool) (at b : ℕ) (bs : List ℕ) → p b ≡ false
+pub one-piece : (p : ℕ → Bool) (at b : ℕ) (bs : List ℕ) → p b ≡ false
     → filled (cut p at (b ∷ bs))
     ≡ record { at = at; bytes = take (run (λ b. not (p b)) (b ∷ bs)) (b ∷ bs) }
     ∷ filled (cut p (at + run (λ b. not (p b)) (b ∷ bs)) (drop (run (λ b. not (p b)) (b ∷ bs)) (b ∷ bs)))
@@ -69,7 +69,7 @@ one-piece p at b bs e =
     rw (cut-first p at (b ∷ bs), e) (ap (λ (l : List Piece). record { at = at; bytes = b ∷ take (run (λ b. not (p b)) bs) bs } ∷ l) (filled-later p _ _ (rw e at o)))
 
 -- the place behind a piece
-behind-part : (text : List ℕ) (s e : ℕ) → s ≤ e → e ≤ length text → s + length (part s e text) ≡ e
+pub behind-part : (text : List ℕ) (s e : ℕ) → s ≤ e → e ≤ length text → s + length (part s e text) ≡ e
 behind-part text s e h k = simp (length-take, length-drop) (omega arith)
 
 -- ---- the pieces of a text from a place on
@@ -83,7 +83,7 @@ module _ (p : ℕ → Bool) (text : List ℕ) (at : ℕ) where
   unfolding filled cut partsFrom
   none-left h = skipped ∙ rw (drop-of-length-le text h)
 
-  stops : runEnd p text at < length text → p (getD text (runEnd p text at) 0) ≡ false
+  pub stops : runEnd p text at < length text → p (getD text (runEnd p text at) 0) ≡ false
   unfolding runEnd
   stops h =
       no-run p (getD text (at + run p (drop at text)) 0) (drop (suc (at + run p (drop at text))) text)
@@ -121,12 +121,19 @@ module _ (p : ℕ → Bool) (text : List ℕ) (at : ℕ) where
 -- ---- what the answer says
 
 -- a piece is found: it is the first, the pieces from its end on follow, and it has its place in the text
-pub record Found (p : ℕ → Bool) (text : List ℕ) (at s e : ℕ) : Type 0 where
-  pub pieces : partsFrom p text at ≡ record { at = s; bytes = part s e text } ∷ partsFrom p text e
+pub record FoundBy (from : ℕ → List Piece) (text : List ℕ) (at s e : ℕ) : Type 0 where
+  pub pieces : from at ≡ record { at = s; bytes = part s e text } ∷ from e
   pub past : at ≤ s
   pub filled : s < e
   pub within : e ≤ length text
   pub ends : s + length (part s e text) ≡ e
+
+pub none-first : (ps : List Piece) → firstOf ps ≡ Nothing → ps ≡ []
+none-first [] e = refl
+none-first (q ∷ qs) e = absurd (let z : _≡_ {A = ℕ} 0 1 = cc in omega arith)
+
+abbrev pub Found : (ℕ → Bool) → List ℕ → ℕ → ℕ → ℕ → Type 0
+Found p text at s e = FoundBy (partsFrom p text) text at s e
 
 module _ (p : ℕ → Bool) (text : List ℕ) (at : ℕ) where
   pub found : (s e : ℕ) → firstOf (partsFrom p text at) ≡ At s e → Found p text at s e
@@ -151,8 +158,4 @@ module _ (p : ℕ → Bool) (text : List ℕ) (at : ℕ) where
       absurd (let z : _≡_ {A = ℕ} 0 1 = cc q in omega arith))
 
   pub missing : firstOf (partsFrom p text at) ≡ Nothing → partsFrom p text at ≡ []
-  missing f = go (partsFrom p text at) f
-    where
-      go : (ps : List Piece) → firstOf ps ≡ Nothing → ps ≡ []
-      go [] e = refl
-      go (q ∷ qs) e = absurd (let z : _≡_ {A = ℕ} 0 1 = cc in omega arith)
+  missing f = none-first (partsFrom p text at) f

@@ -2,9 +2,10 @@
 use crate::kinds;
 use crate::kinds::Kind;
 ghost use mathlib.Core.Path.{_≡_};
-ghost use Rattle.lexer.specs.Pieces.{partsFrom, tokensFrom};
+ghost use Rattle.lexer.specs.Pieces.{partsFrom};
 ghost use Rattle.lexer.specs.Kinds.{passes};
 ghost use Rattle.lexer.specs.Places.{firstOf};
+ghost use Rattle.lexer.specs.Blanks.{tokensPast, tokenStart, remarkAt};
 
 // A piece's place and the place behind it.
 pub enum Piece {
@@ -23,9 +24,43 @@ pub fn next_part(text: &[u8], at: usize, kind: Kind) -> Piece
     Piece::At(from, kinds::find(text, from, kind))
 }
 
-// The next token from `at` on: separators set tokens apart.
-pub fn next_token(text: &[u8], at: usize) -> Piece
-    ensures { λ r. ⌜ r ≡ firstOf (tokensFrom (now (text .entry)) at) ⌝ }
+// Whether a remark starts at a place: a `c` right behind an LF, which is not before `at`.
+fn is_remark(text: &[u8], at: usize, place: usize) -> bool
+    ensures { λ r. ⌜ r ≡ remarkAt (now (text .entry)) at place ⌝ }
 {
-    next_part(text, at, Kind::Separator)
+    if text.len() <= place {
+        return false;
+    }
+    if text[place] != b'c' {
+        return false;
+    }
+    if place <= at {
+        return false;
+    }
+    text[place - 1] == b'\n'
+}
+
+// The place of the next token from `at` on, which is no line's start, past separators and remarks; or the end.
+fn token_start(text: &[u8], at: usize) -> usize
+    ensures { λ r. ⌜ r ≡ tokenStart (now (text .entry)) at ⌝ }
+{
+    let mut i = at;
+    loop {
+        let from = kinds::skip(text, i, Kind::Separator);
+        if !is_remark(text, i, from) {
+            return from;
+        }
+        i = kinds::find(text, from, Kind::LineFeed);
+    }
+}
+
+// The next token from `at` on, which is no line's start: separators and remarks set tokens apart.
+pub fn next_token(text: &[u8], at: usize) -> Piece
+    ensures { λ r. ⌜ r ≡ firstOf (tokensPast (now (text .entry)) at) ⌝ }
+{
+    let start = token_start(text, at);
+    if text.len() <= start {
+        return Piece::Nothing;
+    }
+    Piece::At(start, kinds::find(text, start, Kind::Separator))
 }

@@ -13,6 +13,7 @@ use Rattle.numbers.specs.Numbers.{digitsAfter, decimalOf, numberOf}
 use Rattle.text.specs.Decimal.{decimal}
 use Rattle.tables.specs.Rows.{padding, satisfied, freeLiterals}
 use Rattle.tables.specs.Acceptance.{allBelow}
+use Rattle.lexer.specs.Remarks.{linesOf, kept, withoutRemarks}
 use Rattle.header.specs.Header.{pastRemarks, headerOf}
 use Rattle.clauses.specs.Clauses.{clauses}
 use Rattle.dimacs.specs.Text.{tableOf}
@@ -22,7 +23,7 @@ use Rattle.answers.specs.Printed.{literals, answerText, refusalText}
 use Rattle.reply.specs.Reply.{replyText}
 
 printed : String → String → String → List ℕ
-unfolding replyText solved answerOf tableOf headerOf pastRemarks partsFrom cut filled trimmed same clauses numberOf decimalOf digitsAfter run fieldOf put bit any count lowest padding satisfied freeLiterals allBelow literals answerText refusalText decimal
+unfolding replyText solved answerOf tableOf withoutRemarks linesOf kept headerOf pastRemarks partsFrom cut filled trimmed same clauses numberOf decimalOf digitsAfter run fieldOf put bit any count lowest padding satisfied freeLiterals allBelow literals answerText refusalText decimal
 printed left right line = replyText (bytes left) (bytes right) (bytes line)
 
 example : printed "p cnf 2 1\n1 2 0\n" "p cnf 2 1\n-1 0\n" "9\n" ≡ bytes "c steps 3\ns SATISFIABLE\nv -1 2 0\n"

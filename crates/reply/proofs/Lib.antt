@@ -1,3 +1,4 @@
 pub mod Accepted
 pub mod Printed
 pub mod Examples
+pub mod Early

@@ -4,10 +4,10 @@ use Prim.Native.Nat.{_-_}
 use native.Mathlib.Omega.{arith}
 use lib.ListN.{length}
 use borrow.Author.Needs.{needs}
-use Rattle.lexer.specs.Bytes.{isSeparator}
-use Rattle.lexer.proofs.Cuts.{found, missing}
+use Rattle.lexer.proofs.Cuts.{none-first}
+use Rattle.lexer.proofs.Tokens.{found}
 use Rattle.clauses.specs.First.{first}
-use Rattle.clauses.proofs.Reading.{Begun, begun, no-clause, not-a-number, closes, too-high, no-more, goes-on}
+use Rattle.clauses.proofs.Reading.{said, Begun, begun, no-clause, not-a-number, closes, too-high, no-more, goes-on}
 use Rattle.clauses.proofs.read_clause.Statement.{statement}
 use Rattle.clauses.proofs.read_clause.Tie as tie
 
@@ -27,10 +27,10 @@ enum-told : tie.Need-enum-told Inv-loop μ-loop
 enum-told c = search needs
 
 returns : tie.Need-returns Inv-loop μ-loop
-returns c = sym (ap first (no-clause _ _ _ (missing isSeparator _ _ (sym (c .before .before .next-token .ensures) ∙ c .enum-told .given .1))))
+returns c = said _ _ _ _ (ap first (no-clause _ _ _ (none-first _ (sym (c .before .before .next-token .ensures) ∙ c .enum-told .given .1))))
 
 loop-holds : tie.Need-loop-holds Inv-loop μ-loop
-loop-holds c = begun _ _ _ _ _ (found isSeparator _ _ _ _ (sym (c .before .before .before .next-token .ensures) ∙ c .before .start .given .1))
+loop-holds c = begun _ _ _ _ _ (found _ _ _ _ (sym (c .before .before .before .next-token .ensures) ∙ c .before .start .given .1))
 
 sub-read-number : tie.Need-sub-read-number Inv-loop μ-loop
 sub-read-number c = omega (arith, c .loop .inv .filled)
@@ -51,13 +51,21 @@ enum-told-2 : tie.Need-enum-told-2 Inv-loop μ-loop
 enum-told-2 c = search needs
 
 returns-2 : tie.Need-returns-2 Inv-loop μ-loop
-returns-2 c = sym (not-a-number (c .before .before .before .before .loop .inv) (sym (c .before .before .read-number .ensures) ∙ c .enum-told2 .given .1))
+returns-2 c = said _ _ _ _ (not-a-number (c .before .before .before .before .loop .inv) (sym (c .before .before .read-number .ensures) ∙ c .enum-told2 .given .1))
 
 returns-3 : tie.Need-returns-3 Inv-loop μ-loop
-returns-3 c = sym (closes (c .before .before .before .before .before .before .loop .inv) _ _ (sym (c .before .before .before .before .read-number .ensures) ∙ c .before .before .minus .given .1) (c .if1 .taken))
+returns-3 c =
+    let at-minus = c .before .before in
+    let at-read-number = at-minus .before .before in
+    let at-loop = at-read-number .before .before in
+    said _ _ _ _ (closes (at-loop .loop .inv) _ _ (sym (at-read-number .read-number .ensures) ∙ at-minus .minus .given .1) (c .if1 .taken))
 
 returns-4 : tie.Need-returns-4 Inv-loop μ-loop
-returns-4 c = sym (too-high (c .before .before .before .before .before .before .before .loop .inv) _ _ (sym (c .before .before .before .before .before .read-number .ensures) ∙ c .before .before .before .minus .given .1) (omega arith) (c .if2 .taken))
+returns-4 c =
+    let at-minus = c .before .before .before in
+    let at-read-number = at-minus .before .before in
+    let at-loop = at-read-number .before .before in
+    said _ _ _ _ (too-high (at-loop .loop .inv) _ _ (sym (at-read-number .read-number .ensures) ∙ at-minus .minus .given .1) (omega arith) (c .if2 .taken))
 
 sub-with-literal : tie.Need-sub-with-literal Inv-loop μ-loop
 sub-with-literal c = search needs
@@ -76,18 +84,18 @@ enum-told-3 c = search needs
 
 loop-less : tie.Need-loop-less Inv-loop μ-loop
 loop-less c =
-    let F = found isSeparator _ _ _ _ (sym (c .before .before .before .next-token2 .ensures) ∙ c .before .next .given .1) in
+    let F = found _ _ _ _ (sym (c .before .before .before .next-token2 .ensures) ∙ c .before .next .given .1) in
     omega (arith, F .past, F .filled, F .within)
 
 loop-again : tie.Need-loop-again Inv-loop μ-loop
 loop-again c =
     goes-on (c .before .before .before .before .before .before .before .before .before .before .before .before .loop .inv) _ _ (sym (c .before .before .before .before .before .before .before .before .before .before .read-number .ensures) ∙ c .before .before .before .before .before .before .before .before .minus .given .1) (omega arith) (c .before .before .before .before .before .before .if1 .left) (c .before .before .before .before .before .if2 .left) _ (c .before .before .before .before .with-literal .ensures) _ _
-    (found isSeparator _ _ _ _ (sym (c .before .before .before .next-token2 .ensures) ∙ c .before .next .given .1))
+    (found _ _ _ _ (sym (c .before .before .before .next-token2 .ensures) ∙ c .before .next .given .1))
 
 returns-5 : tie.Need-returns-5 Inv-loop μ-loop
 returns-5 c =
-    sym (no-more (c .before .before .before .before .before .before .before .before .before .before .before .loop .inv) _ _ (sym (c .before .before .before .before .before .before .before .before .before .read-number .ensures) ∙ c .before .before .before .before .before .before .before .minus .given .1) (omega arith) (c .before .before .before .before .before .if1 .left) (c .before .before .before .before .if2 .left)
-    (missing isSeparator _ _ (sym (c .before .before .next-token2 .ensures) ∙ c .enum-told3 .given .1)))
+    said _ _ _ _ (no-more (c .before .before .before .before .before .before .before .before .before .before .before .loop .inv) _ _ (sym (c .before .before .before .before .before .before .before .before .before .read-number .ensures) ∙ c .before .before .before .before .before .before .before .minus .given .1) (omega arith) (c .before .before .before .before .before .if1 .left) (c .before .before .before .before .if2 .left)
+    (none-first _ (sym (c .before .before .next-token2 .ensures) ∙ c .enum-told3 .given .1)))
 
 pub read-clause-spec : {M : Type 1} → statement M
 read-clause-spec =

@@ -18,7 +18,7 @@ enum-known-sizes : tie.Need-enum-known-sizes
 enum-known-sizes c = search needs
 
 read-rows-requires : tie.Need-read-rows-requires
-read-rows-requires c κs = limits _ _ (c .before .before .before .read-header .ensures) _ _ (c .before .sizes .given .1)
+read-rows-requires c κs = limits _ _ (c .before .before .before .read-header .ensures .0) _ _ (c .before .sizes .given .1)
 
 enum-known-sizes-2 : tie.Need-enum-known-sizes-2
 enum-known-sizes-2 c = search needs
@@ -29,12 +29,12 @@ refuse-requires-2 c κs = search needs
 returns-2 : tie.Need-returns-2
 returns-2 c =
     c .read-rows .ensures
-    ∙ sym (by-header _ (c .before .before .before .before .before .if1 .left) _ (c .before .before .before .before .read-header .ensures) _ (c .before .before .sizes .given .1))
+    ∙ sym (by-header _ (c .before .before .before .before .before .if1 .left) _ (c .before .before .before .before .read-header .ensures .0) _ (c .before .before .sizes .given .1))
 
 returns-3 : tie.Need-returns-3
 returns-3 c =
     c .refuse2 .ensures
-    ∙ sym (by-header _ (c .before .before .before .before .before .if1 .left) _ (c .before .before .before .before .read-header .ensures) _ (c .before .before .sizes2 .given .1))
+    ∙ sym (by-header _ (c .before .before .before .before .before .if1 .left) _ (c .before .before .before .before .read-header .ensures .0) _ (c .before .before .sizes2 .given .1))
 
 pub read-spec : {M : Type 1} → statement M
 read-spec =

@@ -26,7 +26,7 @@ refuse-requires : tie.Need-refuse-requires Inv-loop μ-loop
 refuse-requires c κs = search needs
 
 returns : tie.Need-returns Inv-loop μ-loop
-returns c = c .refuse .ensures ∙ sym (unread (c .before .before .before .before .loop .inv) _ (c .before .before .before .loop-test .taken) (c .before .before .read-clause .ensures) (c .before .match .keys2))
+returns c = c .refuse .ensures ∙ sym (unread (c .before .before .before .before .loop .inv) _ (c .before .before .before .loop-test .taken) (c .before .before .read-clause .ensures .0) (c .before .match .keys2))
 
 mul-words : tie.Need-mul-words Inv-loop μ-loop
 mul-words c = search needs
@@ -56,7 +56,7 @@ loop-less : tie.Need-loop-less Inv-loop μ-loop
 loop-less c = search needs
 
 loop-again : tie.Need-loop-again Inv-loop μ-loop
-loop-again c = one-more (c .before .before .before .before .before .loop .inv) (c .before .before .before .before .before .before .before .pre .0) _ _ _ (c .before .before .before .before .loop-test .taken) (sym (c .before .before .before .read-clause .ensures) ∙ c .before .row .given .1)
+loop-again c = one-more (c .before .before .before .before .before .loop .inv) (c .before .before .before .before .before .before .before .pre .0) _ _ _ (c .before .before .before .before .loop-test .taken) (sym (c .before .before .before .read-clause .ensures .0) ∙ c .before .row .given .1)
 
 read-clause-requires-2 : tie.Need-read-clause-requires-2 Inv-loop μ-loop
 read-clause-requires-2 c κs = search needs
@@ -68,10 +68,10 @@ refuse-requires-2 : tie.Need-refuse-requires-2 Inv-loop μ-loop
 refuse-requires-2 c κs = search needs
 
 returns-2 : tie.Need-returns-2 Inv-loop μ-loop
-returns-2 c = c .refuse2 .ensures ∙ sym (overfull (c .before .before .before .before .loop .inv) (c .before .before .before .loop-test .left) _ (c .before .before .read-clause2 .ensures) (c .before .match2 .keys2))
+returns-2 c = c .refuse2 .ensures ∙ sym (overfull (c .before .before .before .before .loop .inv) (c .before .before .before .loop-test .left) _ (c .before .before .read-clause2 .ensures .0) (c .before .match2 .keys2))
 
 returns-3 : tie.Need-returns-3 Inv-loop μ-loop
-returns-3 c = full (c .before .before .before .before .loop .inv) (c .before .before .before .loop-test .left) (c .before .before .before .before .before .before .pre .1) (sym (c .before .before .read-clause2 .ensures) ∙ c .enum-told .given .1)
+returns-3 c = full (c .before .before .before .before .loop .inv) (c .before .before .before .loop-test .left) (c .before .before .before .before .before .before .pre .1) (sym (c .before .before .read-clause2 .ensures .0) ∙ c .enum-told .given .1)
 
 pub read-rows-spec : {M : Type 1} → statement M
 read-rows-spec =

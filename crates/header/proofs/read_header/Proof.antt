@@ -8,7 +8,7 @@ use borrow.Author.Needs.{needs}
 use Rattle.lexer.specs.Bytes.{isLineFeed}
 use Rattle.lexer.proofs.Runs.{end-ge, end-le}
 use Rattle.header.specs.declared.Sizes.{Sizes}
-use Rattle.header.proofs.Lines.{header-at}
+use Rattle.header.proofs.Lines.{header-at, said}
 use Rattle.header.proofs.read_header.Statement.{statement}
 use Rattle.header.proofs.read_header.Tie as tie
 
@@ -40,8 +40,9 @@ read-line-requires c κs = search needs
 returns : tie.Need-returns
 returns c =
     let found = c .before .before .before .find-header in
-    ap (λ (x : Sizes). record { sizes = x; end = c .before .before .find .result }) (c .read-line .ensures)
-    ∙ sym (header-at _ (found .result) (c .before .before .find .result) (c .before .before .find .ensures) (found .ensures .0)) ∙ found .ensures .1
+    said _ _
+    (ap (λ (x : Sizes). record { sizes = x; end = c .before .before .find .result }) (c .read-line .ensures)
+    ∙ sym (header-at _ (found .result) (c .before .before .find .result) (c .before .before .find .ensures) (found .ensures .0)) ∙ found .ensures .1)
 
 pub read-header-spec : {M : Type 1} → statement M
 read-header-spec =

@@ -26,7 +26,7 @@ returns c = sym (ap (answered (c .before .before .before .before .before .args .
 
 returns-2 : tie.Need-returns-2
 returns-2 c =
-    c .solve .ensures
+    c .solve .ensures .0
     ∙ sym (ap (answered (c .before .before .before .before .before .before .before .before .args .pair)) (c .before .before .before .before .budget2 .given .1))
 
 pub answer-spec : {M : Type 1} → statement M

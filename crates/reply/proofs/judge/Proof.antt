@@ -30,7 +30,7 @@ returns c =
 returns-2 : tie.Need-returns-2
 returns-2 c =
     let start = c .before .before .before .before .before .args in
-    c .answer .ensures ∙ ap (answered (start .pair)) (c .before .read-budget .ensures)
+    c .answer .ensures ∙ ap (answered (start .pair)) (c .before .read-budget .ensures .0)
     ∙ sym (ap (λ (o : Outcome). given o (answered (start .pair) (budgetOf (start .line .now))) Refused) (c .before .before .enum-told .given .1))
 
 pub judge-spec : {M : Type 1} → statement M

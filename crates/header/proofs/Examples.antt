@@ -1,0 +1,67 @@
+-- Headers of small texts, each with the place behind its line, computed.
+-- Assumes nothing.
+use mathlib.Core.Path.{_≡_, refl}
+use mathlib.Core.List.{[], _∷_}
+use Prim.Native.Nat.{ℕ}
+use Prim.Native.String.{String}
+use Rattle.words.specs.Sameness.{same}
+use Rattle.lexer.specs.Spelling.{bytes}
+use Rattle.lexer.specs.Bytes.{run, trimmed}
+use Rattle.lexer.specs.Pieces.{cut, filled, partsFrom}
+use Rattle.numbers.specs.Numbers.{digitsAfter, decimalOf, numberOf}
+use Rattle.refusals.specs.declared.Refusal.{Refusal}
+use Rattle.refusals.specs.declared.Refusal.the-variants.{Variables, RowCount, Text}
+use Rattle.header.specs.Header.{pastRemarks, headerOf, sizesSaid}
+use Rattle.header.specs.declared.Header.{Header}
+use Rattle.header.specs.declared.Sizes.the-variants.{Of, Refused}
+
+header : String → Header
+unfolding headerOf pastRemarks partsFrom cut filled run trimmed same numberOf decimalOf digitsAfter
+header s = headerOf (bytes s)
+
+abbrev sizes : ℕ → ℕ → ℕ → Header
+sizes n m end = record { sizes = Of n m; end = end }
+
+abbrev refused : Refusal → ℕ → Header
+refused r end = record { sizes = Refused r; end = end }
+
+plain : header "p cnf 32 128\n1 0" ≡ sizes 32 128 12
+unfolding header
+plain = refl
+
+empty-line : header "c p cnf 9 9\n\nc\np cnf 2 1" ≡ refused Text 12
+unfolding header
+empty-line = refl
+
+blanks : header "cp\nc\np\t cnf 3\t2 \r\r\n1 0" ≡ sizes 3 2 18
+unfolding header
+blanks = refl
+
+remarks-alone : header "c\nc p cnf 1 1" ≡ refused Text 13
+unfolding header
+remarks-alone = refl
+
+third-number : header "p cnf 1 1 1\n" ≡ refused Text 11
+unfolding header
+third-number = refl
+
+no-variables : header "p cnf 0 0\n" ≡ refused Variables 9
+unfolding header
+no-variables = refl
+
+minus-one : header "p cnf 1 -1\n" ≡ refused RowCount 10
+unfolding header
+minus-one = refl
+
+too-many-rows : header "p cnf 1 129\n" ≡ refused RowCount 11
+unfolding header
+too-many-rows = refl
+
+-- as numbers: 0, n and m, or the refusal's
+taken-said : sizesSaid (header "p cnf 3 2\n" .sizes) ≡ 0 ∷ (3 ∷ (2 ∷ []))
+unfolding header
+taken-said = refl
+
+refused-said : sizesSaid (header "p cnf 33 2\n" .sizes) ≡ 1 ∷ []
+unfolding header
+refused-said = refl
