@@ -13,11 +13,11 @@ use forkhemit_tests::{layout, tables};
 #[link(name = "forkhemit", kind = "static")]
 extern "C" {
     fn forkhemit_read_pair(left_text: *const u8, left_text_length: usize, right_text: *const u8, right_text_length: usize,
-        left: *mut u32, left_length: usize, right: *mut u32, right_length: usize, sizes: *mut u64, length: usize) -> u8;
+        left: *mut u32, left_length: usize, right: *mut u32, right_length: usize, sizes: &mut [u64; 3]) -> u8;
     fn forkhemit_solve(n: u64, left_rows: u64, right_rows: u64, left: *const u32, left_length: usize,
-        right: *const u32, right_length: usize, budget: u64, answer: *mut u64, length: usize) -> u8;
+        right: *const u32, right_length: usize, budget: u64, answer: &mut [u64; 3]) -> u8;
     fn forkhemit_generate(n: u64, left_rows: u64, right_rows: u64, gates: *mut u32, gates_length: usize,
-        count: *mut u64, length: usize) -> u8;
+        count: &mut [u64; 1]) -> u8;
 }
 
 const RUNS: usize = 25;
@@ -48,8 +48,7 @@ fn solve(n: usize, [left, right]: &[Vec<u32>; 2]) -> [u64; 3] {
             right.as_ptr(),
             right.len(),
             u64::MAX,
-            answer.as_mut_ptr(),
-            3,
+            &mut answer,
         )
     };
     assert_eq!(number, 0, "the tables are accepted");
@@ -108,6 +107,19 @@ fn remarked(random: &mut Random) -> Vec<u8> {
     [b"c ".to_vec(), vec![b'x'; 63_000], b"\n".to_vec(), layout::plain(32, &rows)].concat()
 }
 
+/// The same with a remark before every clause, and longer clauses.
+fn amid(random: &mut Random) -> Vec<u8> {
+    let rows: Vec<Row> = (0..128).map(|_| (0..100).map(|_| literal(random)).collect()).collect();
+    let mut text = vec![];
+    for (k, line) in layout::plain(32, &rows).split_inclusive(|&byte| byte == b'\n').enumerate() {
+        if k > 0 {
+            text.extend([b"c Row ", &b"x".repeat(170)[..], b"\n"].concat());
+        }
+        text.extend(line);
+    }
+    text
+}
+
 /// The library's reader of two texts.
 fn read_pair(left: &[u8], right: &[u8], words: &mut [Vec<u32>; 2], sizes: &mut [u64; 3]) -> u8 {
     let [l, r] = words;
@@ -122,8 +134,7 @@ fn read_pair(left: &[u8], right: &[u8], words: &mut [Vec<u32>; 2], sizes: &mut [
             l.len(),
             r.as_mut_ptr(),
             r.len(),
-            sizes.as_mut_ptr(),
-            3,
+            sizes,
         )
     }
 }
@@ -164,15 +175,7 @@ fn circuit(n: usize, m: usize) {
     for _ in 0..RUNS {
         // The words and the count are lent for the call.
         let (number, time) = clock::of(|| unsafe {
-            forkhemit_generate(
-                n as u64,
-                m as u64 / 2,
-                (m - m / 2) as u64,
-                gates.as_mut_ptr(),
-                gates.len(),
-                count.as_mut_ptr(),
-                1,
-            )
+            forkhemit_generate(n as u64, m as u64 / 2, (m - m / 2) as u64, gates.as_mut_ptr(), gates.len(), &mut count)
         });
         assert_eq!(number, 0, "there is room for the gates");
         times.push(time);
@@ -190,6 +193,7 @@ fn main() {
     reader("literals again and again", repeated);
     reader("mostly separators", spaced);
     reader("a long remark", remarked);
+    reader("a remark before every clause", amid);
     for (n, m) in [(4, 12), (8, 32), (16, 64), (20, 91), (32, 256)] {
         circuit(n, m);
     }

@@ -104,6 +104,10 @@ pub fn read(text: &[u8], words: &mut Vec<u32>) -> Result<u8, u8> {
         if at == text.len() {
             break;
         }
+        if text[at] == b'c' && text[at - 1] == b'\n' {
+            at = text[at..].iter().position(|&byte| byte == b'\n').map_or(text.len(), |end| at + end);
+            continue;
+        }
         let (literal, behind) = number(text, at).ok_or(5)?;
         at = behind;
         if at < text.len() && !matches!(text[at], b' ' | b'\t' | b'\r' | b'\n') {

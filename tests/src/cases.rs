@@ -1,7 +1,7 @@
 //! Cases with the whole output written by hand from document 01, and the ways in which a file or standard input can
 //! reach the program.
 
-use crate::process::Source;
+use crate::process::{Input, Source};
 use crate::report::{Group, Test};
 use std::fs;
 use std::path::Path;
@@ -26,7 +26,7 @@ fn written(case: &Path, input: &str, output: &str) -> std::io::Result<Test> {
         input: fs::read(case.join(input))?,
         expected: Some(fs::read_to_string(case.join(output))?),
         made: None,
-        held: false,
+        way: Input::File,
     })
 }
 
@@ -45,14 +45,33 @@ fn brought() -> Vec<Test> {
     let text = (Source::Text(left()), Source::Text(right()));
     // longer than the program's small buffers, by a remark
     let long = |text: Vec<u8>| [b"c ", &b"x".repeat(5_000)[..], b"\n", &text].concat();
-    let mut held = test("standard input that stays open", text.0.clone(), text.1.clone(), answer);
-    held.held = true;
-    let mut late = held.clone();
-    late.name = "a budget line in two parts".into();
-    late.input = b"00000000000000000009\nand more\n".to_vec();
+    let brought = |way, input: &[u8], test: Test| Test { way, input: input.to_vec(), ..test };
+    let silent = |test| brought(Input::Held, b"", test);
+    let closed = |test| brought(Input::Closed, b"", test);
+    let overlong = || b" ".repeat(200_000);
+    let held = test("standard input that stays open", text.0.clone(), text.1.clone(), answer);
+    let late = test("a budget line in two parts", text.0.clone(), text.1.clone(), answer);
+    let unread = "c refused 8\ns UNKNOWN\n";
     vec![
-        held,
-        late,
+        brought(Input::Held, b"9\n", held),
+        brought(Input::Held, b"00000000000000000009\nand more\n", late),
+        silent(test("silent input, no left file", Source::Missing, text.1.clone(), refusal)),
+        silent(test("silent input, no right file", text.0.clone(), Source::Missing, refusal)),
+        silent(test("silent input, left file that cannot be read", Source::Failing, text.1.clone(), refusal)),
+        silent(test("silent input, right file that cannot be read", text.0.clone(), Source::Directory, refusal)),
+        silent(test("silent input, overlong left file", Source::Text(overlong()), text.1.clone(), refusal)),
+        silent(test("silent input, overlong right file", text.0.clone(), Source::Text(overlong()), refusal)),
+        closed(test("no standard input", text.0.clone(), text.1.clone(), unread)),
+        closed(test("no standard input, no left file", Source::Missing, text.1.clone(), refusal)),
+        closed(test("no standard input, no right file", text.0.clone(), Source::Missing, refusal)),
+        closed(test("no standard input, left a folder", Source::Directory, text.1.clone(), refusal)),
+        closed(test("no standard input, right a folder", text.0.clone(), Source::Directory, refusal)),
+        closed(test("no standard input, overlong left file", Source::Text(overlong()), text.1.clone(), refusal)),
+        closed(test("no standard input, long files", Source::Text(long(left())), Source::Text(long(right())), unread)),
+        test("named pipes", Source::Piped(left()), Source::Piped(right()), answer),
+        test("named pipes, long texts", Source::Piped(long(left())), Source::Piped(long(right())), answer),
+        test("named pipes, overlong left text", Source::Piped(overlong()), Source::Piped(right()), refusal),
+        test("named pipes, overlong right text", Source::Piped(left()), Source::Piped(overlong()), refusal),
         test("texts and answer a byte at a time", Source::Slow(left()), Source::Slow(right()), answer),
         test("left file that breaks off", Source::Breaking(left()), text.1.clone(), refusal),
         test("right file that breaks off", text.0.clone(), Source::Breaking(right()), refusal),

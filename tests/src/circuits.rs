@@ -10,6 +10,7 @@ use crate::{damage, states, tables, wires};
 use std::collections::BTreeMap;
 use std::fs;
 use std::path::Path;
+use std::time::Duration;
 
 const STATES: usize = 512;
 const RUNS: usize = 64;
@@ -19,6 +20,10 @@ const DAMAGE_SEED: u64 = 8_127;
 /// Sizes small enough for every well-formed state and every pair of tables.
 const SMALLEST: [(usize, usize, usize); 8] =
     [(1, 1, 1), (1, 1, 2), (1, 2, 1), (1, 2, 2), (2, 1, 1), (2, 1, 2), (2, 2, 1), (3, 1, 1)];
+
+/// Sizes of long texts.
+const LONG: [Size; 3] = [(1, 20, 20), (3, 8, 9), (7, 1, 1)];
+const NARROW: usize = 1_500;
 
 /// n and the two row counts.
 type Size = (usize, usize, usize);
@@ -348,36 +353,60 @@ fn held_test(room: &Room) -> Option<String> {
     }
 }
 
+/// A standard output that is often full: what comes through is a front of the text, never a text with a hole.
+fn narrow_test(number: usize, room: &Room, ledger: &Ledger) {
+    let input = line(LONG[number % LONG.len()]);
+    let pause = Duration::from_micros(number as u64 % 50);
+    let failure = match (room.run_narrow(&input, pause), printed(room, &input, &Source::Missing)) {
+        (Ok(output), Ok(text)) if !output.is_empty() && text.starts_with(&output) => {
+            ledger.kind(if output == text { "whole" } else { "cut" }, 1);
+            None
+        }
+        (Ok(output), Ok(_)) => Some(format!("the {} bytes that came are no front of the text", output.len())),
+        (Err(error), _) => Some(error.to_string()),
+        (_, Err(failure)) => Some(failure),
+    };
+    ledger.test(failure.map(|failure| format!("line {}, narrow output: {failure}", report::quoted(&input))));
+}
+
 /// All tests of the program; `own` is the folder of the tests.
 pub fn run(program: &Path, own: &Path) -> std::io::Result<Tally> {
     let mut total = bristol::run();
 
     let (ledger, sizes) = (Ledger::default(), sizes());
-    report::spread(program, sizes.len(), |number, room| size_tests(sizes[sizes.len() - 1 - number], room, &ledger))?;
+    report::spread([program], sizes.len(), |number, [room]| {
+        size_tests(sizes[sizes.len() - 1 - number], room, &ledger)
+    })?;
     total.add(ledger.close(&format!(
         "{} circuits, each on {STATES} random states and {RUNS} whole runs, seeds from {SEED}",
         sizes.len()
     )));
 
     let ledger = Ledger::default();
-    report::spread(program, SMALLEST.len(), |number, room| exhaustive(SMALLEST[number], room, &ledger))?;
+    report::spread([program], SMALLEST.len(), |number, [room]| exhaustive(SMALLEST[number], room, &ledger))?;
     total.add(ledger.close(&format!("every state and every table of {} sizes", SMALLEST.len())));
 
     let cases =
         fs::read_dir(own.join("cases"))?.map(|case| Ok(written(&case?.path()))).collect::<std::io::Result<Vec<_>>>()?;
     let cases: Vec<Written> = cases.into_iter().flatten().collect();
     let ledger = Ledger::default();
-    report::spread(program, cases.len(), |number, room| ledger.test(written_test(&cases[number], room)))?;
+    report::spread([program], cases.len(), |number, [room]| ledger.test(written_test(&cases[number], room)))?;
     total.add(ledger.close(&format!("circuits repeated on {} cases with written answers", cases.len())));
 
     let (ledger, lines) = (Ledger::default(), lines());
-    report::spread(program, lines.len(), |number, room| line_test(&lines[number], &Source::Missing, room, &ledger))?;
-    report::spread(program, 1, |_, room| line_test(b"2 1 3\n", &Source::Slow(vec![]), room, &ledger))?;
-    report::spread(program, 1, |_, room| ledger.test(held_test(room)))?;
+    report::spread([program], lines.len(), |number, [room]| {
+        line_test(&lines[number], &Source::Missing, room, &ledger)
+    })?;
+    report::spread([program], 1, |_, [room]| line_test(b"2 1 3\n", &Source::Slow(vec![]), room, &ledger))?;
+    report::spread([program], 1, |_, [room]| ledger.test(held_test(room)))?;
     total.add(ledger.close(&format!("{} listed dimension lines", lines.len() + 2)));
 
     let ledger = Ledger::default();
-    report::spread(program, DAMAGES, |number, room| line_test(&damaged(number), &Source::Missing, room, &ledger))?;
+    report::spread([program], DAMAGES, |number, [room]| line_test(&damaged(number), &Source::Missing, room, &ledger))?;
     total.add(ledger.close(&format!("{DAMAGES} damaged dimension lines, seeds from {DAMAGE_SEED}")));
+
+    let ledger = Ledger::default();
+    report::spread([program], NARROW, |number, [room]| narrow_test(number, room, &ledger))?;
+    total.add(ledger.close(&format!("{NARROW} texts to a narrow standard output")));
     Ok(total)
 }

@@ -1,7 +1,7 @@
 //! Texts and lines that are damaged, or as odd as document 01 allows: a list thought out, and random damage.
 
 use crate::layout;
-use crate::model::{Row, TEXT_LIMIT};
+use crate::model::{self, Row, TEXT_LIMIT};
 use crate::random::Random;
 use crate::report::{Group, Test};
 
@@ -25,6 +25,7 @@ const HEADERS: &[&[u8]] = &[
     b"p cnf --1 1", b"p cnf 1- 1", b"p cnf 1 1\np cnf 1 1", b"c p cnf 1 1", b"c\np cnf 1 1", b"c\n\np cnf 1 1", b"c\n c\np cnf 1 1",
     b"c\r\np cnf 1 1", b"c\rp cnf 1 1", b"cp cnf 1 1\np cnf 1 1", b"C\np cnf 1 1", b"c\0\xff\np cnf 1 1", b"c\nc\nc\np cnf 1 1", b"%\np cnf 1 1",
     b"1 0\np cnf 1 1", b"p cnf 1 1\r\r", b"p cnf 1 1\n\n\n", b"p cnf 1 1\nc", b"p cnf 1 1\nc\n", b"p cnf 1 1\n c\n",
+    b"p cnf 1 1\nc\nc 1 0\r", b"p cnf 1 1\n\nc\n\nc", b"c\np cnf 33 1\nc", b"p cnf 1 1\r\nc", b"p cnf 1 1c\nc", b"p cnf 1\nc\n1", b"p\nc\ncnf 1 1",
 ];
 
 /// What stands after `p cnf 2 2`, the second clause being right in most.
@@ -33,6 +34,8 @@ const BODIES: &[&[u8]] = &[
     b"", b"\n", b"1 0 2 0", b"1 0 2 0\n", b"1 0\n2 0\n", b"1\n0\n2\n0", b"1\r0\r2\r0\r", b"1\t0\t2\t0", b"\r\n1 0\r\n2 0\r\n", b"1 2 0 0", b"0 0", b"0",
     b"0 0 0", b"1 0 2", b"1 0 2 ", b"1 0 2 -", b"1 0", b"1 0 2 0 1", b"1 0 2 0 0", b"1 0 2 0 1 0", b"-1 0 -2 0", b"- 1 0 2 0", b"-0 2 0", b"1 -0 2 0",
     b"+1 0 2 0", b"1 +0 2 0", b"01 0 2 0", b"1 00 2 0", b"1 0 2 00", b"-01 0 2 0", b"3 0 2 0", b"-3 0 2 0", b"1 0 3 0", b"33 0 2 0", b"c\n1 0 2 0",
+    b"1\nc 2 0\n0 2 0", b"1 0\n c\n2 0", b"1 0\n\tc\n2 0", b"1 0\nxc\n2 0", b"1 0 2\nc", b"1 0 2\nc\n", b"1 0 2\nc 0", b"1 0\nc\r2 0", b"1 0\nc\0\xff\n2 0", b"1 0\rc\n2 0",
+    b"1 0\nc\n\nc\nc\n2 0", b"1-\nc\n2 0", b"-\nc\n1 0 2 0", b"1\nc\n2\nc\n0\nc\n0", b"1 0 2 0c\n", b"1 0\nc\np cnf 2 2\n2 0", b"1 0\nC\n2 0", b"c\nc\nc 1 0 2 0\n",
     b"1 0\nc\n2 0", b"1 0\nc 7\n2 0\n", b"1\nc\n0 2 0", b"1 0 2 0\nc", b"1 0 2 0\nc end\n", b"1 c 0 2 0", b"1 0 c\n2 0", b"1 0 2 0 c", b"1c 0 2 0",
     b"1 0 2 0\n%\n0\n", b"1 0 2 0\0", b"1\x000 2 0", b"1 0 2 0\x0b", b"1\x0b0 2 0", b"1\x0c0 2 0", b"1,0 2 0", b"1.0 0 2 0", b"1e0 0 2 0", b"0x1 0 2 0",
     b"1-0 2 0", b"1-1 0 2 0", b"--1 0 2 0", b"-1- 0 2 0", b"\xe2\x88\x921 0 2 0", b"1\xa00 2 0", b"1 0\x85 2 0", b"1 1 1 0 2 0", b"1 -1 0 2 0",
@@ -73,6 +76,7 @@ fn listed() -> Vec<Test> {
     for text in sized() {
         both(&format!("{} bytes", text.len()), text, b"p cnf 1 1\n1 0\n");
     }
+    tests.extend(overlong());
     for line in lines() {
         for (left, right) in [("p cnf 2 1\n1 2 0\n", "p cnf 2 1\n-1 0\n"), ("p cnf 2 1\n1 2 0\n", "p cnf 3 1\n-1 0\n")]
         {
@@ -81,6 +85,25 @@ fn listed() -> Vec<Test> {
         }
     }
     tests
+}
+
+/// A text that its last remark, which is nothing to the table, makes as long as it may be, and a byte longer.
+fn overlong() -> [Test; 2] {
+    let text = |length: usize| {
+        let start = b"p cnf 1 1\n1 0\nc";
+        [&start[..], &vec![b'1'; length - start.len()]].concat()
+    };
+    [(TEXT_LIMIT, "c steps 2\ns SATISFIABLE\nv 1 0\n".into()), (TEXT_LIMIT + 1, model::refused(5))].map(
+        |(length, expected)| Test {
+            expected: Some(expected),
+            ..Test::new(
+                format!("{length} bytes with a last remark"),
+                text(length),
+                b"p cnf 1 1\n1 0\n".to_vec(),
+                b"9\n".to_vec(),
+            )
+        },
+    )
 }
 
 /// The lines of the list, and lines around each limit of length: of zeros, with another digit first or last, or with a letter last.
@@ -102,7 +125,10 @@ fn lines() -> Vec<Vec<u8>> {
 /// Texts around the limit of 65,536 bytes, and around the 4,096 up to which the program reads into small buffers, filled up in each
 /// place where a text can grow.
 fn sized() -> Vec<Vec<u8>> {
-    let shapes: [(&[u8], u8, &[u8]); 14] = [
+    let shapes: [(&[u8], u8, &[u8]); 17] = [
+        (b"p cnf 1 1\nc", b'x', b"\n1 0\n"),
+        (b"p cnf 1 1\n1\nc 2", b' ', b"\n0"),
+        (b"p cnf 1 1\n1 0\nc", b'0', b""),
         (b"c ", b'x', b"\np cnf 1 1\n1 0\n"),
         (b"c\n", b'c', b"\np cnf 1 1\n1 0\n"),
         (b"p cnf", b' ', b"1 1\n1 0\n"),
@@ -127,6 +153,8 @@ fn sized() -> Vec<Vec<u8>> {
         // as many clauses' worth of one literal as there is room for
         let room = length - b"p cnf 1 1\n0".len();
         texts.push([b"p cnf 1 1\n", &b"1 ".repeat(room / 2)[..], &b" ".repeat(room % 2), b"0"].concat());
+        // as many remarks
+        texts.push([b"p cnf 1 1\n", &b"c\n".repeat(room / 2)[..], &b" ".repeat(room % 2), b"0"].concat());
     }
     texts
 }
@@ -200,7 +228,13 @@ fn tests(number: usize) -> Vec<Test> {
         strike(&mut parts[part], random);
     }
     let [left, right, line] = [parts[0].clone(), parts[1].clone(), parts[2].clone()];
-    vec![Test::new(format!("damage {number}, seed {seed}"), left, right, line)]
+    // with remarks put in the answer stays
+    let [l, r] = [&left, &right].map(|text| layout::remarked(text, random));
+    let remarked = Test {
+        expected: Some(model::output(Some(&left), Some(&right), &line)),
+        ..Test::new(format!("damage {number} and remarks, seed {seed}"), l, r, line.clone())
+    };
+    vec![Test::new(format!("damage {number}, seed {seed}"), left, right, line), remarked]
 }
 
 /// The listed tests, and the random ones.

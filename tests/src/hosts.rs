@@ -1,7 +1,7 @@
 //! The example hosts: each prints what the pair program prints for the same texts and budget.
 
 use crate::model::{self, Standing};
-use crate::process::{Room, Source};
+use crate::process::{Input, Room, Source};
 use crate::report::{self, Ledger, Tally, Test};
 use crate::{cases, layout, public, tables};
 use std::path::Path;
@@ -16,7 +16,7 @@ fn written(own: &Path) -> std::io::Result<Vec<Test>> {
     let plain = |source: &Source| matches!(source, Source::Text(_) | Source::Missing | Source::Directory);
     let group = cases::group(own, plain)?;
     let tests = (0..group.count).flat_map(|number| (group.make)(number));
-    Ok(tests.filter(|test| !test.held && model::budget(&test.input).is_ok()).collect())
+    Ok(tests.filter(|test| test.way == Input::File && model::budget(&test.input).is_ok()).collect())
 }
 
 /// The public files in halves, closed or cut off.
@@ -58,10 +58,9 @@ pub fn run(host: &Path, pair: &Path, own: &Path) -> std::io::Result<Tally> {
     let group = tables::group();
     tests.extend((0..TABLES).flat_map(|number| (group.make)(number)));
     let ledger = Ledger::default();
-    report::spread(host, tests.len(), |number, room| {
+    report::spread([host, pair], tests.len(), |number, [host, pair]| {
         let test = &tests[number];
-        let failure = Room::new(pair, 1_000 + number).and_then(|other| wrong(test, room, &other));
-        let failure = failure.unwrap_or_else(|error| Some(error.to_string()));
+        let failure = wrong(test, host, pair).unwrap_or_else(|error| Some(error.to_string()));
         ledger.test(failure.map(|failure| format!("{}: {failure}\n{}", test.name, report::shown(test))));
     })?;
     let name = host.file_name().unwrap_or_default().to_string_lossy().into_owned();

@@ -22,15 +22,32 @@ fn some(random: &mut Random, bytes: &[u8], least: usize) -> Vec<u8> {
     (0..count).map(|_| *random.pick(bytes)).collect()
 }
 
-const REMARKS: &[&[u8]] = &[b"c", b"c p cnf 1 1", b"c\t1 0 \r", b"cc \0\xff", b"c 12 -3"];
+#[rustfmt::skip]
+const REMARKS: &[&[u8]] = &[b"c", b"c p cnf 1 1", b"c\t1 0 \r", b"cc \0\xff", b"c 12 -3", b"c-1 0\r1 0", b"c0", b"c\x80\rc\0"];
 
-/// The same table with remark lines above the header, and any separators between the numbers.
+/// The same text with remarks where a line may start, at a few of these places or at every one; one may be its last line, and without an LF.
+pub fn remarked(text: &[u8], random: &mut Random) -> Vec<u8> {
+    let seldom = *random.pick(&[1, 2, 5]);
+    let mut all = vec![];
+    for line in text.split_inclusive(|&b| b == b'\n') {
+        if random.once_in(seldom) {
+            for _ in 0..random.between(1, 2) {
+                all.extend(random.pick(REMARKS).iter());
+                all.push(b'\n');
+            }
+        }
+        all.extend(line);
+    }
+    if text.last() == Some(&b'\n') && random.once_in(seldom) {
+        all.extend(random.pick(REMARKS).iter());
+        all.extend(&b"\n"[..random.below(2)]);
+    }
+    all
+}
+
+/// The same table with any separators between the numbers, and often with remarks.
 pub fn spaced(n: usize, rows: &[Row], random: &mut Random) -> Vec<u8> {
     let mut text = vec![];
-    while random.once_in(3) {
-        text.extend(random.pick(REMARKS).iter());
-        text.push(b'\n');
-    }
     for (i, part) in ["p", "cnf", &n.to_string(), &rows.len().to_string()].iter().enumerate() {
         if i > 0 {
             text.extend(some(random, b" \t", 1));
@@ -51,5 +68,8 @@ pub fn spaced(n: usize, rows: &[Row], random: &mut Random) -> Vec<u8> {
             text.pop();
         }
     }
-    text
+    if random.once_in(2) {
+        return text;
+    }
+    remarked(&text, random)
 }

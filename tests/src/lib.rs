@@ -1,9 +1,11 @@
 //! The project's own tests of its programs: each is run whole, as a host would run it, and what it prints is held to
 //! files written by hand, to a model of document 01 and to another solver.
 
+pub mod assumed;
 pub mod bristol;
 pub mod cases;
 pub mod circuits;
+pub mod claims;
 pub mod clock;
 pub mod contracts;
 pub mod damage;
@@ -17,6 +19,8 @@ pub mod public;
 pub mod random;
 pub mod report;
 pub mod sections;
+pub mod source;
 pub mod states;
+pub mod symbols;
 pub mod tables;
 pub mod wires;

@@ -1,12 +1,13 @@
 //! The project's own tests. Use: check CRATES [PROGRAM..]
-//! CRATES is the folder of crates, whose contracts are looked at; each PROGRAM is a compiled program, known by its name,
+//! CRATES is the folder of crates, whose contracts and symbols are looked at, with what their checks said they assume and what the
+//! page of proofs names; each PROGRAM is a compiled program, known by its name,
 //! `pair`, `circuit`, `host-c` or `host-rust`. A host is held to the pair program, which must be given too. A `pair` in a folder
 //! `static` is linked statically: nothing can be loaded before it that cuts what it reads into parts, and those tests are left out.
 //! The last line is `N passed, M failed`, and the status 0 where M is 0.
 
 use forkhemit_tests::process::Source;
 use forkhemit_tests::report::{self, Tally};
-use forkhemit_tests::{cases, circuits, contracts, damage, hosts, pictures, public, tables};
+use forkhemit_tests::{assumed, cases, circuits, claims, contracts, damage, hosts, pictures, public, symbols, tables};
 use std::path::Path;
 use std::process::{Command, ExitCode, Stdio};
 
@@ -53,11 +54,14 @@ fn program_tests(program: &Path, pair: Option<&Path>) -> std::io::Result<Tally> 
     }
 }
 
-/// The contracts and the pictures, then each program that is named.
+/// What is read of the crates, and the pictures; then each program that is named.
 fn all(arguments: &[String]) -> std::io::Result<Tally> {
     let usage = || std::io::Error::new(std::io::ErrorKind::InvalidInput, "use: check CRATES [PROGRAM..]");
     let (crates, programs) = arguments.split_first().ok_or_else(usage)?;
     let mut total = contracts::run(Path::new(crates))?;
+    total.add(symbols::run(Path::new(crates))?);
+    total.add(assumed::run(Path::new(crates))?);
+    total.add(claims::run(Path::new(crates))?);
     total.add(pictures::run(&Path::new(env!("CARGO_MANIFEST_DIR")).join(".."))?);
     let pair = programs.iter().map(Path::new).find(|program| program.ends_with("pair"));
     for program in programs {

@@ -205,12 +205,12 @@ pub fn lines(size: Size, gates: &[Gate]) -> Vec<String> {
 }
 
 /// The composed answer of these numbers: a verdict that is none of 0, 1 and 2 is unknown, and the model is a word.
-pub fn answer(n: u64, count: u64, verdict: u64, model: u64) -> Vec<u8> {
+pub fn answer(n: usize, count: u64, verdict: u64, model: u64) -> Vec<u8> {
     let standing = match verdict {
         1 => Standing::Satisfied,
         2 => Standing::Refuted,
         _ => Standing::Open,
     };
-    let model = (0..n.min(32)).map(|v| model >> v & 1 == 1).collect();
+    let model = (0..n).map(|v| model >> v & 1 == 1).collect();
     model::printed(&model::Answer { steps: count, standing, model }).into_bytes()
 }

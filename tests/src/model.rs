@@ -104,16 +104,18 @@ fn rows(body: &[u8], n: i64, m: i64) -> Option<Vec<Row>> {
     (!unclosed && rows.len() as i64 == m).then_some(rows)
 }
 
+/// The text without its remarks: the lines whose first byte is `c`, each with its LF.
+pub fn without_remarks(text: &[u8]) -> Vec<u8> {
+    text.split_inclusive(|&b| b == b'\n').filter(|line| line[0] != b'c').flatten().copied().collect()
+}
+
 /// One station's text: its table, or the number of the refusal.
 pub fn read(text: &[u8]) -> Result<Table, u8> {
     if text.len() > TEXT_LIMIT {
         return Err(5);
     }
-    let mut rest = text;
-    while rest.first() == Some(&b'c') {
-        rest = line(rest).1;
-    }
-    let (first, body) = line(rest);
+    let plain = without_remarks(text);
+    let (first, body) = line(&plain);
     let (n, m) = header(first).ok_or(5)?;
     if !(1..=32).contains(&n) {
         return Err(1);
