@@ -38,7 +38,7 @@ answerText n answer = line (bytes "c steps " ++ decimal (answer .count)) ++ verd
 unfoldable pub refusalText : Refusal → List ℕ
 refusalText r = refusedLine r ++ line (bytes "s UNKNOWN")
 
--- what is printed for two tables of n variables
+-- what is printed for tables of n variables
 abbrev pub solvedText : ℕ → Solved → List ℕ
 solvedText n (solved.Of answer) = answerText n answer
 solvedText n (solved.Refused r) = refusalText r

@@ -35,8 +35,10 @@ rows-in-front words m h =
 -- ---- accepted tables
 
 pub rule-of-fronts : (d : Dimensions) (tables : Tables) → outcome (tableChecks d tables) ≡ Taken → (t f : ℕ)
-    → rule 32 (rowsIn (take (2 * d .left) (tables .left)) ++ rowsIn (take (2 * d .right) (tables .right))) t f ≡ rule (d .n) (rowsOf d tables) t f
+    → let front : ℕ → List ℕ → List Row = λ rows words. rowsIn (take (2 * rows) words) in
+    rule 32 (front (d .left) (tables .left) ++ (front (d .right) (tables .right) ++ front (d .public) (tables .public))) t f ≡ rule (d .n) (rowsOf d tables) t f
 rule-of-fronts d tables ok t f =
     let a = accepted d tables ok in
-    ap₂ (λ (x y : List Row). rule 32 (x ++ y) t f) (rows-in-front (tables .left) (d .left) (a .left-length)) (rows-in-front (tables .right) (d .right) (a .right-length))
-    ∙ rule-width (d .n) 32 (a .n-most) t f (rowsOf d tables) (accepted-low d tables ok)
+    ap₂ (λ (x y : List Row). rule 32 (x ++ y) t f) (rows-in-front (tables .left) (d .left) (a .left-length))
+    (ap₂ _++_ (rows-in-front (tables .right) (d .right) (a .right-length)) (rows-in-front (tables .public) (d .public) (a .public-length)))
+    ∙ rule-width (d .n) 32 (a .size .n-most) t f (rowsOf d tables) (accepted-low d tables ok)

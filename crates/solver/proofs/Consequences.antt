@@ -83,7 +83,7 @@ module _ (n : ℕ) (rows : ℕ → List Row) (budget : ℕ) (answer : Answer) (h
       let one : 2 ^ suc (occurring n (atEnd rows answer)) - 1 ≡ 1 = ap (λ (k : ℕ). 2 ^ suc k - 1) none-occurs in
       (omega (arith, one, holds .bound-count), holds .bound (omega (arith, one)))
 
--- ---- the answer for two accepted tables, row by row
+-- ---- the answer for accepted tables, row by row
 
 module _ (p : Row → Bool) where
   all-front : (xs ys : List Row) → allRows p (xs ++ ys) ≡ true → allRows p xs ≡ true
@@ -108,24 +108,37 @@ module _ (d : Dimensions) (tables : Tables) (budget : ℕ) (accepted : outcome (
   abbrev answer : Answer
   answer = answerOf (d .n) (always (rowsOf d tables)) budget
 
-  -- a model makes each row of the left table true, and each of the right
-  pub model-left : (model : ℕ) → answer .verdict ≡ Satisfiable model → (i : ℕ) → i < d .left → rowTrue (bit model) (rowAt (tables .left) i) ≡ true
-  unfolding allTrue
-  model-left model e i b =
-      numbered (rowTrue (bit model)) (tables .left) 0 (d .left)
-      (all-front (rowTrue (bit model)) (rowsFrom (tables .left) 0 (d .left)) (rowsFrom (tables .right) 0 (d .right))
-      (demand2 d tables budget accepted .satisfiable model e))
-      i (omega arith) (omega arith)
+  module _ (model : ℕ) (e : answer .verdict ≡ Satisfiable model) where
+    all : allRows (rowTrue (bit model)) (rowsOf d tables) ≡ true
+    unfolding allTrue
+    all = demand2 d tables budget accepted .satisfiable model e
 
-  pub model-right : (model : ℕ) → answer .verdict ≡ Satisfiable model → (i : ℕ) → i < d .right → rowTrue (bit model) (rowAt (tables .right) i) ≡ true
-  unfolding allTrue
-  model-right model e i b =
-      numbered (rowTrue (bit model)) (tables .right) 0 (d .right)
-      (all-behind (rowTrue (bit model)) (rowsFrom (tables .left) 0 (d .left)) (rowsFrom (tables .right) 0 (d .right))
-      (demand2 d tables budget accepted .satisfiable model e))
-      i (omega arith) (omega arith)
+    -- the rows behind the left station's
+    abbrev behind : List Row
+    behind = rowsFrom (tables .right) 0 (d .right) ++ rowsFrom (tables .public) 0 (d .public)
 
-  -- of an unsatisfiable pair every assignment, and so every word as a model, makes some row false
+    all-there : allRows (rowTrue (bit model)) behind ≡ true
+    all-there = all-behind (rowTrue (bit model)) (rowsFrom (tables .left) 0 (d .left)) behind all
+
+    -- a model makes each row of the left table true, each of the right, and each public one
+    pub model-left : (i : ℕ) → i < d .left → rowTrue (bit model) (rowAt (tables .left) i) ≡ true
+    model-left i b =
+        numbered (rowTrue (bit model)) (tables .left) 0 (d .left) (all-front (rowTrue (bit model)) (rowsFrom (tables .left) 0 (d .left)) behind all)
+        i (omega arith) (omega arith)
+
+    pub model-right : (i : ℕ) → i < d .right → rowTrue (bit model) (rowAt (tables .right) i) ≡ true
+    model-right i b =
+        numbered (rowTrue (bit model)) (tables .right) 0 (d .right)
+        (all-front (rowTrue (bit model)) (rowsFrom (tables .right) 0 (d .right)) (rowsFrom (tables .public) 0 (d .public)) all-there)
+        i (omega arith) (omega arith)
+
+    pub model-public : (i : ℕ) → i < d .public → rowTrue (bit model) (rowAt (tables .public) i) ≡ true
+    model-public i b =
+        numbered (rowTrue (bit model)) (tables .public) 0 (d .public)
+        (all-behind (rowTrue (bit model)) (rowsFrom (tables .right) 0 (d .right)) (rowsFrom (tables .public) 0 (d .public)) all-there)
+        i (omega arith) (omega arith)
+
+  -- of unsatisfiable tables every assignment, and so every word as a model, makes some row false
   pub unsatisfiable-row : answer .verdict ≡ Unsatisfiable → (a : ℕ → Bool) → (r : Row) × In r (rowsOf d tables) × (rowTrue a r ≡ false)
   unfolding allTrue
   unsatisfiable-row e a = not-all-rows (rowTrue a) (rowsOf d tables) (demand2 d tables budget accepted .unsatisfiable e a)

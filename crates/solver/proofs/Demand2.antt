@@ -146,7 +146,7 @@ module _ (n : ℕ) (rows : ℕ → List Row) (few : n ≤ 32) (low : (i : ℕ) �
 pub demand2-late : (d : Dimensions) (tables : Tables) (late : List Late) (budget : ℕ) → outcome (tableChecks d tables) ≡ Taken
     → let rows = rowsAt (d .n) (rowsOf d tables) late in Demand2 (d .n) rows budget (answerOf (d .n) rows budget)
 demand2-late d tables late budget e =
-    let few = accepted d tables e .n-most in
+    let few = accepted d tables e .size .n-most in
     demand2-rows (d .n) (rowsAt (d .n) (rowsOf d tables) late) few
     (rows-low (d .n) few late (rowsOf d tables) (accepted-low d tables e))
     (rows-grow (d .n) few late (rowsOf d tables)) budget
@@ -155,5 +155,5 @@ demand2-late d tables late budget e =
 pub demand2 : (d : Dimensions) (tables : Tables) (budget : ℕ) → outcome (tableChecks d tables) ≡ Taken
     → let rows = always (rowsOf d tables) in Demand2 (d .n) rows budget (answerOf (d .n) rows budget)
 demand2 d tables budget e =
-    demand2-rows (d .n) (always (rowsOf d tables)) (accepted d tables e .n-most) (λ i. accepted-low d tables e)
+    demand2-rows (d .n) (always (rowsOf d tables)) (accepted d tables e .size .n-most) (λ i. accepted-low d tables e)
     (λ i j b. grows-same (d .n) (rowsOf d tables)) budget

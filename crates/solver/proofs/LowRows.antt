@@ -2,7 +2,7 @@
 -- Assumes nothing.
 use mathlib.Core.Path.{_≡_, refl}
 use mathlib.Core.Bool.{Bool, true, _&&_}
-use mathlib.Core.List.{List}
+use mathlib.Core.List.{List, _++_}
 use Prim.Native.Nat.{ℕ, zero, suc, _+_, _*_, _^_, _<_}
 use native.Mathlib.Omega.{arith}
 use lib.Dec.{ltb}
@@ -42,6 +42,8 @@ low-rows n words i (suc k) h =
 pub accepted-low : (d : Dimensions) (tables : Tables) → outcome (tableChecks d tables) ≡ Taken → allRows (lowRow (d .n)) (rowsOf d tables) ≡ true
 accepted-low d tables e =
     let a = accepted d tables e in
-    all-rows-append (lowRow (d .n)) (rowsFrom (tables .left) 0 (d .left)) (rowsFrom (tables .right) 0 (d .right))
+    all-rows-append (lowRow (d .n)) (rowsFrom (tables .left) 0 (d .left)) (rowsFrom (tables .right) 0 (d .right) ++ rowsFrom (tables .public) 0 (d .public))
     (low-rows (d .n) (tables .left) 0 (d .left) (λ j b. a .left-words j (omega arith)))
+    (all-rows-append (lowRow (d .n)) (rowsFrom (tables .right) 0 (d .right)) (rowsFrom (tables .public) 0 (d .public))
     (low-rows (d .n) (tables .right) 0 (d .right) (λ j b. a .right-words j (omega arith)))
+    (low-rows (d .n) (tables .public) 0 (d .public) (λ j b. a .public-words j (omega arith))))

@@ -38,17 +38,19 @@ pub record Marked : Type 0 where
   pub n : ℕ
   pub left : List Row
   pub right : List Row
+  pub public : List Row
   pub budget : ℕ
   pub answer : Answer
 
 abbrev line : ℕ → List Row → List Row → ℕ → ℕ → Verdict → Marked
-line n left right budget steps verdict = record { n = n; left = left; right = right; budget = budget; answer = record { count = steps; verdict = verdict } }
+line n left right budget steps verdict =
+    record { n = n; left = left; right = right; public = []; budget = budget; answer = record { count = steps; verdict = verdict } }
 
 -- where document 01 names no budget: the greatest
 abbrev most : ℕ
 most = 2 ^ 64 - 1
 
--- n, left, right, budget, steps, result
+-- n, left, right, budget, steps, result: no public rows
 unfoldable pub table : List Marked
 table =
     line 1 (pos 1 ∷ []) (pos 1 ∷ []) most 2 (model (pos 1))
@@ -65,7 +67,7 @@ table =
 
 -- the budgeted run's answer for a line
 abbrev pub asked : Marked → Answer
-asked m = answerOf (m .n) (always (m .left ++ m .right)) (m .budget)
+asked m = answerOf (m .n) (always (m .left ++ (m .right ++ m .public))) (m .budget)
 
 pub ten-marked : map asked table ≡ map (λ (m : Marked). m .answer) table
 unfolding table answerOf freeLiterals padding satisfied bit put any count lowest

@@ -1,4 +1,4 @@
--- Demand 2, as one statement about the answer of any two accepted tables under any budget, whatever rows took the place of padding rows meanwhile.
+-- Demand 2, as one statement about the answer of any accepted tables under any budget, whatever rows took the place of padding rows meanwhile.
 use Prim.Native.Nat.{ℕ, suc, _-_, _^_, _≤_, _<_}
 use mathlib.Core.Path.{_≡_}
 use mathlib.Core.Bool.{Bool, true, false}

@@ -7,7 +7,7 @@ use lib.ListN.{length, getD, set}
 use Rattle.tables.specs.declared.Row.{Row}
 use Rattle.tables.specs.Rows.{padding}
 
--- after how many steps, the number from 0 of a row of both tables, and the row that takes its place
+-- after how many steps, the number from 0 of a row of all tables, and the row that takes its place
 pub record Late : Type 0 where
   pub steps : ℕ
   pub number : ℕ

@@ -1,4 +1,4 @@
-// The giant step and the budgeted run over two stations' tables: whether one assignment satisfies both.
+// The giant step and the budgeted run over two stations' tables and the public one: whether one assignment satisfies all.
 mod rules;
 
 use dimensions::Dimensions;
@@ -37,10 +37,10 @@ pub enum Solved {
 }
 
 // Whether the tables are accepted and the run is a well-formed state of their n: 1, 2, 4, 3, 12 or 13 if not.
-fn check_all(d: Dimensions, left: &[u32], right: &[u32], run: Run) -> Outcome
-    ensures { λ r. ⌜ r ≡ outcome (tableChecks d (allTables (now (left .entry)) (now (right .entry))) ++ stateChecks d run) ⌝ }
+fn check_all(d: Dimensions, left: &[u32], right: &[u32], public: &[u32], run: Run) -> Outcome
+    ensures { λ r. ⌜ r ≡ outcome (tableChecks d (allTables (now (left .entry)) (now (right .entry)) (now (public .entry))) ++ stateChecks d run) ⌝ }
 {
-    let checked = tables::accept(d, left, right);
+    let checked = tables::accept(d, left, right, public);
     match checked {
         Outcome::Refused(refusal) => Outcome::Refused(refusal),
         Outcome::Taken => state::check_state(d, run),
@@ -48,47 +48,53 @@ fn check_all(d: Dimensions, left: &[u32], right: &[u32], run: Run) -> Outcome
 }
 
 // The run after one giant step; as it was where the call is turned back.
-pub fn step(d: Dimensions, left: &[u32], right: &[u32], run: Run) -> Stepped
-    ensures { λ r. ⌜ r ≡ stepped d (allTables (now (left .entry)) (now (right .entry))) run ⌝ }
+pub fn step(d: Dimensions, left: &[u32], right: &[u32], public: &[u32], run: Run) -> Stepped
+    ensures { λ r. ⌜ r ≡ stepped d (allTables (now (left .entry)) (now (right .entry)) (now (public .entry))) run ⌝ }
 {
-    let outcome = check_all(d, left, right, run);
+    let outcome = check_all(d, left, right, public, run);
     match outcome {
         Outcome::Taken => Stepped {
             outcome,
-            run: rules::giant_step(d, left, right, run),
+            run: rules::giant_step(d, left, right, public, run),
         },
         Outcome::Refused(_) => Stepped { outcome, run },
     }
 }
 
 // One giant step of the host's own run, which a refusal leaves as it was.
-pub fn step_in_place(d: Dimensions, left: &[u32], right: &[u32], run: &mut Run) -> Outcome
-    ensures { λ r. ⌜ r ≡ stepped d (allTables (now (left .entry)) (now (right .entry))) (now (run .entry)) .outcome ⌝ }
-    ensures { λ _. ⌜ now (run .exit) ≡ stepped d (allTables (now (left .entry)) (now (right .entry))) (now (run .entry)) .run ⌝ }
+pub fn step_in_place(
+    d: Dimensions,
+    left: &[u32],
+    right: &[u32],
+    public: &[u32],
+    run: &mut Run,
+) -> Outcome
+    ensures { λ r. ⌜ r ≡ stepped d (allTables (now (left .entry)) (now (right .entry)) (now (public .entry))) (now (run .entry)) .outcome ⌝ }
+    ensures { λ _. ⌜ now (run .exit) ≡ stepped d (allTables (now (left .entry)) (now (right .entry)) (now (public .entry))) (now (run .entry)) .run ⌝ }
 {
-    let next = step(d, left, right, *run);
+    let next = step(d, left, right, public, *run);
     *run = next.run;
     next.outcome
 }
 
 // One giant step of a run that is kept elsewhere, as in a host's words: it is lent to `step_in_place`, and comes back with the outcome.
-pub fn step_lent(d: Dimensions, left: &[u32], right: &[u32], run: Run) -> Stepped
-    ensures { λ r. ⌜ r ≡ stepped d (allTables (now (left .entry)) (now (right .entry))) run ⌝ }
+pub fn step_lent(d: Dimensions, left: &[u32], right: &[u32], public: &[u32], run: Run) -> Stepped
+    ensures { λ r. ⌜ r ≡ stepped d (allTables (now (left .entry)) (now (right .entry)) (now (public .entry))) run ⌝ }
 {
     let mut next = run;
-    let outcome = step_in_place(d, left, right, &mut next);
+    let outcome = step_in_place(d, left, right, public, &mut next);
     Stepped { outcome, run: next }
 }
 
 // The answer of a fresh run over accepted tables.
-fn run_to_close(d: Dimensions, left: &[u32], right: &[u32], budget: u64) -> Answer
-    requires { ⌜ outcome (tableChecks d (allTables (now left) (now right))) ≡ Taken ⌝ }
-    ensures { λ r. ⌜ r ≡ answerOf (d .n) (always (rowsOf d (allTables (now (left .entry)) (now (right .entry))))) budget ⌝ }
+fn run_to_close(d: Dimensions, left: &[u32], right: &[u32], public: &[u32], budget: u64) -> Answer
+    requires { ⌜ outcome (tableChecks d (allTables (now left) (now right) (now public))) ≡ Taken ⌝ }
+    ensures { λ r. ⌜ r ≡ answerOf (d .n) (always (rowsOf d (allTables (now (left .entry)) (now (right .entry)) (now (public .entry))))) budget ⌝ }
 {
     let mut run = Run::fresh(d.n);
     let mut count = 0;
     while verdicts::goes_on(run, count, budget) {
-        run = rules::giant_step(d, left, right, run);
+        run = rules::giant_step(d, left, right, public, run);
         count += 1;
     }
     Answer {
@@ -98,13 +104,13 @@ fn run_to_close(d: Dimensions, left: &[u32], right: &[u32], budget: u64) -> Answ
 }
 
 // The answer of a fresh run that stops when it is closed or the budget is spent; 1, 2, 4 or 3 if the tables are not accepted.
-pub fn solve(d: Dimensions, left: &[u32], right: &[u32], budget: u64) -> Solved
-    ensures { λ r. ⌜ r ≡ solved d (allTables (now (left .entry)) (now (right .entry))) budget ⌝ }
-    ensures { λ r. ⌜ solvedCode r ∷ solvedNumbers r ≡ said (outcome (tableChecks d (allTables (now (left .entry)) (now (right .entry))))) (answerNumbers (answerOf (d .n) (always (rowsOf d (allTables (now (left .entry)) (now (right .entry))))) budget)) ⌝ }
+pub fn solve(d: Dimensions, left: &[u32], right: &[u32], public: &[u32], budget: u64) -> Solved
+    ensures { λ r. ⌜ r ≡ solved d (allTables (now (left .entry)) (now (right .entry)) (now (public .entry))) budget ⌝ }
+    ensures { λ r. ⌜ solvedCode r ∷ solvedNumbers r ≡ said (outcome (tableChecks d (allTables (now (left .entry)) (now (right .entry)) (now (public .entry))))) (answerNumbers (answerOf (d .n) (always (rowsOf d (allTables (now (left .entry)) (now (right .entry)) (now (public .entry))))) budget)) ⌝ }
 {
-    let checked = tables::accept(d, left, right);
+    let checked = tables::accept(d, left, right, public);
     match checked {
         Outcome::Refused(refusal) => Solved::Refused(refusal),
-        Outcome::Taken => Solved::Of(run_to_close(d, left, right, budget)),
+        Outcome::Taken => Solved::Of(run_to_close(d, left, right, public, budget)),
     }
 }

@@ -20,13 +20,20 @@ ghost use Rattle.solver.specs.Step.{follow};
 ghost use Rattle.state.specs.WellFormed.{wellFormed};
 
 // The rule that applies to accepted tables at T and F.
-fn rule(d: Dimensions, left: &[u32], right: &[u32], t: u32, f: u32) -> Rule
-    requires { ⌜ outcome (tableChecks d (allTables (now left) (now right))) ≡ Taken ⌝ }
-    ensures { λ r. ⌜ r ≡ Rules.rule (d .n) (rowsOf d (allTables (now (left .entry)) (now (right .entry)))) t f ⌝ }
+fn rule(d: Dimensions, left: &[u32], right: &[u32], public: &[u32], t: u32, f: u32) -> Rule
+    requires { ⌜ outcome (tableChecks d (allTables (now left) (now right) (now public))) ≡ Taken ⌝ }
+    ensures { λ r. ⌜ r ≡ Rules.rule (d .n) (rowsOf d (allTables (now (left .entry)) (now (right .entry)) (now (public .entry)))) t f ⌝ }
 {
     let left_words = 2 * (d.left as usize);
     let right_words = 2 * (d.right as usize);
-    scan::find_rule(&left[..left_words], &right[..right_words], t, f)
+    let public_words = 2 * (d.public as usize);
+    scan::find_rule(
+        &left[..left_words],
+        &right[..right_words],
+        &public[..public_words],
+        t,
+        f,
+    )
 }
 
 // Rule 1: nothing but the standing changes.
@@ -128,16 +135,22 @@ fn choose(run: Run, variable: u32) -> Run
 }
 
 // One giant step of a well-formed run over accepted tables of its n.
-pub(crate) fn giant_step(d: Dimensions, left: &[u32], right: &[u32], run: Run) -> Run
-    requires { ⌜ outcome (tableChecks d (allTables (now left) (now right))) ≡ Taken ⌝ }
+pub(crate) fn giant_step(
+    d: Dimensions,
+    left: &[u32],
+    right: &[u32],
+    public: &[u32],
+    run: Run,
+) -> Run
+    requires { ⌜ outcome (tableChecks d (allTables (now left) (now right) (now public))) ≡ Taken ⌝ }
     requires { ⌜ wellFormed run ≡ true ⌝ }
     requires { ⌜ run .n ≡ d .n ⌝ }
-    ensures { λ r. ⌜ r ≡ runOf (d .n) (Step.step (d .n) (rowsOf d (allTables (now (left .entry)) (now (right .entry)))) (stateOf run)) ⌝ }
+    ensures { λ r. ⌜ r ≡ runOf (d .n) (Step.step (d .n) (rowsOf d (allTables (now (left .entry)) (now (right .entry)) (now (public .entry)))) (stateOf run)) ⌝ }
 {
     let standing = run.standing;
     match standing {
         Standing::Open => {
-            let rule = rule(d, left, right, run.t, run.f);
+            let rule = rule(d, left, right, public, run.t, run.f);
             match rule {
                 Rule::AllSatisfied => satisfy(run),
                 Rule::Conflict => back(run),

@@ -8,6 +8,7 @@ use lib.ListN.{replicate}
 use Rattle.refusals.specs.Checks.{outcome}
 use Rattle.refusals.specs.Numbers.{codeOf}
 use Rattle.words.specs.Sets.{bit, all}
+use Rattle.dimensions.specs.Sizes.{dimensions}
 use Rattle.state.specs.declared.Level.{Level}
 use Rattle.state.specs.declared.Run.{Run}
 use Rattle.state.specs.declared.Standing.the-variants.{Open}
@@ -91,7 +92,7 @@ levels-exchanged = refl
 
 code : ℕ → Run → ℕ
 unfolding wellFormed disjoint within bit all runOf
-code n run = codeOf (outcome (stateChecks (record { n = n; left = 1; right = 1 }) run))
+code n run = codeOf (outcome (stateChecks (dimensions n 1 1 0) run))
 
 taken : code 2 (runOf 2 fresh) ≡ 0
 unfolding code

@@ -7,6 +7,7 @@ use Prim.Native.Nat.{ℕ}
 use Rattle.refusals.specs.Checks.{outcome}
 use Rattle.refusals.specs.Numbers.{codeOf}
 use Rattle.words.specs.Sets.{bit, any, count}
+use Rattle.dimensions.specs.Sizes.{dimensions}
 use Rattle.tables.specs.declared.Row.{Row}
 use Rattle.tables.specs.Tables.{allTables}
 use Rattle.tables.specs.Rows.{rowsOf, padding, satisfied, freeLiterals}
@@ -14,42 +15,51 @@ use Rattle.tables.specs.Acceptance.{allBelow, tableChecks}
 
 -- ---- acceptance: n, row counts, words
 
-code : ℕ → ℕ → ℕ → List ℕ → List ℕ → ℕ
+code : ℕ → ℕ → ℕ → ℕ → List ℕ → List ℕ → List ℕ → ℕ
 unfolding allBelow
-code n l r left right = codeOf (outcome (tableChecks (record { n = n; left = l; right = r }) (allTables left right)))
+code n l r p left right public = codeOf (outcome (tableChecks (dimensions n l r p) (allTables left right public)))
 
-accepted : code 2 1 1 (3 ∷ 0 ∷ []) (0 ∷ 3 ∷ []) ≡ 0
+accepted : code 2 1 1 1 (3 ∷ 0 ∷ []) (0 ∷ 3 ∷ []) (1 ∷ 2 ∷ []) ≡ 0
 unfolding code
 accepted = refl
 
+-- no public rows
+none-public : code 2 1 1 0 (3 ∷ 0 ∷ []) (0 ∷ 3 ∷ []) [] ≡ 0
+unfolding code
+none-public = refl
+
 -- words past 2 × rows are not looked at
-past-the-rows : code 2 1 1 (3 ∷ 0 ∷ 4 ∷ []) (0 ∷ 3 ∷ 4 ∷ []) ≡ 0
+past-the-rows : code 2 1 1 0 (3 ∷ 0 ∷ 4 ∷ []) (0 ∷ 3 ∷ 4 ∷ []) (4 ∷ []) ≡ 0
 unfolding code
 past-the-rows = refl
 
-left-bit : code 2 1 1 (4 ∷ 0 ∷ []) (0 ∷ 3 ∷ []) ≡ 3
+left-bit : code 2 1 1 0 (4 ∷ 0 ∷ []) (0 ∷ 3 ∷ []) [] ≡ 3
 unfolding code
 left-bit = refl
 
-right-bit : code 2 1 1 (3 ∷ 0 ∷ []) (0 ∷ 4 ∷ []) ≡ 3
+right-bit : code 2 1 1 0 (3 ∷ 0 ∷ []) (0 ∷ 4 ∷ []) [] ≡ 3
 unfolding code
 right-bit = refl
 
--- the right buffer's 4 before the left one's 3
-buffer-before-bit : code 2 1 1 (4 ∷ 0 ∷ []) (0 ∷ []) ≡ 4
+public-bit : code 2 1 1 1 (3 ∷ 0 ∷ []) (0 ∷ 3 ∷ []) (0 ∷ 4 ∷ []) ≡ 3
+unfolding code
+public-bit = refl
+
+-- the public buffer's 4 before the left one's 3
+buffer-before-bit : code 2 1 1 1 (4 ∷ 0 ∷ []) (0 ∷ 3 ∷ []) (0 ∷ []) ≡ 4
 unfolding code
 buffer-before-bit = refl
 
--- the right count's 2 before the left buffer's 4
-count-before-buffer : code 2 1 129 [] [] ≡ 2
+-- the public count's 2 before the left buffer's 4
+count-before-buffer : code 2 1 1 129 [] [] [] ≡ 2
 unfolding code
 count-before-buffer = refl
 
-no-row : code 2 0 1 [] (0 ∷ 3 ∷ []) ≡ 2
+no-row : code 2 0 1 0 [] (0 ∷ 3 ∷ []) [] ≡ 2
 unfolding code
 no-row = refl
 
-variables-before-count : code 33 0 0 [] [] ≡ 1
+variables-before-count : code 33 0 0 129 [] [] [] ≡ 1
 unfolding code
 variables-before-count = refl
 
@@ -59,9 +69,9 @@ variables-before-count = refl
 abbrev row : ℕ → ℕ → Row
 row positive negative = record { positive = positive; negative = negative }
 
--- the left station's first
-left-before-right : rowsOf (record { n = 2; left = 2; right = 1 }) (allTables (1 ∷ 0 ∷ 2 ∷ 0 ∷ []) (0 ∷ 3 ∷ [])) ≡ row 1 0 ∷ row 2 0 ∷ row 0 3 ∷ []
-left-before-right = refl
+-- the left station's first, the public ones last
+in-order : rowsOf (dimensions 2 2 1 1) (allTables (1 ∷ 0 ∷ 2 ∷ 0 ∷ []) (0 ∷ 3 ∷ []) (2 ∷ 1 ∷ [])) ≡ row 1 0 ∷ row 2 0 ∷ row 0 3 ∷ row 2 1 ∷ []
+in-order = refl
 
 -- (1 -1) is padding, and true whatever T and F are
 padding-satisfied : satisfied 2 (row 1 1) 0 0 ≡ true

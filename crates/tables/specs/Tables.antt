@@ -2,11 +2,12 @@
 use mathlib.Core.List.{List}
 use Prim.Native.Nat.{ℕ}
 
--- each station's words
+-- each station's words, and those of the public rest rules
 pub record Tables : Type 0 where
   pub left : List ℕ
   pub right : List ℕ
+  pub public : List ℕ
 
--- the tables of these words, the left station's first
-abbrev pub allTables : List ℕ → List ℕ → Tables
-allTables left right = record { left = left; right = right }
+-- the tables of these words, in this order
+abbrev pub allTables : List ℕ → List ℕ → List ℕ → Tables
+allTables left right public = record { left = left; right = right; public = public }

@@ -1,4 +1,4 @@
-// Two stations' clause tables: when they are accepted, and the judging of a row.
+// Two stations' clause tables and the public one: when they are accepted, and the judging of a row.
 use dimensions::Dimensions;
 use refusals::Outcome;
 use refusals::Refusal;
@@ -51,9 +51,9 @@ fn all_below(words: &[u32], n: u32) -> bool
     true
 }
 
-// Whether the two tables are accepted: 1, 2, 4 or 3 if not.
-pub fn accept(d: Dimensions, left: &[u32], right: &[u32]) -> Outcome
-    ensures { λ r. ⌜ r ≡ outcome (tableChecks d (allTables (now (left .entry)) (now (right .entry)))) ⌝ }
+// Whether the three tables are accepted: 1, 2, 4 or 3 if not.
+pub fn accept(d: Dimensions, left: &[u32], right: &[u32], public: &[u32]) -> Outcome
+    ensures { λ r. ⌜ r ≡ outcome (tableChecks d (allTables (now (left .entry)) (now (right .entry)) (now (public .entry)))) ⌝ }
 {
     match d.check() {
         Outcome::Taken => {}
@@ -61,16 +61,15 @@ pub fn accept(d: Dimensions, left: &[u32], right: &[u32]) -> Outcome
     }
     let left_words = 2 * (d.left as usize);
     let right_words = 2 * (d.right as usize);
-    if (left.len() < left_words) | (right.len() < right_words) {
+    let public_words = 2 * (d.public as usize);
+    if (left.len() < left_words) | (right.len() < right_words) | (public.len() < public_words) {
         return Outcome::Refused(Refusal::RowBuffer);
     }
     let left_rows = &left[..left_words];
     let right_rows = &right[..right_words];
+    let public_rows = &public[..public_words];
     let n = d.n as u32;
-    if !all_below(left_rows, n) {
-        return Outcome::Refused(Refusal::RowBit);
-    }
-    if !all_below(right_rows, n) {
+    if !all_below(left_rows, n) | !all_below(right_rows, n) | !all_below(public_rows, n) {
         return Outcome::Refused(Refusal::RowBit);
     }
     Outcome::Taken

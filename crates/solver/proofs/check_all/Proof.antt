@@ -8,9 +8,13 @@ use borrow.Author.Needs.{needs}
 use Rattle.solver.proofs.check_all.Statement.{statement}
 use Rattle.solver.proofs.check_all.Tie as tie
 
+-- where the code starts, from the first call
+abbrev start : tie.After-accept → tie.Start
+start c = c .before .before .before .before
+
 -- the tables at the start
 abbrev tables : tie.Start → Tables
-tables s = allTables (now (s .args .left)) (now (s .args .right))
+tables s = allTables (now (s .args .left)) (now (s .args .right)) (now (s .args .public))
 
 accept-requires : tie.Need-accept-requires
 accept-requires c κs = search needs
@@ -26,13 +30,15 @@ check-state-requires c κs = search needs
 
 returns : tie.Need-returns
 returns c =
-    let start = c .before .before .before .before .before .before in
-    refuse-tables (start .args .d) (tables start) (start .args .run) (c .before .checked .given .0 .0) (sym (c .before .checked .given .1) ∙ c .before .before .before .accept .ensures)
+    let at-accept = c .before .before .before in
+    let s = start at-accept in
+    refuse-tables (s .args .d) (tables s) (s .args .run) (c .before .checked .given .0 .0) (sym (c .before .checked .given .1) ∙ at-accept .accept .ensures)
 
 returns-2 : tie.Need-returns-2
 returns-2 c =
-    let start = c .before .before .before .before .before .before in
-    c .check-state .ensures ∙ state-decides (start .args .d) (tables start) (start .args .run) (sym (c .before .enum-told .given .1) ∙ c .before .before .before .accept .ensures)
+    let at-accept = c .before .before .before in
+    let s = start at-accept in
+    c .check-state .ensures ∙ state-decides (s .args .d) (tables s) (s .args .run) (sym (c .before .enum-told .given .1) ∙ at-accept .accept .ensures)
 
 pub check-all-spec : {M : Type 1} → statement M
 check-all-spec =

@@ -1,11 +1,18 @@
 -- `step` meets its contract: the outcome of the checks decides.
 -- Assumes nothing.
-use denote.Ref.{now}
-use Rattle.tables.specs.Tables.{allTables}
+use Rattle.tables.specs.Tables.{Tables, allTables}
 use Rattle.solver.proofs.Entries.{passed, step-taken, step-refused}
 use borrow.Author.Needs.{needs}
 use Rattle.solver.proofs.step.Statement.{statement}
 use Rattle.solver.proofs.step.Tie as tie
+
+-- where the code starts, from the first call
+abbrev start : tie.After-check-all → tie.Start
+start c = c .before .before .before .before
+
+-- the tables at the start
+abbrev tables : tie.Start → Tables
+tables s = allTables (s .args .left .now) (s .args .right .now) (s .args .public .now)
 
 check-all-requires : tie.Need-check-all-requires
 check-all-requires c κs = search needs
@@ -15,23 +22,25 @@ enum-told c = search needs
 
 giant-step-requires : tie.Need-giant-step-requires
 giant-step-requires c κs =
-    let start = c .before .before .before .before .before in
-    let p = passed (start .args .d) (allTables (now (start .args .left)) (now (start .args .right))) (start .args .run) _ (c .before .before .check-all .ensures) (c .enum-told .given .1) in (p .taken, (p .formed, p .same))
+    let checked = c .before .before in
+    let s = start checked in
+    let p = passed (s .args .d) (tables s) (s .args .run) _ (checked .check-all .ensures) (c .enum-told .given .1) in (p .taken, (p .formed, p .same))
 
 enum-told-2 : tie.Need-enum-told-2
 enum-told-2 c = search needs
 
 returns : tie.Need-returns
 returns c =
-    let start = c .before .before .before .before .before .before in
-    let checked = c .before .before .before .check-all in
-    step-taken (start .args .d) _ (start .args .run) (checked .result) (checked .ensures) (c .before .enum-told .given .1) _ (c .giant-step .ensures)
+    let checked = c .before .before .before in
+    let s = start checked in
+    step-taken (s .args .d) _ (s .args .run) (checked .check-all .result) (checked .check-all .ensures) (c .before .enum-told .given .1) _
+    (c .giant-step .ensures)
 
 returns-2 : tie.Need-returns-2
 returns-2 c =
-    let start = c .before .before .before .before .before in
-    let checked = c .before .before .check-all in
-    step-refused (start .args .d) _ (start .args .run) (checked .result) (checked .ensures) (c .enum-told2 .given .0 .0) (c .enum-told2 .given .1)
+    let checked = c .before .before in
+    let s = start checked in
+    step-refused (s .args .d) _ (s .args .run) (checked .check-all .result) (checked .check-all .ensures) (c .enum-told2 .given .0 .0) (c .enum-told2 .given .1)
 
 pub step-spec : {M : Type 1} → statement M
 step-spec =

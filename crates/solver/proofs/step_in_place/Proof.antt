@@ -65,12 +65,12 @@ use Rattle.solver.proofs.step_in_place as here
 use Rattle.solver.proofs.step_in_place.Statement as stated
 use Rattle.solver.proofs.step_in_place.Code as code
 
-abbrev words : Slot 3
+abbrev words : Slot 4
 words = plain (λ _. u32)
 
 -- at exit: dimensions and tables as they were passed, and the run still lent
 abbrev stayed : Stays (here.ended .signature .params) (here.ended .kept)
-stayed = (stay-none (λ _. D.the-row) yes, (stay-none-slice (0 ∷ []) tt words yes, (stay-none-slice (1 ∷ []) tt words yes, (stay-ref (2 ∷ []) tt (plain (λ _. R.the-row)), tt))))
+stayed = (stay-none (λ _. D.the-row) yes, (stay-none-slice (0 ∷ []) tt words yes, (stay-none-slice (1 ∷ []) tt words yes, (stay-none-slice (2 ∷ []) tt words yes, (stay-ref (3 ∷ []) tt (plain (λ _. R.the-row)), tt)))))
 
 module _ {M : Type 1} (𝓤 : URA M) (H : Heap 𝓤) (A : Atoms 𝓤) (mem : Memory → SProp 𝓤) (run : Routine → Fun 𝓤) where
   -- the contract of `step`
@@ -111,26 +111,29 @@ says-both : {M : Type 1} {𝓤 : URA M} {H : Heap 𝓤} {A : Atoms 𝓤} {K : Ty
 says-both {𝓤 = 𝓤} t {φ} {ψ} {P} x y = step (λ s. suffices t _ (assoc∗ 𝓤 P (fact 𝓤 φ) (fact 𝓤 ψ)) $ says t y $ says t x $ s)
 
 module _ {M : Type 1} (𝓤 : URA M) (H : Heap 𝓤) (A : Atoms 𝓤) (W : Given 𝓤 H A) (at-mem : Memory → SProp 𝓤) (run : Routine → Fun 𝓤)
-    (κ κ′ κ″ : Lft) (bounds : AllOutlive 3 (here.signature .outlives) (κ, (κ′, (κ″, tt)))) (q q′ q″ : Share)
-    (d : Dimensions) (d-is : Is D.the-row d (val-d d ∷ [])) (left right : RefT (List ℕ)) (b o : ℕ) (γ : GName) (h : Run) where
+    (κ κ′ κ‴ κ″ : Lft) (bounds : AllOutlive 4 (here.signature .outlives) (κ, (κ′, (κ‴, (κ″, tt))))) (q q′ q‴ q″ : Share)
+    (d : Dimensions) (d-is : Is D.the-row d (val-d d ∷ [])) (left right public : RefT (List ℕ)) (b o : ℕ) (γ : GName) (h : Run) where
   abbrev left-v : Val
   left-v = sliceVal (left .ptr) (length (left .now))
 
   abbrev right-v : Val
   right-v = sliceVal (right .ptr) (length (right .now))
 
+  abbrev public-v : Val
+  public-v = sliceVal (public .ptr) (length (public .now))
+
   -- the arguments, the run lent being h, and their machine values
   abbrev Arg : Type 0
-  Arg = Dimensions × (RefT (List ℕ) × (RefT (List ℕ) × (RefT Run × Unit {0})))
+  Arg = Dimensions × (RefT (List ℕ) × (RefT (List ℕ) × (RefT (List ℕ) × (RefT Run × Unit {0}))))
 
   abbrev Vals : Type 0
-  Vals = List Val × (List Val × (List Val × (List Val × Unit {0})))
+  Vals = List Val × (List Val × (List Val × (List Val × (List Val × Unit {0}))))
 
   abbrev x : Arg
-  x = (d, (left, (right, (record { ptr = (b, o); name = γ; now = h }, tt))))
+  x = (d, (left, (right, (public, (record { ptr = (b, o); name = γ; now = h }, tt)))))
 
   abbrev at : Vals
-  at = (val-d d ∷ [], (left-v ∷ [], (right-v ∷ [], (vptr b o ∷ [], tt))))
+  at = (val-d d ∷ [], (left-v ∷ [], (right-v ∷ [], (public-v ∷ [], (vptr b o ∷ [], tt)))))
 
   -- what the tables own, and the tokens of their lifetimes
   abbrev Left : Fml
@@ -139,116 +142,124 @@ module _ {M : Type 1} (𝓤 : URA M) (H : Heap 𝓤) (A : Atoms 𝓤) (W : Given
   abbrev Right : Fml
   Right = ShrSlice (named 1) κ′ u32 .own right (right-v ∷ [])
 
+  abbrev Public : Fml
+  Public = ShrSlice (named 2) κ‴ u32 .own public (public-v ∷ [])
+
   abbrev Tokens : Item 𝓤
-  Tokens = ‵ (flft κ q) ⊛ ‵ (flft κ′ q′) ⊛ ‵ ftrue
+  Tokens = ‵ (flft κ q) ⊛ ‵ (flft κ′ q′) ⊛ ‵ (flft κ‴ q‴) ⊛ ‵ ftrue
 
   -- ---- the exit
 
   -- what `step` says of its result
   abbrev Says : Stepped → Type 0
-  Says n = n ≡ stepped d (allTables (now left) (now right)) h
+  Says n = n ≡ stepped d (allTables (now left) (now right) (now public)) h
 
   abbrev bound : walkOf 𝓤 H A here.ended stayed (here.clauses 𝓤 H A at-mem run) .Ghost
-  bound = (((κ, (κ′, (κ″, tt))), (q, (q′, (q″, tt))), bounds, x, at), tt)
+  bound = (((κ, (κ′, (κ‴, (κ″, tt)))), (q, (q′, (q‴, (q″, tt)))), bounds, x, at), tt)
 
   abbrev Post : Val → SProp 𝓤
   Post = walkOf 𝓤 H A here.ended stayed (here.clauses 𝓤 H A at-mem run) .post bound
 
-  -- what the walk has once the run of n is stored: obs, the borrow, its token, the tables' tokens, left, right
+  -- what the walk has once the run of n is stored: obs, the borrow, its token, the tables' tokens, left, right, public
   abbrev Last : Stepped → List (Item 𝓤)
-  Last n = ‵ (fobs γ (R.the-row .coded .code (n .run))) ∷ ‵ (fbor κ″ (Body (mem R.the-row) b o γ)) ∷ ‵ (flft κ″ q″) ∷ Tokens ∷ ‵ Left ∷ ‵ Right ∷ []
+  Last n = ‵ (fobs γ (R.the-row .coded .code (n .run))) ∷ ‵ (fbor κ″ (Body (mem R.the-row) b o γ)) ∷ ‵ (flft κ″ q″) ∷ Tokens ∷ ‵ Left ∷ ‵ Right ∷ ‵ Public ∷ []
 
   exits : (n : Stepped) → Says n → Is O.the-row (n .outcome) (val-o (n .outcome) ∷ []) → ent 𝓤 (⋆ 𝓤 H A (Last n)) (Post (val-o (n .outcome)))
   exits n e is =
       qed W (Last n) ∵
-      suffices ! _ (ends-at 𝓤 H A here.ended stayed (here.clauses 𝓤 H A at-mem run) W bound (val-o (n .outcome)) (n .outcome) (tt, (tt, (tt, (n .run, tt)))) (tt, (tt, (tt, (tt, tt))))) $
+      suffices ! _ (ends-at 𝓤 H A here.ended stayed (here.clauses 𝓤 H A at-mem run) W bound (val-o (n .outcome)) (n .outcome) (tt, (tt, (tt, (tt, (n .run, tt))))) (tt, (tt, (tt, (tt, (tt, tt)))))) $
       says-both ! (ap (λ (z : Stepped). z .outcome) e) (ap (λ (z : Stepped). z .run) e) $
-      -- the three tokens
-      move ! (3 ∷ []) $ split ! $ move ! (1 ∷ []) $ split ! $ move ! (5 ∷ 1 ∷ []) $ join ! $ move ! (1 ∷ 0 ∷ []) $ join ! $ move ! (1 ∷ 0 ∷ []) $ join ! $ frame ! $
+      -- the four tokens
+      move ! (3 ∷ []) $ split ! $ move ! (1 ∷ []) $ split ! $ move ! (1 ∷ []) $ split ! $ move ! (6 ∷ 1 ∷ []) $ join ! $ move ! (1 ∷ 0 ∷ []) $ join ! $
+      move ! (1 ∷ 0 ∷ []) $ join ! $ move ! (1 ∷ 0 ∷ []) $ join ! $ frame ! $
       -- the parameters, from the last to the first
       feqI ! (List Val) (vptr b o ∷ []) (vptr b o ∷ []) refl $ fjoin3 ! $ nothing ! $ move ! (1 ∷ 0 ∷ []) $ fjoin ! $
-      move ! (2 ∷ 0 ∷ []) $ fjoin ! $ move ! (1 ∷ 0 ∷ []) $ fjoin ! $
+      move ! (3 ∷ 0 ∷ []) $ fjoin ! $ move ! (2 ∷ 0 ∷ []) $ fjoin ! $ move ! (1 ∷ 0 ∷ []) $ fjoin ! $
       owned ! D.the-row (Is D.the-row) (LL.makes D.the-type D′.the-plain 𝓤 H A) d _ d-is $ fjoin ! $
       -- the result
       owned ! O.the-row (Is O.the-row) (EL.makes O.the-type O′.the-plain 𝓤 H A) (n .outcome) _ is $ move ! (1 ∷ 0 ∷ []) $ done !
 
   -- ---- the call
 
-  abbrev passed : Dimensions × (RefT (List ℕ) × (RefT (List ℕ) × (Run × Unit {0})))
-  passed = (d, (left, (right, (h, tt))))
+  abbrev passed : Dimensions × (RefT (List ℕ) × (RefT (List ℕ) × (RefT (List ℕ) × (Run × Unit {0}))))
+  passed = (d, (left, (right, (public, (h, tt)))))
 
   abbrev passed-at : Vals
-  passed-at = (val-d d ∷ [], (left-v ∷ [], (right-v ∷ [], (val-r h ∷ [], tt))))
+  passed-at = (val-d d ∷ [], (left-v ∷ [], (right-v ∷ [], (public-v ∷ [], (val-r h ∷ [], tt)))))
 
   abbrev to : Called 𝓤 H A at-mem run .Ghost
-  to = (((κ, (κ′, tt)), (q, (q′, tt)), tt, passed, passed-at), tt)
+  to = (((κ, (κ′, (κ‴, tt))), (q, (q′, (q‴, tt))), tt, passed, passed-at), tt)
 
-  asked : ent 𝓤 (onEntry 𝓤 H A by-value.signature (κ, (κ′, tt)) (q, (q′, tt)) passed passed-at) (Called 𝓤 H A at-mem run .pre to)
+  asked : ent 𝓤 (onEntry 𝓤 H A by-value.signature (κ, (κ′, (κ‴, tt))) (q, (q′, (q‴, tt))) passed passed-at) (Called 𝓤 H A at-mem run .pre to)
   asked =
-      qed W (Tokens ∷ ‵ (owns (D.the-row ∷ ShrSlice (named 0) κ u32 ∷ ShrSlice (named 1) κ′ u32 ∷ R.the-row ∷ []) passed passed-at) ∷ []) ∵
+      qed W (Tokens ∷ ‵ (owns (D.the-row ∷ ShrSlice (named 0) κ u32 ∷ ShrSlice (named 1) κ′ u32 ∷ ShrSlice (named 2) κ‴ u32 ∷ R.the-row ∷ []) passed passed-at) ∷ []) ∵
       join ! $ frame ! $ done !
 
   abbrev Ensured : Stepped → SProp 𝓤
-  Ensured n = ensured 𝓤 H A by-value.ended (by-value.clauses 𝓤 H A at-mem run) (κ, (κ′, tt)) passed tt n
+  Ensured n = ensured 𝓤 H A by-value.ended (by-value.clauses 𝓤 H A at-mem run) (κ, (κ′, (κ‴, tt))) passed tt n
 
   said : (n : Stepped) → ent 𝓤 (Ensured n) (fact 𝓤 (Says n))
-  said n = exE 𝓤 _ (λ ws. snd∗ 𝓤 (sem 𝓤 H A (lasts by-value.ended (κ, (κ′, tt)) passed ws)) (fact 𝓤 (Says n)))
+  said n = exE 𝓤 _ (λ ws. snd∗ 𝓤 (sem 𝓤 H A (lasts by-value.ended (κ, (κ′, (κ‴, tt))) passed ws)) (fact 𝓤 (Says n)))
 
   -- ---- the walk
 
   module _ (C : Calls 𝓤 H) (Λ : Loops 𝓤 H) (fm : FmC 𝓤 H (W .laws) C) (known : Triple 𝓤 (C #solver·step) (Called 𝓤 H A at-mem run)) where
-    walk : Is (ShrSlice (named 0) κ u32) left (left-v ∷ []) → Is (ShrSlice (named 1) κ′ u32) right (right-v ∷ [])
-        → ent 𝓤 (onEntry 𝓤 H A here.signature (κ, (κ′, (κ″, tt))) (q, (q′, (q″, tt))) x at) (WpFn 𝓤 H C Λ code.function (val-d d ∷ left-v ∷ right-v ∷ vptr b o ∷ []) Post)
-    walk left-is right-is =
-        qed W ((‵ (flft κ q) ⊛ ‵ (flft κ′ q′) ⊛ ‵ (flft κ″ q″) ⊛ ‵ ftrue)
-        ∷ ‵ (owns (D.the-row ∷ ShrSlice (named 0) κ u32 ∷ ShrSlice (named 1) κ′ u32 ∷ MutRef (named 2) κ″ R.the-row ∷ []) x at) ∷ []) ∵
-        enter ! C Λ code.function (val-d d ∷ left-v ∷ right-v ∷ vptr b o ∷ []) _ $
-        alloc1 ! (λ l₀. alloc1 ! (λ l₁. alloc1 ! (λ l₂. alloc1 ! (λ l₃. alloc1 ! (λ l₄. alloc1 ! (λ l₅. alloc1 ! (λ l₆. alloc0 ! $ params1 ! $
-        pass1 ! (init ! 10 refl (LL.lawful D.the-type D′.the-laws 𝓤 H A W .typed d _ d-is .0)) $
-        pass1 ! (init ! 8 refl (shr-slice-lawful 𝓤 H A W (named 0) κ u32 .typed left (left-v ∷ []) left-is .0)) $
-        pass1 ! (init ! 6 refl (shr-slice-lawful 𝓤 H A W (named 1) κ′ u32 .typed right (right-v ∷ []) right-is .0)) $
+    walk : Is (ShrSlice (named 0) κ u32) left (left-v ∷ []) → Is (ShrSlice (named 1) κ′ u32) right (right-v ∷ []) → Is (ShrSlice (named 2) κ‴ u32) public (public-v ∷ [])
+        → ent 𝓤 (onEntry 𝓤 H A here.signature (κ, (κ′, (κ‴, (κ″, tt)))) (q, (q′, (q‴, (q″, tt)))) x at) (WpFn 𝓤 H C Λ code.function (val-d d ∷ left-v ∷ right-v ∷ public-v ∷ vptr b o ∷ []) Post)
+    walk left-is right-is public-is =
+        qed W ((‵ (flft κ q) ⊛ ‵ (flft κ′ q′) ⊛ ‵ (flft κ‴ q‴) ⊛ ‵ (flft κ″ q″) ⊛ ‵ ftrue)
+        ∷ ‵ (owns (D.the-row ∷ ShrSlice (named 0) κ u32 ∷ ShrSlice (named 1) κ′ u32 ∷ ShrSlice (named 2) κ‴ u32 ∷ MutRef (named 3) κ″ R.the-row ∷ []) x at) ∷ []) ∵
+        enter ! C Λ code.function (val-d d ∷ left-v ∷ right-v ∷ public-v ∷ vptr b o ∷ []) _ $
+        alloc1 ! (λ l₀. alloc1 ! (λ l₁. alloc1 ! (λ l₂. alloc1 ! (λ l₃. alloc1 ! (λ l₄. alloc1 ! (λ l₅. alloc1 ! (λ l₆. alloc1 ! (λ l₇. alloc0 ! $ params1 ! $
+        pass1 ! (init ! 12 refl (LL.lawful D.the-type D′.the-laws 𝓤 H A W .typed d _ d-is .0)) $
+        pass1 ! (init ! 10 refl (shr-slice-lawful 𝓤 H A W (named 0) κ u32 .typed left (left-v ∷ []) left-is .0)) $
+        pass1 ! (init ! 8 refl (shr-slice-lawful 𝓤 H A W (named 1) κ′ u32 .typed right (right-v ∷ []) right-is .0)) $
+        pass1 ! (init ! 6 refl (shr-slice-lawful 𝓤 H A W (named 2) κ‴ u32 .typed public (public-v ∷ []) public-is .0)) $
         pass1 ! (init ! 4 refl (tt, tt)) $ pass0 ! $
         -- what the parameters own is taken apart
-        move ! (15 ∷ []) $ fsplit ! $ move ! (1 ∷ []) $ fsplit ! $ move ! (1 ∷ []) $ fsplit ! $ move ! (1 ∷ []) $ fsplit ! $ fsplit3 ! $ drop ! $
-        -- [obs; the borrow; nothing; right; left; d; _6; …; _0; …; all tokens]: the tables' tokens are set apart
-        move ! (20 ∷ []) $ split ! $ move ! (1 ∷ []) $ split ! $ move ! (1 ∷ []) $ split ! $ move ! (2 ∷ 1 ∷ []) $ join ! $ move ! (2 ∷ 0 ∷ []) $ join ! $
+        move ! (17 ∷ []) $ fsplit ! $ move ! (1 ∷ []) $ fsplit ! $ move ! (1 ∷ []) $ fsplit ! $ move ! (1 ∷ []) $ fsplit ! $ move ! (1 ∷ []) $ fsplit ! $ fsplit3 ! $ drop ! $
+        -- [obs; the borrow; nothing; public; right; left; d; _7; …; _0; …; all tokens]: the tables' tokens are set apart
+        move ! (23 ∷ []) $ split ! $ move ! (1 ∷ []) $ split ! $ move ! (1 ∷ []) $ split ! $ move ! (1 ∷ []) $ split ! $
+        move ! (2 ∷ 1 ∷ []) $ join ! $ move ! (2 ∷ 0 ∷ []) $ join ! $ move ! (2 ∷ 0 ∷ []) $ join ! $
         -- [the tables' tokens; the run's; obs; the borrow; …]: the borrow is opened
         move ! (2 ∷ 3 ∷ 1 ∷ []) $ opens ! tt R.the-row {h = h} b o (λ vs.
         spelt ! R.the-row (Is R.the-row) (shows 𝓤 H A R.the-row) (LL.vals R.the-type R′.the-laws) (LL.tells R.the-type R′.the-laws) fullShare h vs b o $
         move ! (1 ∷ []) $ peeks ! R.the-row (Is R.the-row) (shows 𝓤 H A R.the-row) h (val-r h ∷ []) (λ h-is. move ! (1 ∷ 0 ∷ []) $
-        -- [the run's cell; what it owns; the open borrow; obs; auth; the tables' tokens; nothing; right; left; d; _6; …; _0; …]: `_6 = *run`
-        assigns ! (of-opd ! (load ! (from ! (hop ! (look ! 14 refl) (stop !))) (look-raw ! 0 refl))) (from ! (stop !))
-        (init ! 10 refl (LL.lawful R.the-type R′.the-laws 𝓤 H A W .typed h _ h-is .0)) $
+        -- [the run's cell; what it owns; the open borrow; obs; auth; the tables' tokens; nothing; public; right; left; d; _7; …; _0; …]: `_7 = *run`
+        assigns ! (of-opd ! (load ! (from ! (hop ! (look ! 15 refl) (stop !))) (look-raw ! 0 refl))) (from ! (stop !))
+        (init ! 11 refl (LL.lawful R.the-type R′.the-laws 𝓤 H A W .typed h _ h-is .0)) $
         -- what `step` asks is put together, with copies of what the tables own
         move ! (1 ∷ 6 ∷ []) $ fjoin ! $
-        move ! (6 ∷ []) $ use1 W (‵ Right ⊛ ‵ Right) (shr-slice-copy 𝓤 H A W (named 1) κ′ u32 .twice right (right-v ∷ [])) $ split ! $ move ! (0 ∷ 2 ∷ []) $ fjoin ! $
-        move ! (7 ∷ []) $ use1 W (‵ Left ⊛ ‵ Left) (shr-slice-copy 𝓤 H A W (named 0) κ u32 .twice left (left-v ∷ [])) $ split ! $ move ! (0 ∷ 2 ∷ []) $ fjoin ! $
-        move ! (8 ∷ 0 ∷ []) $ fjoin ! $ move ! (7 ∷ 0 ∷ []) $ use2 W (raw (Called 𝓤 H A at-mem run .pre to)) asked $
-        -- [what `step` asks; left; right; the run's cell; the open borrow; obs; auth; _6; …; _0; …]: `_5 = step(_1, _2, _3, _6)`
+        move ! (6 ∷ []) $ use1 W (‵ Public ⊛ ‵ Public) (shr-slice-copy 𝓤 H A W (named 2) κ‴ u32 .twice public (public-v ∷ [])) $ split ! $ move ! (0 ∷ 2 ∷ []) $ fjoin ! $
+        move ! (7 ∷ []) $ use1 W (‵ Right ⊛ ‵ Right) (shr-slice-copy 𝓤 H A W (named 1) κ′ u32 .twice right (right-v ∷ [])) $ split ! $ move ! (0 ∷ 2 ∷ []) $ fjoin ! $
+        move ! (8 ∷ []) $ use1 W (‵ Left ⊛ ‵ Left) (shr-slice-copy 𝓤 H A W (named 0) κ u32 .twice left (left-v ∷ [])) $ split ! $ move ! (0 ∷ 2 ∷ []) $ fjoin ! $
+        move ! (9 ∷ 0 ∷ []) $ fjoin ! $ move ! (8 ∷ 0 ∷ []) $ use2 W (raw (Called 𝓤 H A at-mem run .pre to)) asked $
+        -- [what `step` asks; left; right; public; the run's cell; the open borrow; obs; auth; _7; …; _0; …]: `_6 = step(_1, _2, _3, _4, _7)`
         calls-at ! fm (Called 𝓤 H A at-mem run) known to
-        (and-then ! (load ! (from ! (stop !)) (look ! 17 refl)) (and-then ! (load ! (from ! (stop !)) (look ! 15 refl))
-        (and-then ! (load ! (from ! (stop !)) (look ! 13 refl)) (and-then ! (load ! (from ! (stop !)) (look ! 7 refl)) (no-more !))))) (λ v.
+        (and-then ! (load ! (from ! (stop !)) (look ! 20 refl)) (and-then ! (load ! (from ! (stop !)) (look ! 18 refl))
+        (and-then ! (load ! (from ! (stop !)) (look ! 16 refl)) (and-then ! (load ! (from ! (stop !)) (look ! 14 refl))
+        (and-then ! (load ! (from ! (stop !)) (look ! 8 refl)) (no-more !)))))) (λ v.
         use1 W (later (some (λ (n : Stepped). (Tokens ⊛ ‵ (S.the-row .own n (v ∷ []))) ⊛ raw (Ensured n)))) (id⊢ 𝓤 _) $ await ! tt $ pick ! (λ n.
         split ! $ move ! (1 ∷ []) $ use1 W (raw (fact 𝓤 (Says n))) (said n) $ heard ! (Says n) (λ e.
         split ! $ move ! (1 ∷ []) $ peeks ! S.the-row (Is S.the-row) (shows 𝓤 H A S.the-row) n (v ∷ []) (λ is.
-        -- [what the result owns; the tables' tokens; left; right; the run's cell; the open borrow; obs; auth; _6; …; _0; …]
-        land ! (from ! (stop !)) (init ! 10 refl (LL.lawful S.the-type S′.the-laws 𝓤 H A W .typed n _ is .0)) $
-        rewrite ! 10 (λ (u : Val). ‵ (fat fullShare S′.mir l₅ 0 u)) (spells n v is) refl $
-        -- `*run = _5.run`
-        assigns ! (of-opd ! (load ! (from ! (fld ! refl (stop !))) (look-in ! 10 (sub ! 1 refl (whole !))))) (from ! (hop ! (look ! 12 refl) (stop !)))
-        (store-raw ! 4 refl (LL.lawful R.the-type R′.the-laws 𝓤 H A W .typed (n .run) _ (run-is n v is) .0)) $
-        -- `_0 = _5.outcome`
-        assigns ! (of-opd ! (load ! (from ! (fld ! refl (stop !))) (look-in ! 10 (sub ! 0 refl (whole !))))) (from ! (stop !))
-        (init ! 20 refl (EL.lawful O.the-type O′.the-laws 𝓤 H A W tt .typed (n .outcome) _ (outcome-is n v is) .0)) $
+        -- [what the result owns; the tables' tokens; left; right; public; the run's cell; the open borrow; obs; auth; _7; …; _0; …]
+        land ! (from ! (stop !)) (init ! 11 refl (LL.lawful S.the-type S′.the-laws 𝓤 H A W .typed n _ is .0)) $
+        rewrite ! 11 (λ (u : Val). ‵ (fat fullShare S′.mir l₆ 0 u)) (spells n v is) refl $
+        -- `*run = _6.run`
+        assigns ! (of-opd ! (load ! (from ! (fld ! refl (stop !))) (look-in ! 11 (sub ! 1 refl (whole !))))) (from ! (hop ! (look ! 13 refl) (stop !)))
+        (store-raw ! 5 refl (LL.lawful R.the-type R′.the-laws 𝓤 H A W .typed (n .run) _ (run-is n v is) .0)) $
+        -- `_0 = _6.outcome`
+        assigns ! (of-opd ! (load ! (from ! (fld ! refl (stop !))) (look-in ! 11 (sub ! 0 refl (whole !))))) (from ! (stop !))
+        (init ! 23 refl (EL.lawful O.the-type O′.the-laws 𝓤 H A W tt .typed (n .outcome) _ (outcome-is n v is) .0)) $
         -- the borrow is closed at the run stored
         drop ! $ owned ! R.the-row (Is R.the-row) (LL.makes R.the-type R′.the-plain 𝓤 H A) (n .run) _ (run-is n v is) $
-        move ! (4 ∷ 0 ∷ 5 ∷ 6 ∷ 7 ∷ []) $ closes ! tt R.the-row (n .run) (val-r (n .run) ∷ []) b o $
-        -- [obs; the borrow; its token; the tables' tokens; left; right; _6; …; _0; …]
-        returns ! (look ! 18 refl) $
-        forget ! 6 refl $ forget ! 8 refl $ forget ! 10 refl $ forget ! 12 refl $ forget ! 14 refl $ forget ! 16 refl $ forget ! 18 refl $
-        move ! (18 ∷ 19 ∷ []) $ free1 ! $ move ! (16 ∷ 17 ∷ []) $ free1 ! $ move ! (14 ∷ 15 ∷ []) $ free1 ! $ move ! (12 ∷ 13 ∷ []) $ free1 ! $
-        move ! (10 ∷ 11 ∷ []) $ free1 ! $ move ! (8 ∷ 9 ∷ []) $ free1 ! $ move ! (6 ∷ 7 ∷ []) $ free1 ! $ free0 ! $
-        keep ! (0 ∷ 1 ∷ 2 ∷ 3 ∷ 4 ∷ 5 ∷ []) $ by ! (exits n e (outcome-is n v is)))))))))))))))
+        move ! (5 ∷ 0 ∷ 6 ∷ 7 ∷ 8 ∷ []) $ closes ! tt R.the-row (n .run) (val-r (n .run) ∷ []) b o $
+        -- [obs; the borrow; its token; the tables' tokens; left; right; public; _7; …; _0; …]
+        returns ! (look ! 21 refl) $
+        forget ! 7 refl $ forget ! 9 refl $ forget ! 11 refl $ forget ! 13 refl $ forget ! 15 refl $ forget ! 17 refl $ forget ! 19 refl $ forget ! 21 refl $
+        move ! (21 ∷ 22 ∷ []) $ free1 ! $ move ! (19 ∷ 20 ∷ []) $ free1 ! $ move ! (17 ∷ 18 ∷ []) $ free1 ! $ move ! (15 ∷ 16 ∷ []) $ free1 ! $
+        move ! (13 ∷ 14 ∷ []) $ free1 ! $ move ! (11 ∷ 12 ∷ []) $ free1 ! $ move ! (9 ∷ 10 ∷ []) $ free1 ! $ move ! (7 ∷ 8 ∷ []) $ free1 ! $ free0 ! $
+        keep ! (0 ∷ 1 ∷ 2 ∷ 3 ∷ 4 ∷ 5 ∷ 6 ∷ []) $ by ! (exits n e (outcome-is n v is))))))))))))))))
 
 -- ---- from the walk to the contract
 
@@ -257,14 +268,32 @@ module _ {M : Type 1} (𝓤 : URA M) (H : Heap 𝓤) (A : Atoms 𝓤) (W : Given
       → Walks 𝓤 H A here.ended stayed (WpFn 𝓤 H C Λ code.function) (here.clauses 𝓤 H A at-mem run)
   here-walks C Λ fm known =
       walked 𝓤 H A here.ended stayed (here.clauses 𝓤 H A at-mem run) (WpFn 𝓤 H C Λ code.function)
-      (λ κs. (LL.vals D.the-type D′.the-laws, (slice-vals, (slice-vals, (ptr-vals, tt)))))
-      (λ κs. (LL.tells D.the-type D′.the-laws, (shr-slice-tells (named 0) (κs .0) u32, (shr-slice-tells (named 1) (κs .1 .0) u32, (mut-tells (named 2) (κs .1 .1 .0) R.the-row, tt)))))
+      (λ κs. (LL.vals D.the-type D′.the-laws, (slice-vals, (slice-vals, (slice-vals, (ptr-vals, tt))))))
+      (λ κs. (
+        LL.tells D.the-type D′.the-laws,
+        (
+          shr-slice-tells (named 0) (κs .0) u32,
+          (
+            shr-slice-tells (named 1) (κs .1 .0) u32,
+            (shr-slice-tells (named 2) (κs .1 .1 .0) u32, (mut-tells (named 3) (κs .1 .1 .1 .0) R.the-row, tt)),
+          ),
+        ),
+      ))
       (λ κs qs bounds a g are. via 𝓤 _ (fst∗ 𝓤 _ (emp 𝓤))
-      (walk 𝓤 H A W at-mem run (κs .0) (κs .1 .0) (κs .1 .1 .0) bounds (qs .0) (qs .1 .0) (qs .1 .1 .0) (a .0) (are .0) (a .1 .0) (a .1 .1 .0)
-      (a .1 .1 .1 .0 .ptr .0) (a .1 .1 .1 .0 .ptr .1) (a .1 .1 .1 .0 .name) (a .1 .1 .1 .0 .now) C Λ fm known (are .1 .0) (are .1 .1 .0)))
+      (walk 𝓤 H A W at-mem run (κs .0) (κs .1 .0) (κs .1 .1 .0) (κs .1 .1 .1 .0) bounds (qs .0) (qs .1 .0) (qs .1 .1 .0) (qs .1 .1 .1 .0) (a .0) (are .0) (a .1 .0) (a .1 .1 .0) (a .1 .1 .1 .0)
+      (a .1 .1 .1 .1 .0 .ptr .0) (a .1 .1 .1 .1 .0 .ptr .1) (a .1 .1 .1 .1 .0 .name) (a .1 .1 .1 .1 .0 .now) C Λ fm known (are .1 .0) (are .1 .1 .0) (are .1 .1 .1 .0)))
 
-  goes : AllGo 𝓤 H A W 3 (here.signature .params) (here.ended .kept) stayed
-  goes = (goes-none 𝓤 H A W 3 (λ _. D.the-row) yes (λ κs x f. refl), (goes-none-slice 𝓤 H A W 3 (0 ∷ []) tt words yes, (goes-none-slice 𝓤 H A W 3 (1 ∷ []) tt words yes, (goes-ref 𝓤 H A W 3 2 tt (plain (λ _. R.the-row)), tt))))
+  goes : AllGo 𝓤 H A W 4 (here.signature .params) (here.ended .kept) stayed
+  goes = (
+    goes-none 𝓤 H A W 4 (λ _. D.the-row) yes (λ κs x f. refl),
+    (
+      goes-none-slice 𝓤 H A W 4 (0 ∷ []) tt words yes,
+      (
+        goes-none-slice 𝓤 H A W 4 (1 ∷ []) tt words yes,
+        (goes-none-slice 𝓤 H A W 4 (2 ∷ []) tt words yes, (goes-ref 𝓤 H A W 4 3 tt (plain (λ _. R.the-row)), tt)),
+      ),
+    ),
+  )
 
 here-meets : {M : Type 1} (𝓤 : URA M) (H : Heap 𝓤) (A : Atoms 𝓤) (W : Given 𝓤 H A) (at-mem : Memory → SProp 𝓤) (run : Routine → Fun 𝓤) (𝓣 : Tables 𝓤 H)
     → Triple 𝓤 (𝓣 .C #solver·step) (Called 𝓤 H A at-mem run) → Meets 𝓤 H A here.signature (WpFn 𝓤 H (𝓣 .C) (𝓣 .Λ) code.function) (here.spec 𝓤 H A at-mem run)

@@ -67,12 +67,12 @@ use Rattle.solver.proofs.step_lent as here
 use Rattle.solver.proofs.step_lent.Statement as stated
 use Rattle.solver.proofs.step_lent.Code as code
 
-abbrev words : Slot 2
+abbrev words : Slot 3
 words = plain (λ _. u32)
 
 -- at exit: everything as it was passed
 abbrev stayed : Stays (here.ended .signature .params) (here.ended .kept)
-stayed = (stay-none (λ _. D.the-row) yes, (stay-none-slice (0 ∷ []) tt words yes, (stay-none-slice (1 ∷ []) tt words yes, (stay-none (λ _. R.the-row) yes, tt))))
+stayed = (stay-none (λ _. D.the-row) yes, (stay-none-slice (0 ∷ []) tt words yes, (stay-none-slice (1 ∷ []) tt words yes, (stay-none-slice (2 ∷ []) tt words yes, (stay-none (λ _. R.the-row) yes, tt)))))
 
 module _ {M : Type 1} (𝓤 : URA M) (H : Heap 𝓤) (A : Atoms 𝓤) (mem : Memory → SProp 𝓤) (run : Routine → Fun 𝓤) where
   -- the contract of `step_in_place`
@@ -105,26 +105,29 @@ outcome-is : (o : Outcome) (v : Val) → Is O.the-row o (v ∷ []) → Is O.the-
 outcome-is o v is = subst (λ (u : Val). Is O.the-row o (u ∷ [])) (spells o v is) is
 
 module _ {M : Type 1} (𝓤 : URA M) (H : Heap 𝓤) (A : Atoms 𝓤) (W : Given 𝓤 H A) (at-mem : Memory → SProp 𝓤) (run : Routine → Fun 𝓤)
-    (κ κ′ : Lft) (bounds : AllOutlive 2 (here.signature .outlives) (κ, (κ′, tt))) (q q′ : Share)
-    (d : Dimensions) (d-is : Is D.the-row d (val-d d ∷ [])) (left right : RefT (List ℕ)) (h : Run) (h-is : Is R.the-row h (val-r h ∷ [])) where
+    (κ κ′ κ‴ : Lft) (bounds : AllOutlive 3 (here.signature .outlives) (κ, (κ′, (κ‴, tt)))) (q q′ q‴ : Share)
+    (d : Dimensions) (d-is : Is D.the-row d (val-d d ∷ [])) (left right public : RefT (List ℕ)) (h : Run) (h-is : Is R.the-row h (val-r h ∷ [])) where
   abbrev left-v : Val
   left-v = sliceVal (left .ptr) (length (left .now))
 
   abbrev right-v : Val
   right-v = sliceVal (right .ptr) (length (right .now))
 
+  abbrev public-v : Val
+  public-v = sliceVal (public .ptr) (length (public .now))
+
   -- the arguments and their machine values
   abbrev Arg : Type 0
-  Arg = Dimensions × (RefT (List ℕ) × (RefT (List ℕ) × (Run × Unit {0})))
+  Arg = Dimensions × (RefT (List ℕ) × (RefT (List ℕ) × (RefT (List ℕ) × (Run × Unit {0}))))
 
   abbrev Vals : Type 0
-  Vals = List Val × (List Val × (List Val × (List Val × Unit {0})))
+  Vals = List Val × (List Val × (List Val × (List Val × (List Val × Unit {0}))))
 
   abbrev x : Arg
-  x = (d, (left, (right, (h, tt))))
+  x = (d, (left, (right, (public, (h, tt)))))
 
   abbrev at : Vals
-  at = (val-d d ∷ [], (left-v ∷ [], (right-v ∷ [], (val-r h ∷ [], tt))))
+  at = (val-d d ∷ [], (left-v ∷ [], (right-v ∷ [], (public-v ∷ [], (val-r h ∷ [], tt)))))
 
   -- what the tables own, and the tokens of their lifetimes
   abbrev Left : Fml
@@ -133,11 +136,14 @@ module _ {M : Type 1} (𝓤 : URA M) (H : Heap 𝓤) (A : Atoms 𝓤) (W : Given
   abbrev Right : Fml
   Right = ShrSlice (named 1) κ′ u32 .own right (right-v ∷ [])
 
+  abbrev Public : Fml
+  Public = ShrSlice (named 2) κ‴ u32 .own public (public-v ∷ [])
+
   abbrev Tokens : Item 𝓤
-  Tokens = ‵ (flft κ q) ⊛ ‵ (flft κ′ q′) ⊛ ‵ ftrue
+  Tokens = ‵ (flft κ q) ⊛ ‵ (flft κ′ q′) ⊛ ‵ (flft κ‴ q‴) ⊛ ‵ ftrue
 
   abbrev bound : walkOf 𝓤 H A here.ended stayed (here.clauses 𝓤 H A at-mem run) .Ghost
-  bound = (((κ, (κ′, tt)), (q, (q′, tt)), bounds, x, at), tt)
+  bound = (((κ, (κ′, (κ‴, tt))), (q, (q′, (q‴, tt))), bounds, x, at), tt)
 
   abbrev Post : Val → SProp 𝓤
   Post = walkOf 𝓤 H A here.ended stayed (here.clauses 𝓤 H A at-mem run) .post bound
@@ -146,16 +152,16 @@ module _ {M : Type 1} (𝓤 : URA M) (H : Heap 𝓤) (A : Atoms 𝓤) (W : Given
 
   -- the run after the step, with its outcome
   abbrev next : Stepped
-  next = stepped d (allTables (now left) (now right)) h
+  next = stepped d (allTables (now left) (now right) (now public)) h
 
-  exits : (n : Stepped) → n ≡ next → Is S.the-row n (val-s n ∷ []) → ent 𝓤 (⋆ 𝓤 H A (Tokens ∷ ‵ Left ∷ ‵ Right ∷ [])) (Post (val-s n))
+  exits : (n : Stepped) → n ≡ next → Is S.the-row n (val-s n ∷ []) → ent 𝓤 (⋆ 𝓤 H A (Tokens ∷ ‵ Left ∷ ‵ Right ∷ ‵ Public ∷ [])) (Post (val-s n))
   exits n e is =
-      qed W (Tokens ∷ ‵ Left ∷ ‵ Right ∷ []) ∵
-      suffices ! _ (ends-at 𝓤 H A here.ended stayed (here.clauses 𝓤 H A at-mem run) W bound (val-s n) n (tt, (tt, (tt, (tt, tt)))) (tt, (tt, (tt, (tt, tt))))) $
+      qed W (Tokens ∷ ‵ Left ∷ ‵ Right ∷ ‵ Public ∷ []) ∵
+      suffices ! _ (ends-at 𝓤 H A here.ended stayed (here.clauses 𝓤 H A at-mem run) W bound (val-s n) n (tt, (tt, (tt, (tt, (tt, tt))))) (tt, (tt, (tt, (tt, (tt, tt)))))) $
       says ! e $ frame ! $
       -- the parameters, from the last to the first
       nothing ! $ owned ! R.the-row (Is R.the-row) (LL.makes R.the-type R′.the-plain 𝓤 H A) h _ h-is $ fjoin ! $
-      move ! (2 ∷ 0 ∷ []) $ fjoin ! $ move ! (1 ∷ 0 ∷ []) $ fjoin ! $
+      move ! (3 ∷ 0 ∷ []) $ fjoin ! $ move ! (2 ∷ 0 ∷ []) $ fjoin ! $ move ! (1 ∷ 0 ∷ []) $ fjoin ! $
       owned ! D.the-row (Is D.the-row) (LL.makes D.the-type D′.the-plain 𝓤 H A) d _ d-is $ fjoin ! $
       -- the result
       owned ! S.the-row (Is S.the-row) (LL.makes S.the-type S′.the-plain 𝓤 H A) n _ is $ move ! (1 ∷ 0 ∷ []) $ done !
@@ -171,27 +177,27 @@ module _ {M : Type 1} (𝓤 : URA M) (H : Heap 𝓤) (A : Atoms 𝓤) (W : Given
   -- ---- the call, which is lent the block b for the lifetime α under the name δ
 
   module _ (α : ℕ) (δ : GName) (b : ℕ) where
-    abbrev κs : Lft × (Lft × (Lft × Unit {0}))
-    κs = (κ, (κ′, (α ∷ [], tt)))
+    abbrev κs : Lft × (Lft × (Lft × (Lft × Unit {0})))
+    κs = (κ, (κ′, (κ‴, (α ∷ [], tt))))
 
     abbrev Lending : Item 𝓤
-    Lending = ‵ (flft κ q) ⊛ ‵ (flft κ′ q′) ⊛ ‵ (flft (α ∷ []) fullShare) ⊛ ‵ ftrue
+    Lending = ‵ (flft κ q) ⊛ ‵ (flft κ′ q′) ⊛ ‵ (flft κ‴ q‴) ⊛ ‵ (flft (α ∷ []) fullShare) ⊛ ‵ ftrue
 
     abbrev lent : RefT Run
     lent = record { ptr = (b, 0); name = δ; now = h }
 
-    abbrev passed : Dimensions × (RefT (List ℕ) × (RefT (List ℕ) × (RefT Run × Unit {0})))
-    passed = (d, (left, (right, (lent, tt))))
+    abbrev passed : Dimensions × (RefT (List ℕ) × (RefT (List ℕ) × (RefT (List ℕ) × (RefT Run × Unit {0}))))
+    passed = (d, (left, (right, (public, (lent, tt)))))
 
     abbrev passed-at : Vals
-    passed-at = (val-d d ∷ [], (left-v ∷ [], (right-v ∷ [], (vptr b 0 ∷ [], tt))))
+    passed-at = (val-d d ∷ [], (left-v ∷ [], (right-v ∷ [], (public-v ∷ [], (vptr b 0 ∷ [], tt)))))
 
     abbrev to : Called 𝓤 H A at-mem run .Ghost
-    to = ((κs, (q, (q′, (fullShare, tt))), tt, passed, passed-at), tt)
+    to = ((κs, (q, (q′, (q‴, (fullShare, tt)))), tt, passed, passed-at), tt)
 
-    asked : ent 𝓤 (onEntry 𝓤 H A in-place.signature κs (q, (q′, (fullShare, tt))) passed passed-at) (Called 𝓤 H A at-mem run .pre to)
+    asked : ent 𝓤 (onEntry 𝓤 H A in-place.signature κs (q, (q′, (q‴, (fullShare, tt)))) passed passed-at) (Called 𝓤 H A at-mem run .pre to)
     asked =
-        qed W (Lending ∷ ‵ (owns (D.the-row ∷ ShrSlice (named 0) κ u32 ∷ ShrSlice (named 1) κ′ u32 ∷ MutRef (named 2) (α ∷ []) R.the-row ∷ []) passed passed-at) ∷ []) ∵
+        qed W (Lending ∷ ‵ (owns (D.the-row ∷ ShrSlice (named 0) κ u32 ∷ ShrSlice (named 1) κ′ u32 ∷ ShrSlice (named 2) κ‴ u32 ∷ MutRef (named 3) (α ∷ []) R.the-row ∷ []) passed passed-at) ∷ []) ∵
         join ! $ frame ! $ done !
 
     abbrev Ensured : Outcome → SProp 𝓤
@@ -202,75 +208,81 @@ module _ {M : Type 1} (𝓤 : URA M) (H : Heap 𝓤) (A : Atoms 𝓤) (W : Given
     last o = exE 𝓤 _ (λ ws.
         let Ls : SProp 𝓤 = sem 𝓤 H A (lasts in-place.ended κs passed ws) in
         let E₁ : SProp 𝓤 = fact 𝓤 (o ≡ next .outcome) in
-        let E₂ : SProp 𝓤 = fact 𝓤 (ws .1 .1 .1 .0 ≡ next .run) in
+        let E₂ : SProp 𝓤 = fact 𝓤 (ws .1 .1 .1 .1 .0 ≡ next .run) in
         fact-use 𝓤 (o ≡ next .outcome) (via 𝓤 (sep 𝓤 E₁ E₂) (snd∗ 𝓤 Ls (sep 𝓤 E₁ E₂)) (fst∗ 𝓤 E₁ E₂)) (λ e₁.
-        fact-use 𝓤 (ws .1 .1 .1 .0 ≡ next .run) (via 𝓤 (sep 𝓤 E₁ E₂) (snd∗ 𝓤 Ls (sep 𝓤 E₁ E₂)) (snd∗ 𝓤 E₁ E₂)) (λ e₂.
+        fact-use 𝓤 (ws .1 .1 .1 .1 .0 ≡ next .run) (via 𝓤 (sep 𝓤 E₁ E₂) (snd∗ 𝓤 Ls (sep 𝓤 E₁ E₂)) (snd∗ 𝓤 E₁ E₂)) (λ e₂.
         via 𝓤 Ls (fst∗ 𝓤 Ls (sep 𝓤 E₁ E₂))
         (subst (λ (w : Run). ent 𝓤 Ls (guard 𝓤 (o ≡ next .outcome) (A .res δ (R.the-row .coded .code w)))) e₂
         (qed W (‵ (lasts in-place.ended κs passed ws) ∷ []) ∵ check ! e₁ $
-        fsplit ! $ move ! (1 ∷ []) $ fsplit ! $ move ! (1 ∷ []) $ fsplit ! $ move ! (1 ∷ []) $ fsplit ! $ keep ! (0 ∷ []) $ done !)))))
+        fsplit ! $ move ! (1 ∷ []) $ fsplit ! $ move ! (1 ∷ []) $ fsplit ! $ move ! (1 ∷ []) $ fsplit ! $ move ! (1 ∷ []) $ fsplit ! $ keep ! (0 ∷ []) $ done !)))))
 
   -- ---- the walk
 
   module _ (C : Calls 𝓤 H) (Λ : Loops 𝓤 H) (fm : FmC 𝓤 H (W .laws) C) (known : Triple 𝓤 (C #solver·step-in-place) (Called 𝓤 H A at-mem run)) where
-    walk : Is (ShrSlice (named 0) κ u32) left (left-v ∷ []) → Is (ShrSlice (named 1) κ′ u32) right (right-v ∷ [])
-        → ent 𝓤 (onEntry 𝓤 H A here.signature (κ, (κ′, tt)) (q, (q′, tt)) x at) (WpFn 𝓤 H C Λ code.function (val-d d ∷ left-v ∷ right-v ∷ val-r h ∷ []) Post)
+    walk : Is (ShrSlice (named 0) κ u32) left (left-v ∷ []) → Is (ShrSlice (named 1) κ′ u32) right (right-v ∷ []) → Is (ShrSlice (named 2) κ‴ u32) public (public-v ∷ [])
+        → ent 𝓤 (onEntry 𝓤 H A here.signature (κ, (κ′, (κ‴, tt))) (q, (q′, (q‴, tt))) x at) (WpFn 𝓤 H C Λ code.function (val-d d ∷ left-v ∷ right-v ∷ public-v ∷ val-r h ∷ []) Post)
     unfolding partOf
-    walk left-is right-is =
-        qed W (Tokens ∷ ‵ (owns (D.the-row ∷ ShrSlice (named 0) κ u32 ∷ ShrSlice (named 1) κ′ u32 ∷ R.the-row ∷ []) x at) ∷ []) ∵
-        enter ! C Λ code.function (val-d d ∷ left-v ∷ right-v ∷ val-r h ∷ []) _ $
-        alloc1 ! (λ l₀. alloc1 ! (λ l₁. alloc1 ! (λ l₂. alloc1 ! (λ l₃. alloc1 ! (λ l₄. alloc1 ! (λ l₅. alloc1 ! (λ l₆. alloc1 ! (λ l₇. alloc1 ! (λ l₈. alloc0 ! $ params1 ! $
-        pass1 ! (init ! 14 refl (LL.lawful D.the-type D′.the-laws 𝓤 H A W .typed d _ d-is .0)) $
-        pass1 ! (init ! 12 refl (shr-slice-lawful 𝓤 H A W (named 0) κ u32 .typed left (left-v ∷ []) left-is .0)) $
-        pass1 ! (init ! 10 refl (shr-slice-lawful 𝓤 H A W (named 1) κ′ u32 .typed right (right-v ∷ []) right-is .0)) $
+    walk left-is right-is public-is =
+        qed W (Tokens ∷ ‵ (owns (D.the-row ∷ ShrSlice (named 0) κ u32 ∷ ShrSlice (named 1) κ′ u32 ∷ ShrSlice (named 2) κ‴ u32 ∷ R.the-row ∷ []) x at) ∷ []) ∵
+        enter ! C Λ code.function (val-d d ∷ left-v ∷ right-v ∷ public-v ∷ val-r h ∷ []) _ $
+        alloc1 ! (λ l₀. alloc1 ! (λ l₁. alloc1 ! (λ l₂. alloc1 ! (λ l₃. alloc1 ! (λ l₄. alloc1 ! (λ l₅. alloc1 ! (λ l₆. alloc1 ! (λ l₇. alloc1 ! (λ l₈. alloc1 ! (λ l₉. alloc0 ! $ params1 ! $
+        pass1 ! (init ! 16 refl (LL.lawful D.the-type D′.the-laws 𝓤 H A W .typed d _ d-is .0)) $
+        pass1 ! (init ! 14 refl (shr-slice-lawful 𝓤 H A W (named 0) κ u32 .typed left (left-v ∷ []) left-is .0)) $
+        pass1 ! (init ! 12 refl (shr-slice-lawful 𝓤 H A W (named 1) κ′ u32 .typed right (right-v ∷ []) right-is .0)) $
+        pass1 ! (init ! 10 refl (shr-slice-lawful 𝓤 H A W (named 2) κ‴ u32 .typed public (public-v ∷ []) public-is .0)) $
         pass1 ! (init ! 8 refl (LL.lawful R.the-type R′.the-laws 𝓤 H A W .typed h _ h-is .0)) $ pass0 ! $
-        -- [_8; …; _0; …; the tokens; what the parameters own]: `_5 = run`, `_7 = &mut _5`
+        -- [_9; …; _0; …; the tokens; what the parameters own]: `_6 = run`, `_8 = &mut _6`
         assigns ! (of-opd ! (load ! (from ! (stop !)) (look ! 8 refl))) (from ! (stop !))
         (init ! 6 refl (LL.lawful R.the-type R′.the-laws 𝓤 H A W .typed h _ h-is .0)) $
         assigns ! (addr ! (from ! (stop !))) (from ! (stop !)) (init ! 2 refl (tt, tt)) $
-        -- what the parameters own is taken apart, and `_5` is lent for a lifetime of its own
-        move ! (19 ∷ []) $ fsplit ! $ move ! (1 ∷ []) $ fsplit ! $ move ! (1 ∷ []) $ fsplit ! $ move ! (1 ∷ []) $ fsplit ! $
-        move ! (11 ∷ []) $
-        use1 W (‵ (cellAt fullShare (R.the-row .mir) (val-r h ∷ []) l₅ 0)) (W .laws .at-raw fullShare R′.mir l₅ 0 (val-r h)) $ fjoin ! $
-        fpack ! (List Val) (λ us. fsep (cellAt fullShare (R.the-row .mir) us l₅ 0) (R.the-row .own h us)) (val-r h ∷ []) $
+        -- what the parameters own is taken apart, and `_6` is lent for a lifetime of its own
+        move ! (21 ∷ []) $ fsplit ! $ move ! (1 ∷ []) $ fsplit ! $ move ! (1 ∷ []) $ fsplit ! $ move ! (1 ∷ []) $ fsplit ! $ move ! (1 ∷ []) $ fsplit ! $
+        move ! (12 ∷ []) $
+        use1 W (‵ (cellAt fullShare (R.the-row .mir) (val-r h ∷ []) l₆ 0)) (W .laws .at-raw fullShare R′.mir l₆ 0 (val-r h)) $ fjoin ! $
+        fpack ! (List Val) (λ us. fsep (cellAt fullShare (R.the-row .mir) us l₆ 0) (R.the-row .own h us)) (val-r h ∷ []) $
         lft-new ! tt (λ α. move ! (1 ∷ []) $
-        use1 W (later (some (λ (δ : GName). ‵ (MutRef (named 2) (α ∷ []) R.the-row .own (lent α δ l₅) (vptr l₅ 0 ∷ [])) ⊛ ‵ (flent (α ∷ []) (Body (mem R.the-row) l₅ 0 δ)))))
-        (lends-ref 𝓤 H A W R.the-row (named 2) (α ∷ []) h l₅ 0) $ await ! tt $ pick ! (λ δ. split ! $
-        -- [the reference; the lender's part; α's token; nothing; right; left; d; _8; …]: what `step_in_place` asks, with copies of what the tables own
+        use1 W (later (some (λ (δ : GName). ‵ (MutRef (named 3) (α ∷ []) R.the-row .own (lent α δ l₆) (vptr l₆ 0 ∷ [])) ⊛ ‵ (flent (α ∷ []) (Body (mem R.the-row) l₆ 0 δ)))))
+        (lends-ref 𝓤 H A W R.the-row (named 3) (α ∷ []) h l₆ 0) $ await ! tt $ pick ! (λ δ. split ! $
+        -- [the reference; the lender's part; α's token; nothing; public; right; left; d; _9; …]: what `step_in_place` asks, with copies of what the tables own
         move ! (0 ∷ 3 ∷ []) $ fjoin ! $
-        move ! (3 ∷ []) $ use1 W (‵ Right ⊛ ‵ Right) (shr-slice-copy 𝓤 H A W (named 1) κ′ u32 .twice right (right-v ∷ [])) $ split ! $ move ! (0 ∷ 2 ∷ []) $ fjoin ! $
-        move ! (4 ∷ []) $ use1 W (‵ Left ⊛ ‵ Left) (shr-slice-copy 𝓤 H A W (named 0) κ u32 .twice left (left-v ∷ [])) $ split ! $ move ! (0 ∷ 2 ∷ []) $ fjoin ! $
-        move ! (5 ∷ 0 ∷ []) $ fjoin ! $
-        move ! (22 ∷ []) $ split ! $ move ! (1 ∷ []) $ split ! $ move ! (7 ∷ 1 ∷ []) $ join ! $ move ! (1 ∷ 0 ∷ []) $ join ! $ move ! (1 ∷ 0 ∷ []) $ join ! $
-        use2 W (raw (Called 𝓤 H A at-mem run .pre (to α δ l₅))) (asked α δ l₅) $
-        -- [what it asks; left; right; the lender's part; _8; …; _0; …]: `_6 = step_in_place(_1, _2, _3, _7)`
-        calls-at ! fm (Called 𝓤 H A at-mem run) known (to α δ l₅)
-        (and-then ! (load ! (from ! (stop !)) (look ! 17 refl)) (and-then ! (load ! (from ! (stop !)) (look ! 15 refl))
-        (and-then ! (load ! (from ! (stop !)) (look ! 13 refl)) (and-then ! (load ! (from ! (stop !)) (look ! 6 refl)) (no-more !))))) (λ v.
-        use1 W (later (some (λ (o : Outcome). (Lending α δ l₅ ⊛ ‵ (O.the-row .own o (v ∷ []))) ⊛ raw (Ensured α δ l₅ o)))) (id⊢ 𝓤 _) $ await ! tt $ pick ! (λ o.
-        split ! $ move ! (1 ∷ []) $ use1 W (given (o ≡ next .outcome) (‵ (fres δ (R.the-row .coded .code (next .run))))) (last α δ l₅ o) $ learn ! (λ e.
+        move ! (3 ∷ []) $ use1 W (‵ Public ⊛ ‵ Public) (shr-slice-copy 𝓤 H A W (named 2) κ‴ u32 .twice public (public-v ∷ [])) $ split ! $ move ! (0 ∷ 2 ∷ []) $ fjoin ! $
+        move ! (4 ∷ []) $ use1 W (‵ Right ⊛ ‵ Right) (shr-slice-copy 𝓤 H A W (named 1) κ′ u32 .twice right (right-v ∷ [])) $ split ! $ move ! (0 ∷ 2 ∷ []) $ fjoin ! $
+        move ! (5 ∷ []) $ use1 W (‵ Left ⊛ ‵ Left) (shr-slice-copy 𝓤 H A W (named 0) κ u32 .twice left (left-v ∷ [])) $ split ! $ move ! (0 ∷ 2 ∷ []) $ fjoin ! $
+        move ! (6 ∷ 0 ∷ []) $ fjoin ! $
+        move ! (25 ∷ []) $ split ! $ move ! (1 ∷ []) $ split ! $ move ! (1 ∷ []) $ split ! $
+        move ! (9 ∷ 1 ∷ []) $ join ! $ move ! (1 ∷ 0 ∷ []) $ join ! $ move ! (1 ∷ 0 ∷ []) $ join ! $ move ! (1 ∷ 0 ∷ []) $ join ! $
+        use2 W (raw (Called 𝓤 H A at-mem run .pre (to α δ l₆))) (asked α δ l₆) $
+        -- [what it asks; left; right; public; the lender's part; _9; …; _0; …]: `_7 = step_in_place(_1, _2, _3, _4, _8)`
+        calls-at ! fm (Called 𝓤 H A at-mem run) known (to α δ l₆)
+        (and-then ! (load ! (from ! (stop !)) (look ! 20 refl)) (and-then ! (load ! (from ! (stop !)) (look ! 18 refl))
+        (and-then ! (load ! (from ! (stop !)) (look ! 16 refl)) (and-then ! (load ! (from ! (stop !)) (look ! 14 refl))
+        (and-then ! (load ! (from ! (stop !)) (look ! 7 refl)) (no-more !)))))) (λ v.
+        use1 W (later (some (λ (o : Outcome). (Lending α δ l₆ ⊛ ‵ (O.the-row .own o (v ∷ []))) ⊛ raw (Ensured α δ l₆ o)))) (id⊢ 𝓤 _) $ await ! tt $ pick ! (λ o.
+        split ! $ move ! (1 ∷ []) $ use1 W (given (o ≡ next .outcome) (‵ (fres δ (R.the-row .coded .code (next .run))))) (last α δ l₆ o) $ learn ! (λ e.
         move ! (1 ∷ []) $ split ! $ move ! (1 ∷ []) $ peeks ! O.the-row (Is O.the-row) (shows 𝓤 H A O.the-row) o (v ∷ []) (λ is.
-        -- [what the outcome owns; all tokens; the last value; left; right; the lender's part; _8; …]
-        land ! (from ! (stop !)) (init ! 10 refl (EL.lawful O.the-type O′.the-laws 𝓤 H A W tt .typed o _ is .0)) $
-        rewrite ! 10 (λ (u : Val). ‵ (fat fullShare O′.mir l₆ 0 u)) (spells o v is) refl $ drop ! $
-        split ! $ move ! (1 ∷ []) $ split ! $ move ! (1 ∷ []) $ split ! $ move ! (2 ∷ 1 ∷ []) $ join ! $ move ! (2 ∷ 0 ∷ []) $ join ! $
-        -- [the tables' tokens; α's; the last value; left; right; the lender's part; …]: the lifetime ends, and `_5` comes back at the last value
-        move ! (1 ∷ []) $ lft-end ! tt $ move ! (0 ∷ 5 ∷ 2 ∷ []) $
-        use3 W (later (‵ (partAt R.the-row fullShare (next .run) l₅ 0))) (ref-back 𝓤 H A W R.the-row (α ∷ []) δ (next .run) l₅ 0) $ await ! tt $
+        -- [what the outcome owns; all tokens; the last value; left; right; public; the lender's part; _9; …]
+        land ! (from ! (stop !)) (init ! 11 refl (EL.lawful O.the-type O′.the-laws 𝓤 H A W tt .typed o _ is .0)) $
+        rewrite ! 11 (λ (u : Val). ‵ (fat fullShare O′.mir l₇ 0 u)) (spells o v is) refl $ drop ! $
+        split ! $ move ! (1 ∷ []) $ split ! $ move ! (1 ∷ []) $ split ! $ move ! (1 ∷ []) $ split ! $
+        move ! (2 ∷ 1 ∷ []) $ join ! $ move ! (2 ∷ 0 ∷ []) $ join ! $ move ! (2 ∷ 0 ∷ []) $ join ! $
+        -- [the tables' tokens; α's; the last value; left; right; public; the lender's part; …]: the lifetime ends, and `_6` comes back at the last value
+        move ! (1 ∷ []) $ lft-end ! tt $ move ! (0 ∷ 6 ∷ 2 ∷ []) $
+        use3 W (later (‵ (partAt R.the-row fullShare (next .run) l₆ 0))) (ref-back 𝓤 H A W R.the-row (α ∷ []) δ (next .run) l₆ 0) $ await ! tt $
         fpick ! (λ vs. fsplit ! $
-        spelt ! R.the-row (Is R.the-row) (shows 𝓤 H A R.the-row) (LL.vals R.the-type R′.the-laws) (LL.tells R.the-type R′.the-laws) fullShare (next .run) vs l₅ 0 $
+        spelt ! R.the-row (Is R.the-row) (shows 𝓤 H A R.the-row) (LL.vals R.the-type R′.the-laws) (LL.tells R.the-type R′.the-laws) fullShare (next .run) vs l₆ 0 $
         move ! (1 ∷ []) $ peeks ! R.the-row (Is R.the-row) (shows 𝓤 H A R.the-row) (next .run) (val-r (next .run) ∷ []) (λ run-is. drop ! $
-        use1 W (‵ (fat fullShare R′.mir l₅ 0 (val-r (next .run)))) (W .laws .raw-at fullShare R′.mir l₅ 0 (val-r (next .run))) $
-        -- [_5; the tables' tokens; left; right; _8; …; _6; …; _4; …; _0; …]: `_8 = _5`, `_0 = Stepped { _6, _8 }`
+        use1 W (‵ (fat fullShare R′.mir l₆ 0 (val-r (next .run)))) (W .laws .raw-at fullShare R′.mir l₆ 0 (val-r (next .run))) $
+        -- [_6; the tables' tokens; left; right; public; _9; …; _7; …; _5; …; _0; …]: `_9 = _6`, `_0 = Stepped { _7, _9 }`
         assigns ! (of-opd ! (load ! (from ! (stop !)) (look ! 0 refl))) (from ! (stop !))
-        (init ! 4 refl (LL.lawful R.the-type R′.the-laws 𝓤 H A W .typed (next .run) _ run-is .0)) $
-        assigns ! (agg ! (and-then ! (load ! (from ! (stop !)) (look ! 8 refl)) (and-then ! (load ! (from ! (stop !)) (look ! 4 refl)) (no-more !)))) (from ! (stop !))
-        (init ! 19 refl (LL.lawful S.the-type S′.the-laws 𝓤 H A W .typed (gives o) _ (both o (outcome-is o v is) run-is) .0)) $
-        returns ! (look ! 19 refl) $
-        forget ! 0 refl $ forget ! 4 refl $ forget ! 6 refl $ forget ! 8 refl $ forget ! 11 refl $ forget ! 13 refl $ forget ! 15 refl $ forget ! 17 refl $ forget ! 19 refl $
-        move ! (19 ∷ 20 ∷ []) $ free1 ! $ move ! (17 ∷ 18 ∷ []) $ free1 ! $ move ! (15 ∷ 16 ∷ []) $ free1 ! $ move ! (13 ∷ 14 ∷ []) $ free1 ! $ move ! (11 ∷ 12 ∷ []) $ free1 ! $
-        move ! (0 ∷ 10 ∷ []) $ free1 ! $ move ! (7 ∷ 8 ∷ []) $ free1 ! $ move ! (5 ∷ 6 ∷ []) $ free1 ! $ move ! (3 ∷ 4 ∷ []) $ free1 ! $ free0 ! $
-        keep ! (0 ∷ 1 ∷ 2 ∷ []) $ by ! (exits (gives o) (ap gives e) (both o (outcome-is o v is) run-is)))))))))))))))))))
+        (init ! 5 refl (LL.lawful R.the-type R′.the-laws 𝓤 H A W .typed (next .run) _ run-is .0)) $
+        assigns ! (agg ! (and-then ! (load ! (from ! (stop !)) (look ! 9 refl)) (and-then ! (load ! (from ! (stop !)) (look ! 5 refl)) (no-more !)))) (from ! (stop !))
+        (init ! 22 refl (LL.lawful S.the-type S′.the-laws 𝓤 H A W .typed (gives o) _ (both o (outcome-is o v is) run-is) .0)) $
+        returns ! (look ! 22 refl) $
+        forget ! 0 refl $ forget ! 5 refl $ forget ! 7 refl $ forget ! 9 refl $ forget ! 12 refl $ forget ! 14 refl $ forget ! 16 refl $ forget ! 18 refl $ forget ! 20 refl $ forget ! 22 refl $
+        move ! (22 ∷ 23 ∷ []) $ free1 ! $ move ! (20 ∷ 21 ∷ []) $ free1 ! $ move ! (18 ∷ 19 ∷ []) $ free1 ! $ move ! (16 ∷ 17 ∷ []) $ free1 ! $ move ! (14 ∷ 15 ∷ []) $ free1 ! $
+        move ! (12 ∷ 13 ∷ []) $ free1 ! $
+        move ! (0 ∷ 11 ∷ []) $ free1 ! $ move ! (8 ∷ 9 ∷ []) $ free1 ! $ move ! (6 ∷ 7 ∷ []) $ free1 ! $ move ! (4 ∷ 5 ∷ []) $ free1 ! $ free0 ! $
+        keep ! (0 ∷ 1 ∷ 2 ∷ 3 ∷ []) $ by ! (exits (gives o) (ap gives e) (both o (outcome-is o v is) run-is))))))))))))))))))))
 
 -- ---- from the walk to the contract
 
@@ -279,17 +291,30 @@ module _ {M : Type 1} (𝓤 : URA M) (H : Heap 𝓤) (A : Atoms 𝓤) (W : Given
       → Walks 𝓤 H A here.ended stayed (WpFn 𝓤 H C Λ code.function) (here.clauses 𝓤 H A at-mem run)
   here-walks C Λ fm known =
       walked 𝓤 H A here.ended stayed (here.clauses 𝓤 H A at-mem run) (WpFn 𝓤 H C Λ code.function)
-      (λ κs. (LL.vals D.the-type D′.the-laws, (slice-vals, (slice-vals, (LL.vals R.the-type R′.the-laws, tt)))))
-      (λ κs. (LL.tells D.the-type D′.the-laws, (shr-slice-tells (named 0) (κs .0) u32, (shr-slice-tells (named 1) (κs .1 .0) u32, (LL.tells R.the-type R′.the-laws, tt)))))
+      (λ κs. (LL.vals D.the-type D′.the-laws, (slice-vals, (slice-vals, (slice-vals, (LL.vals R.the-type R′.the-laws, tt))))))
+      (λ κs. (
+        LL.tells D.the-type D′.the-laws,
+        (
+          shr-slice-tells (named 0) (κs .0) u32,
+          (
+            shr-slice-tells (named 1) (κs .1 .0) u32,
+            (shr-slice-tells (named 2) (κs .1 .1 .0) u32, (LL.tells R.the-type R′.the-laws, tt)),
+          ),
+        ),
+      ))
       (λ κs qs bounds a g are. via 𝓤 _ (fst∗ 𝓤 _ (emp 𝓤))
-      (walk 𝓤 H A W at-mem run (κs .0) (κs .1 .0) bounds (qs .0) (qs .1 .0) (a .0) (are .0) (a .1 .0) (a .1 .1 .0) (a .1 .1 .1 .0) (are .1 .1 .1 .0) C Λ fm known (are .1 .0) (are .1 .1 .0)))
+      (walk 𝓤 H A W at-mem run (κs .0) (κs .1 .0) (κs .1 .1 .0) bounds (qs .0) (qs .1 .0) (qs .1 .1 .0) (a .0) (are .0) (a .1 .0) (a .1 .1 .0) (a .1 .1 .1 .0) (a .1 .1 .1 .1 .0) (are .1 .1 .1 .1 .0) C Λ fm known
+      (are .1 .0) (are .1 .1 .0) (are .1 .1 .1 .0)))
 
-  goes : AllGo 𝓤 H A W 2 (here.signature .params) (here.ended .kept) stayed
+  goes : AllGo 𝓤 H A W 3 (here.signature .params) (here.ended .kept) stayed
   goes = (
-    goes-none 𝓤 H A W 2 (λ _. D.the-row) yes (λ κs x f. refl),
+    goes-none 𝓤 H A W 3 (λ _. D.the-row) yes (λ κs x f. refl),
     (
-      goes-none-slice 𝓤 H A W 2 (0 ∷ []) tt words yes,
-      (goes-none-slice 𝓤 H A W 2 (1 ∷ []) tt words yes, (goes-none 𝓤 H A W 2 (λ _. R.the-row) yes (λ κs x f. refl), tt)),
+      goes-none-slice 𝓤 H A W 3 (0 ∷ []) tt words yes,
+      (
+        goes-none-slice 𝓤 H A W 3 (1 ∷ []) tt words yes,
+        (goes-none-slice 𝓤 H A W 3 (2 ∷ []) tt words yes, (goes-none 𝓤 H A W 3 (λ _. R.the-row) yes (λ κs x f. refl), tt)),
+      ),
     ),
   )
 
