@@ -9,12 +9,13 @@ use lib.ListN.{length}
 use Rattle.words.proofs.Truth.{and-l, and-r}
 use Rattle.dimensions.specs.declared.Dimensions.{Dimensions}
 use Rattle.dimensions.specs.Sizes.{inputWires}
+use Rattle.dimensions.proofs.Limits.{Within}
 use Rattle.gates.specs.Gates.{Gate}
 use Rattle.gates.specs.Memory.{gatesOf, wordsOf, accepted}
 use Rattle.gates.proofs.Circuits.{reads, ordered}
 use Rattle.gates.proofs.InMemory.{accepted-length, accepted-ordered, words-gates}
-use Rattle.bristol_line.specs.Lines.{inputLine, outputLine}
-use Rattle.bristol_line.proofs.Injective.{inputFields, size-split, input-split, output-split, gate-split, gate-some, Within, dimensions-injective}
+use Rattle.bristol_line.specs.Lines.{inputFields, inputLine, outputLine}
+use Rattle.bristol_line.proofs.Injective.{size-split, input-split, output-split, gate-split, gate-some, dimensions-injective}
 use Rattle.bristol.specs.Text.{gateLines, linesOf, circuitText}
 
 gates-injective : (m : ℕ) (fs gs : List Gate) → m + length fs ≤ 2 ^ 64 → m + length gs ≤ 2 ^ 64 → ordered m fs ≡ true → ordered m gs ≡ true

@@ -4,12 +4,12 @@ use mathlib.Core.Path.{_≡_, refl, sym, ap, _∙_}
 use mathlib.Core.Bool.{true}
 use mathlib.Core.List.{List, [], _∷_}
 use Prim.Native.Nat.{ℕ, zero, suc, _+_, _-_, _*_, _/_, _≤_}
-use native.Mathlib.Nat.{add-zero}
+use native.Mathlib.Nat.{add-zero, mul-le-mul, mul-le-mul-left}
 use native.Mathlib.Omega.{arith}
 use lib.ListN.{length, getD}
 use Rattle.dimensions.specs.declared.Dimensions.{Dimensions}
-use Rattle.dimensions.specs.Sizes.{inputWires}
-use Rattle.dimensions.proofs.Products.{product}
+use Rattle.dimensions.specs.Sizes.{rowCount, inputWires}
+use Rattle.dimensions.proofs.Limits.{Within}
 use Rattle.gates.specs.Gates.{Gate}
 use Rattle.gates.specs.Memory.{gateOf, gatesOf, accepted}
 use Rattle.gates.proofs.InMemory.{accepted-length}
@@ -46,9 +46,12 @@ gate-line-at wire (k ∷ a ∷ b ∷ ws) (suc i) h =
     let next : wire + suc i ≡ suc wire + i = omega arith in
     rw (first, second, third, next) (gate-line-at (suc wire) ws i (omega arith))
 
--- the inputs of any dimensions are few
-pub inputs-small : (d : Dimensions) → d .n ≤ 255 → d .left ≤ 255 → d .right ≤ 255 → inputWires d ≤ 17179869184
-inputs-small d n l r = omega (arith, product (2 * d .n) (d .left + d .right) (omega arith) (omega arith), product (3 * d .n) (d .n) (omega arith) (omega arith))
+-- the inputs of dimensions within the limits are few
+pub inputs-small : (d : Dimensions) → Within d → inputWires d ≤ 27747
+inputs-small d w =
+    let rows : 2 * d .n * rowCount d ≤ 64 * 384 = mul-le-mul (mul-le-mul-left 2 (w .n-most)) (w .rows-most) in
+    let square : 3 * d .n * d .n ≤ 96 * 32 = mul-le-mul (mul-le-mul-left 3 (w .n-most)) (w .n-most) in
+    omega (arith, w .n-most)
 
 -- ---- no line is long
 

@@ -1,7 +1,7 @@
 -- What asking for a line gives, by what its checks find: each law computes the list of checks.
 -- Assumes nothing.
 use mathlib.Core.Path.{_≡_, refl, sym, ap, subst, _∙_}
-use mathlib.Core.Bool.{Bool, true, false, not, _||_, cond}
+use mathlib.Core.Bool.{Bool, true, false, not, cond}
 use mathlib.Core.List.{List, [], _∷_, _++_, flatten}
 use mathlib.Core.Logic.{⊎-elim}
 use Prim.Native.Nat.{ℕ, _+_, _/_, _≤_, _<_}
@@ -13,14 +13,15 @@ use denote.Enum.Declared.{tagOf}
 use lib.ListN.{length, take, drop, List·getD-eq-default}
 use lib.Seq.{take-length}
 use Rattle.refusals.specs.declared.Refusal.{Refusal}
-use Rattle.refusals.specs.declared.Refusal.the-variants.{Variables, RowCount, Gates, LineBuffer}
+use Rattle.refusals.specs.declared.Refusal.the-variants.{Gates, LineBuffer}
 use Rattle.refusals.specs.declared.Outcome.{Outcome}
 use Rattle.refusals.specs.declared.Outcome.the-variants.{Taken, Refused}
 use Rattle.refusals.specs.Checks.{check, outcome, given}
 use Rattle.refusals.specs.Numbers.{said}
-use Rattle.refusals.proofs.Outcomes.{outcome-taken, outcome-refused, check-passed, checks-taken, given-said}
+use Rattle.refusals.proofs.Outcomes.{outcome-taken, outcome-refused, outcome-parts, check-passed, given-said}
 use Rattle.dimensions.specs.declared.Dimensions.{Dimensions}
-use Rattle.dimensions.specs.Sizes.{outside, sizeChecks, inputWires}
+use Rattle.dimensions.specs.Sizes.{sizeChecks, inputWires}
+use Rattle.dimensions.proofs.Limits.{Within, within}
 use Rattle.gates.specs.Memory.{gatesOf, accepted, over}
 use Rattle.bristol.specs.declared.Written.{Written}
 use Rattle.bristol.specs.declared.Written.the-variants as W
@@ -32,13 +33,13 @@ use Rattle.bristol.proofs.Written.{the-type}
 use Rattle.bristol.proofs.Numbering.{lines-of-words}
 
 module _ (d : Dimensions) (ws : List ℕ) where
-  pub refuse-size : (q : Refusal) → outcome (sizeChecks (d .n) (d .left) (d .right)) ≡ Refused q → Refused q ≡ outcome (circuitChecks d ws)
-  refuse-size q e = sym (outcome-refused (sizeChecks (d .n) (d .left) (d .right)) (check (not (accepted (inputWires d) ws)) Gates ∷ []) q e)
+  pub refuse-size : (q : Refusal) → outcome (sizeChecks d) ≡ Refused q → Refused q ≡ outcome (circuitChecks d ws)
+  refuse-size q e = sym (outcome-refused (sizeChecks d) (check (not (accepted (inputWires d) ws)) Gates ∷ []) q e)
 
-  module _ (s : outcome (sizeChecks (d .n) (d .left) (d .right)) ≡ Taken) where
+  module _ (s : outcome (sizeChecks d) ≡ Taken) where
     -- the checks on the sizes are passed: the gates decide
     by-gates : outcome (circuitChecks d ws) ≡ outcome (check (not (accepted (inputWires d) ws)) Gates ∷ [])
-    by-gates = outcome-taken (sizeChecks (d .n) (d .left) (d .right)) (check (not (accepted (inputWires d) ws)) Gates ∷ []) s
+    by-gates = outcome-taken (sizeChecks d) (check (not (accepted (inputWires d) ws)) Gates ∷ []) s
 
     pub refuse-gates : not (accepted (inputWires d) ws) ≡ true → Refused Gates ≡ outcome (circuitChecks d ws)
     refuse-gates e = sym (by-gates ∙ ap (λ (b : Bool). outcome (check b Gates ∷ [])) e)
@@ -46,12 +47,15 @@ module _ (d : Dimensions) (ws : List ℕ) where
     pub take-circuit : not (accepted (inputWires d) ws) ≡ false → Taken ≡ outcome (circuitChecks d ws)
     take-circuit e = sym (by-gates ∙ ap (λ (b : Bool). outcome (check b Gates ∷ [])) e)
 
-  -- a circuit that is taken has accepted gates
+  -- a circuit that is taken has dimensions within the limits
+  pub taken-within : outcome (circuitChecks d ws) ≡ Taken → Within d
+  taken-within e = within d (outcome-parts (sizeChecks d) (check (not (accepted (inputWires d) ws)) Gates ∷ []) e .0)
+
+  -- and accepted gates
   pub taken-accepted : outcome (circuitChecks d ws) ≡ Taken → accepted (inputWires d) ws ≡ true
   taken-accepted e =
-      let gates = cond (not (accepted (inputWires d) ws)) (Refused Gates) Taken in
-      let rows = cond (outside 128 (d .left) || outside 128 (d .right)) (Refused RowCount) gates in
-      not-false _ (check-passed (not (accepted (inputWires d) ws)) Gates Taken (checks-taken (outside 128 (d .left) || outside 128 (d .right)) RowCount gates (checks-taken (outside 32 (d .n)) Variables rows e)))
+      let gates = not (accepted (inputWires d) ws) in
+      not-false _ (check-passed gates Gates Taken (outcome-parts (sizeChecks d) (check gates Gates ∷ []) e .1))
 
   -- and so many lines
   pub taken-lines : outcome (circuitChecks d ws) ≡ Taken → length (linesOf d (gatesOf ws)) ≡ 4 + length ws / 3

@@ -18,7 +18,7 @@ use Rattle.bristol.specs.Text.{linesOf}
 
 -- 1, 2, 9: words that are no gates behind the inputs
 abbrev pub circuitChecks : Dimensions → List ℕ → List Check
-circuitChecks d words = sizeChecks (d .n) (d .left) (d .right) ++ (check (not (accepted (inputWires d) words)) Gates ∷ [])
+circuitChecks d words = sizeChecks d ++ (check (not (accepted (inputWires d) words)) Gates ∷ [])
 
 -- the line of a number, from 0, with its LF; past the last line no byte
 abbrev pub lineAt : Dimensions → List ℕ → ℕ → List ℕ

@@ -4,14 +4,12 @@ use dimensions::Dimensions;
 use refusals::Outcome;
 use refusals::Refusal;
 ghost use mathlib.Core.Path.{_≡_};
-ghost use mathlib.Core.Bool.{true};
 ghost use mathlib.Core.List.{[], _∷_, flatten};
 ghost use Prim.Native.Nat.{_+_, _/_, _^_, _<_};
 ghost use lib.ListN.{length, getD};
 ghost use Rattle.refusals.specs.Checks.{outcome};
 ghost use Rattle.refusals.specs.Numbers.{said};
 ghost use Rattle.refusals.specs.declared.Outcome.the-variants.{Taken};
-ghost use Rattle.dimensions.specs.Sizes.{inputWires};
 ghost use Rattle.gates.specs.Memory as Memory;
 ghost use Rattle.bristol_line.specs.ByValue.{lineOf};
 ghost use Rattle.bristol.specs.Text.{gateLines};
@@ -114,7 +112,7 @@ fn check(d: Dimensions, gates: &[u32]) -> Outcome
 
 // A line of accepted gates' text.
 fn line_text(d: Dimensions, gates: &[u32], line: usize) -> Line
-    requires { ⌜ Memory.accepted (inputWires d) (now gates) ≡ true ⌝ }
+    requires { ⌜ outcome (circuitChecks d (now gates)) ≡ Taken ⌝ }
     requires { ⌜ line < 4 + length (now gates) / 3 ⌝ }
     ensures { λ r. ⌜ r ≡ lineOf (lineAt d (now (gates .entry)) line) ⌝ }
 {

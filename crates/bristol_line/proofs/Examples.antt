@@ -1,18 +1,23 @@
--- Document 01's lines, computed: the second and third header line for n = 1 and one row each, and its three gate lines.
+-- Document 01's lines, computed: the second and third header line for n = 1 and one row each, and its three gate lines; and the second with public rows.
 -- Assumes nothing.
 use mathlib.Core.Path.{_≡_, refl}
 use Rattle.lexer.specs.Spelling.{bytes}
 use Rattle.text.specs.Decimal.{decimalWithin, decimal}
 use Rattle.dimensions.specs.declared.Dimensions.{Dimensions}
+use Rattle.dimensions.specs.Sizes.{dimensions}
 use Rattle.gates.specs.Gates.Gate.{XOR, AND, INV}
 use Rattle.bristol_line.specs.Lines.{inputLine, outputLine, gateLine}
 
 abbrev one : Dimensions
-one = record { n = 1; left = 1; right = 1 }
+one = dimensions 1 1 1 0
 
 pub second-header : inputLine one ≡ bytes "3 2 2 9\n"
 unfolding decimal decimalWithin
 second-header = refl
+
+pub public-header : inputLine (dimensions 1 1 1 1) ≡ bytes "4 2 2 2 9\n"
+unfolding decimal decimalWithin
+public-header = refl
 
 pub third-header : outputLine one ≡ bytes "2 9 1\n"
 unfolding decimal decimalWithin

@@ -1,13 +1,13 @@
 -- A line determines what it says. No field holds a space or an LF, so a line parts into its fields, and a number is determined by its digits.
 -- Assumes nothing.
 use mathlib.Core.Path.{_≡_, refl, sym, ap, ap₂, _∙_}
-use mathlib.Core.Bool.{Bool, true, false, _&&_, false≢true}
+use mathlib.Core.Bool.{Bool, true, false, _&&_, cond, false≢true}
 use mathlib.Core.List.{List, [], _∷_, _++_, append-assoc}
 use Prim.Native.Nat.{ℕ, _*_, _^_, _≤_, _<_}
 use native.Mathlib.Nat.{mul-le-mul, mul-le-mul-left, eq-of-mul-eq-mul-left}
 use native.Mathlib.Omega.{arith}
-use borrow.Author.Tests.{ltb-true, ltb-false}
-use lib.Dec.{ltb}
+use borrow.Author.Tests.{ltb-true, ltb-false, eqb-true}
+use lib.Dec.{eqb, ltb}
 use lib.ListN.{getD}
 use Rattle.words.proofs.Truth.{and-l, and-r, and-i, on}
 use Rattle.lexer.specs.Spelling.{bytes}
@@ -15,12 +15,13 @@ use Rattle.text.specs.Decimal.{decimal}
 use Rattle.text.proofs.Decimals.{decimal-injective}
 use Rattle.text.proofs.Fields.{plain, decimal-plain, field-split}
 use Rattle.dimensions.specs.declared.Dimensions.{Dimensions}
-use Rattle.dimensions.specs.Sizes.{stateWires}
+use Rattle.dimensions.specs.Sizes.{dimensions, stateWires}
+use Rattle.dimensions.proofs.Limits.{Within}
 use Rattle.dimensions.proofs.Products.{product}
 use Rattle.gates.specs.Gates.{Gate}
 use Rattle.gates.specs.Gates.Gate.{XOR, AND, INV}
 use Rattle.gates.proofs.Circuits.{reads}
-use Rattle.bristol_line.specs.Lines.{line, sizeLine, inputLine, outputLine, gateFields, gateLine}
+use Rattle.bristol_line.specs.Lines.{line, sizeLine, threeValues, fourValues, inputFields, inputLine, outputLine, gateFields, gateLine}
 
 -- ---- a line's fields
 
@@ -94,9 +95,6 @@ gate-some wire (INV a) t e = let z : _≡_ {A = ℕ} 49 0 = ap (λ (l : List ℕ
 abbrev sizeFields : ℕ → ℕ → List (List ℕ)
 sizeFields gates wires = decimal gates ∷ decimal wires ∷ []
 
-abbrev pub inputFields : Dimensions → List (List ℕ)
-inputFields d = bytes "3" ∷ decimal (2 * d .n * d .left) ∷ decimal (2 * d .n * d .right) ∷ decimal (stateWires (d .n)) ∷ []
-
 abbrev outputFields : Dimensions → List (List ℕ)
 outputFields d = bytes "2" ∷ decimal (stateWires (d .n)) ∷ bytes "1" ∷ []
 
@@ -104,7 +102,11 @@ size-plain : (gates wires : ℕ) → plains (sizeFields gates wires) ≡ true
 size-plain gates wires = and-i (decimal-plain gates) (decimal-plain wires)
 
 input-plain : (d : Dimensions) → plains (inputFields d) ≡ true
-input-plain d = and-i (decimal-plain (2 * d .n * d .left)) (and-i (decimal-plain (2 * d .n * d .right)) (decimal-plain (stateWires (d .n))))
+input-plain d = go (eqb (d .public) 0)
+  where
+    go : (b : Bool) → plains (cond b (threeValues d) (fourValues d)) ≡ true
+    go true = and-i (decimal-plain _) (and-i (decimal-plain _) (decimal-plain _))
+    go false = and-i (decimal-plain _) (and-i (decimal-plain _) (and-i (decimal-plain _) (decimal-plain _)))
 
 output-plain : (d : Dimensions) → plains (outputFields d) ≡ true
 output-plain d = and-i (decimal-plain (stateWires (d .n))) refl
@@ -122,13 +124,6 @@ output-split d e s t h = line-split (outputFields d) (outputFields e) s t (outpu
 
 -- ---- the dimensions
 
--- what dimensions within the limits have
-pub record Within (d : Dimensions) : Type 0 where
-  pub least : 1 ≤ d .n
-  pub n-most : d .n ≤ 32
-  pub left-most : d .left ≤ 128
-  pub right-most : d .right ≤ 128
-
 -- more variables have more wires
 state-less : (n m : ℕ) → n < m → stateWires n ≡ stateWires m → ⊥
 state-less n m h e = let squares : 3 * n * n ≤ 3 * m * m = mul-le-mul (mul-le-mul-left 3 (omega arith)) (omega arith) in omega arith
@@ -144,16 +139,32 @@ rows-below n rows h k = omega (arith, product (2 * n) rows (omega arith) (omega 
 state-below : (n : ℕ) → n ≤ 32 → stateWires n < 2 ^ 64
 state-below n h = omega (arith, product (3 * n) n (omega arith) (omega arith))
 
+-- two tables of dimensions with the same n
 same-rows : (n m a b : ℕ) → n ≡ m → 1 ≤ n → n ≤ 32 → a ≤ 128 → b ≤ 128 → decimal (2 * n * a) ≡ decimal (2 * m * b) → a ≡ b
 same-rows n m a b e least most ha hb h =
     let h′ : decimal (2 * n * a) ≡ decimal (2 * n * b) = h ∙ ap (λ (k : ℕ). decimal (2 * k * b)) (sym e) in
     eq-of-mul-eq-mul-left (2 * n) (omega arith) a b
     (decimal-injective (2 * n * a) (2 * n * b) (rows-below n a most ha) (rows-below n b most hb) h′)
 
-pub dimensions-injective : (d e : Dimensions) → Within d → Within e → inputFields d ≡ inputFields e → d ≡ e
-dimensions-injective d e wd we h =
-    let n : d .n ≡ e .n = state-injective (d .n) (e .n)
-    (decimal-injective (stateWires (d .n)) (stateWires (e .n)) (state-below (d .n) (wd .n-most)) (state-below (e .n) (we .n-most)) cc) in
-    let left : d .left ≡ e .left = same-rows (d .n) (e .n) (d .left) (e .left) n (wd .least) (wd .n-most) (wd .left-most) (we .left-most) cc in
-    let right : d .right ≡ e .right = same-rows (d .n) (e .n) (d .right) (e .right) n (wd .least) (wd .n-most) (wd .right-most) (we .right-most) cc in
-    λ i. record { n = n i; left = left i; right = right i }
+module _ (d e : Dimensions) (wd : Within d) (we : Within e) where
+  -- the widths that both lines have, and the public rows
+  same-widths : decimal (stateWires (d .n)) ≡ decimal (stateWires (e .n)) → decimal (2 * d .n * d .left) ≡ decimal (2 * e .n * e .left)
+      → decimal (2 * d .n * d .right) ≡ decimal (2 * e .n * e .right) → (d .n ≡ e .n → d .public ≡ e .public) → d ≡ e
+  same-widths s l r p =
+      let n : d .n ≡ e .n = state-injective (d .n) (e .n)
+      (decimal-injective (stateWires (d .n)) (stateWires (e .n)) (state-below (d .n) (wd .n-most)) (state-below (e .n) (we .n-most)) s) in
+      let left : d .left ≡ e .left = same-rows (d .n) (e .n) (d .left) (e .left) n (wd .n-least) (wd .n-most) (wd .left-most) (we .left-most) l in
+      let right : d .right ≡ e .right = same-rows (d .n) (e .n) (d .right) (e .right) n (wd .n-least) (wd .n-most) (wd .right-most) (we .right-most) r in
+      let public : d .public ≡ e .public = p n in
+      λ i. dimensions (n i) (left i) (right i) (public i)
+
+  -- three values or four: the first field tells
+  pub dimensions-injective : inputFields d ≡ inputFields e → d ≡ e
+  dimensions-injective h = go (eqb (d .public) 0) (eqb (e .public) 0) refl refl h
+    where
+      go : (a b : Bool) → eqb (d .public) 0 ≡ a → eqb (e .public) 0 ≡ b → cond a (threeValues d) (fourValues d) ≡ cond b (threeValues e) (fourValues e) → d ≡ e
+      go true true p q h = same-widths (cc) (cc) (cc) (λ n. eqb-true (d .public) 0 p ∙ sym (eqb-true (e .public) 0 q))
+      go false false p q h =
+          same-widths (cc) (cc) (cc) (λ n. same-rows (d .n) (e .n) (d .public) (e .public) n (wd .n-least) (wd .n-most) (wd .public-most) (we .public-most) cc)
+      go true false p q h = absurd (let z : _≡_ {A = ℕ} 51 52 = differ _ _ 0 h in omega arith)
+      go false true p q h = absurd (let z : _≡_ {A = ℕ} 52 51 = differ _ _ 0 h in omega arith)

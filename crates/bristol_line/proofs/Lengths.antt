@@ -1,9 +1,11 @@
 -- No line is longer than 127 bytes: it has at most six fields, of at most 20 bytes each. So a line by value holds it whole.
 -- Assumes nothing.
 use mathlib.Core.Path.{_≡_, ap, ap₂, _∙_}
+use mathlib.Core.Bool.{Bool, true, false, cond}
 use mathlib.Core.List.{List, [], _∷_}
 use Prim.Native.Nat.{ℕ, _+_, _*_, _≤_}
 use native.Mathlib.Omega.{arith}
+use lib.Dec.{eqb}
 use lib.ListN.{length, take, drop, replicate, length-append}
 use lib.Seq.{sets, sets-eq, length-sets, take-append-seam}
 use Rattle.lexer.specs.Spelling.{bytes}
@@ -14,7 +16,7 @@ use Rattle.dimensions.specs.Sizes.{stateWires}
 use Rattle.gates.specs.Gates.{Gate}
 use Rattle.gates.specs.Gates.Gate.{XOR, AND, INV}
 use Rattle.bristol_line.specs.declared.Line.{Line}
-use Rattle.bristol_line.specs.Lines.{line, sizeLine, inputLine, outputLine, gateLine}
+use Rattle.bristol_line.specs.Lines.{line, sizeLine, threeValues, fourValues, inputLine, outputLine, gateLine}
 use Rattle.bristol_line.specs.ByValue.{lineOf}
 
 -- fields of at most 20 bytes
@@ -31,11 +33,11 @@ pub size-length : (gates wires : ℕ) → length (sizeLine gates wires) ≤ 127
 size-length gates wires = omega (arith, line-length (decimal gates ∷ decimal wires ∷ []) (decimal-length gates, (decimal-length wires, tt)))
 
 pub input-length : (d : Dimensions) → length (inputLine d) ≤ 127
-input-length d =
-    let l = 2 * d .n * d .left in
-    let r = 2 * d .n * d .right in
-    let s = stateWires (d .n) in
-    omega (arith, line-length (bytes "3" ∷ decimal l ∷ decimal r ∷ decimal s ∷ []) (omega arith, (decimal-length l, (decimal-length r, (decimal-length s, tt)))))
+input-length d = go (eqb (d .public) 0)
+  where
+    go : (b : Bool) → length (line (cond b (threeValues d) (fourValues d))) ≤ 127
+    go true = omega (arith, line-length (threeValues d) (omega arith, (decimal-length _, (decimal-length _, (decimal-length _, tt)))))
+    go false = omega (arith, line-length (fourValues d) (omega arith, (decimal-length _, (decimal-length _, (decimal-length _, (decimal-length _, tt))))))
 
 pub output-length : (d : Dimensions) → length (outputLine d) ≤ 127
 output-length d =

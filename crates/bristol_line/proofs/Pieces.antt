@@ -2,12 +2,13 @@
 -- Assumes nothing.
 use mathlib.Core.Path.{_≡_, refl, sym, ap, ap₂, _∙_}
 use mathlib.Core.List.{List, [], _∷_, _++_}
-use Prim.Native.Nat.{ℕ, _+_, _/_, _%_, _^_, _≤_, _<_}
+use Prim.Native.Nat.{ℕ, _+_, _*_, _/_, _%_, _^_, _≤_, _<_}
 use native.Mathlib.Numerals.{unary-clauses}
 use native.Mathlib.Omega.{arith}
 use lib.ListN.{length, getD, set, replicate, length-append}
 use lib.Seq.{sets}
 use Rattle.words.proofs.Stores.{sets-append}
+use Rattle.dimensions.proofs.Products.{product}
 use Rattle.text.specs.Decimal.{decimal}
 use Rattle.text.proofs.Decimals.{decimal-digit, decimal-step}
 use Rattle.bristol_line.specs.ByValue.{lineOf}
@@ -51,29 +52,35 @@ number-more l out x at end h f e =
     let step = sym (decimal-step x h f) in
     (p .0 ∙ ap (λ (d : List ℕ). at + length d) step, p .1 ∙ ap (sets l at) step)
 
+-- a row's wires times a row count, whichever
+pub width-fits : (a b : ℕ) → a ≤ 65536 → b ≤ 65536 → a * b < 2 ^ 64
+width-fits a b h k = omega (arith, product a b h k)
+
 -- ---- lines
 
--- a number and a space, a number and LF
-abbrev pub spaced : ℕ → List ℕ
-spaced x = decimal x ++ (32 ∷ [])
-
+-- a number and LF
 abbrev pub ended : ℕ → List ℕ
 ended x = decimal x ++ (10 ∷ [])
 
+-- pieces from the front on: one, three, four, five
+module _ (l : List ℕ) where
+  pub one-piece : (a r : List ℕ) (g : ℕ) → (g ≡ length a) × (r ≡ sets l 0 a) → Piece l 0 r g a
+  one-piece a r g p = (omega (arith, p .0), p .1)
+
+  pub three-pieces : (a b c r s t : List ℕ) (g h i : ℕ) → Piece l 0 r g a → Piece r g s h b → Piece s h t i c → Piece l 0 t i ((a ++ b) ++ c)
+  three-pieces a b c r s t g h i p q v = further l s t (a ++ b) c 0 h i (further l r s a b 0 g h p q) v
+
+  pub four-pieces : (a b c d r s t u : List ℕ) (g h i j : ℕ) → Piece l 0 r g a → Piece r g s h b → Piece s h t i c → Piece t i u j d
+      → Piece l 0 u j (((a ++ b) ++ c) ++ d)
+  four-pieces a b c d r s t u g h i j p q v w = further l t u ((a ++ b) ++ c) d 0 i j (three-pieces a b c r s t g h i p q v) w
+
+  pub five-pieces : (a b c d e r s t u v : List ℕ) (g h i j k : ℕ) → Piece l 0 r g a → Piece r g s h b → Piece s h t i c → Piece t i u j d → Piece u j v k e
+      → Piece l 0 v k ((((a ++ b) ++ c) ++ d) ++ e)
+  five-pieces a b c d e r s t u v g h i j k p q w x y = further l u v (((a ++ b) ++ c) ++ d) e 0 j k (four-pieces a b c d r s t u g h i j p q w x) y
+
 -- where a line is written
-abbrev zeros : List ℕ
+abbrev pub zeros : List ℕ
 zeros = replicate 128 0
-
--- the pieces of a line, from its front on: three, four, five
-pub three-pieces : (a b c r s t : List ℕ) (g h i : ℕ) → Piece zeros 0 r g a → Piece r g s h b → Piece s h t i c → Piece zeros 0 t i ((a ++ b) ++ c)
-three-pieces a b c r s t g h i p q v = further zeros s t (a ++ b) c 0 h i (further zeros r s a b 0 g h p q) v
-
-pub four-pieces : (a b c d r s t u : List ℕ) (g h i j : ℕ) → Piece zeros 0 r g a → Piece r g s h b → Piece s h t i c → Piece t i u j d → Piece zeros 0 u j (((a ++ b) ++ c) ++ d)
-four-pieces a b c d r s t u g h i j p q v w = further zeros t u ((a ++ b) ++ c) d 0 i j (three-pieces a b c r s t g h i p q v) w
-
-pub five-pieces : (a b c d e r s t u v : List ℕ) (g h i j k : ℕ) → Piece zeros 0 r g a → Piece r g s h b → Piece s h t i c → Piece t i u j d → Piece u j v k e
-    → Piece zeros 0 v k ((((a ++ b) ++ c) ++ d) ++ e)
-five-pieces a b c d e r s t u v g h i j k p q w x y = further zeros u v (((a ++ b) ++ c) ++ d) e 0 j k (four-pieces a b c d r s t u g h i j p q w x) y
 
 -- pieces that are the line
 pub made : (front line out : List ℕ) (end : ℕ) → Piece zeros 0 out end front → front ≡ line → record { bytes = out; length = end } ≡ lineOf line

@@ -1,6 +1,8 @@
 -- The lines of the circuit text, Bristol Fashion: document 01, "Circuit".
 use Prim.Native.Nat.{ℕ, _*_}
+use mathlib.Core.Bool.{cond}
 use mathlib.Core.List.{List, [], _∷_, _++_}
+use lib.Dec.{eqb}
 use Rattle.lexer.specs.Spelling.{bytes}
 use Rattle.text.specs.Decimal.{decimal}
 use Rattle.dimensions.specs.declared.Dimensions.{Dimensions}
@@ -18,9 +20,21 @@ line (f ∷ g ∷ fs) = f ++ (32 ∷ line (g ∷ fs))
 abbrev pub sizeLine : ℕ → ℕ → List ℕ
 sizeLine gates wires = line (decimal gates ∷ decimal wires ∷ [])
 
--- the second: the number of input values, and the widths of left rows, right rows and state
+-- the second, without public rows: the number of input values, and the widths of left rows, right rows and state
+abbrev pub threeValues : Dimensions → List (List ℕ)
+threeValues d = bytes "3" ∷ decimal (2 * d .n * d .left) ∷ decimal (2 * d .n * d .right) ∷ decimal (stateWires (d .n)) ∷ []
+
+-- with them, "an input value before the state"
+abbrev pub fourValues : Dimensions → List (List ℕ)
+fourValues d =
+    bytes "4" ∷ decimal (2 * d .n * d .left) ∷ decimal (2 * d .n * d .right) ∷ decimal (2 * d .n * d .public) ∷ decimal (stateWires (d .n)) ∷ []
+
+-- "with none, that value is absent and the header is as before": document 02, Public rest rules
+abbrev pub inputFields : Dimensions → List (List ℕ)
+inputFields d = cond (eqb (d .public) 0) (threeValues d) (fourValues d)
+
 abbrev pub inputLine : Dimensions → List ℕ
-inputLine d = line (bytes "3" ∷ decimal (2 * d .n * d .left) ∷ decimal (2 * d .n * d .right) ∷ decimal (stateWires (d .n)) ∷ [])
+inputLine d = line (inputFields d)
 
 -- the third: the number of output values, and the widths of the next state and of the closing wire
 abbrev pub outputLine : Dimensions → List ℕ

@@ -9,8 +9,8 @@ ghost use Rattle.lexer.specs.Spelling as Spelling;
 ghost use Rattle.text.specs.Decimal.{decimal};
 ghost use Rattle.gates.specs.Memory.{gateOf};
 ghost use Rattle.gates.specs.Gates.Gate.{INV};
-ghost use Rattle.bristol_line.specs.Lines.{line, sizeLine, inputLine, outputLine, gateLine};
-ghost use Rattle.bristol_line.specs.ByValue.{lineOf};
+ghost use Rattle.bristol_line.specs.Lines.{line, sizeLine, threeValues, fourValues, inputLine, outputLine, gateLine};
+ghost use Rattle.bristol_line.specs.ByValue.{lineOf, stations};
 
 // The first `length` bytes are the line, its LF with them.
 pub struct Line {
@@ -29,17 +29,14 @@ impl Line {
         Line { bytes, length }
     }
 
-    // The second header line: the three input values.
+    // The second header line: the input values, three where there are no public rows, and else four.
     pub fn inputs(d: Dimensions) -> Self
         ensures { λ r. ⌜ r ≡ lineOf (inputLine d) ⌝ }
     {
-        let row = 2 * (d.n as usize);
-        let mut bytes = [0u8; 128];
-        let left = put_field(3, b' ', &mut bytes, 0);
-        let right = put_field(row * (d.left as usize), b' ', &mut bytes, left);
-        let state = put_field(row * (d.right as usize), b' ', &mut bytes, right);
-        let length = put_field(d.state_wires(), b'\n', &mut bytes, state);
-        Line { bytes, length }
+        if d.public == 0 {
+            return three_values(d);
+        }
+        four_values(d)
     }
 
     // The third header line: the two output values.
@@ -72,6 +69,40 @@ impl Line {
             _ => one_input(a as usize, wire),
         }
     }
+}
+
+// The second header line without a value for public rows.
+fn three_values(d: Dimensions) -> Line
+    ensures { λ r. ⌜ r ≡ lineOf (line (threeValues d)) ⌝ }
+{
+    let mut bytes = [0u8; 128];
+    let state = put_stations(3, d, &mut bytes);
+    let length = put_field(d.state_wires(), b'\n', &mut bytes, state);
+    Line { bytes, length }
+}
+
+// The second header line with it, before the state.
+fn four_values(d: Dimensions) -> Line
+    ensures { λ r. ⌜ r ≡ lineOf (line (fourValues d)) ⌝ }
+{
+    let mut bytes = [0u8; 128];
+    let public = put_stations(4, d, &mut bytes);
+    let width = 2 * (d.n as usize) * (d.public as usize);
+    let state = put_field(width, b' ', &mut bytes, public);
+    let length = put_field(d.state_wires(), b'\n', &mut bytes, state);
+    Line { bytes, length }
+}
+
+// Writes the number of values and the widths of the stations' rows, each with a space behind it; the place behind them.
+fn put_stations(count: usize, d: Dimensions, bytes: &mut [u8; 128]) -> usize
+    ensures { λ r. ⌜ r ≤ 63 ⌝ }
+    ensures { λ r. ⌜ r ≡ length (stations count d) ⌝ }
+    ensures { λ _. ⌜ now (bytes .exit) ≡ sets (now (bytes .entry)) 0 (stations count d) ⌝ }
+{
+    let row = 2 * (d.n as usize);
+    let left = put_field(count, b' ', bytes, 0);
+    let right = put_field(row * (d.left as usize), b' ', bytes, left);
+    put_field(row * (d.right as usize), b' ', bytes, right)
 }
 
 // The line of a gate of two inputs; the kind has its LF with it.

@@ -20,14 +20,18 @@ pub fn evaluate(gates: &[u32], inputs: &[u8], wires: &mut [u8]) -> Outcome
     ensures { λ _. ⌜ now (wires .exit) ≡ filled (now (gates .entry)) (now (inputs .entry)) (now (wires .entry)) ⌝ }
 {
     let end = inputs.len() + gates.len() / 3;
-    // Few wires do not repay the trial's array, and more than 204,800 do not fit in it: the giant step's largest circuit has 197,347.
+    // Few wires do not repay a trial's array. The giant step's largest circuit has 197,346 without public rows and 286,306 with them:
+    // two arrays, so that fewer wires do not clear the larger one.
     if 8192 <= end && end <= 204800 && gates::bits(inputs) {
         return try_out(gates, inputs, wires);
+    }
+    if 204800 < end && end <= 286720 && gates::bits(inputs) {
+        return try_out_large(gates, inputs, wires);
     }
     two_pass::evaluate(gates, inputs, wires)
 }
 
-// Tries the gates out in an array of its own.
+// Tries the gates out in an array of its own, 200 KiB on the stack.
 fn try_out(gates: &[u32], inputs: &[u8], wires: &mut [u8]) -> Outcome
     requires { ⌜ length (now inputs) + length (now gates) / 3 ≤ 204800 ⌝ }
     requires { ⌜ Memory.bits (now inputs) ≡ true ⌝ }
@@ -35,6 +39,17 @@ fn try_out(gates: &[u32], inputs: &[u8], wires: &mut [u8]) -> Outcome
     ensures { λ _. ⌜ now (wires .exit) ≡ filled (now (gates .entry)) (now (inputs .entry)) (now (wires .entry)) ⌝ }
 {
     let mut own = [0u8; 204800];
+    try_in(gates, inputs, &mut own, wires)
+}
+
+// Tries more gates out, in 280 KiB on the stack.
+fn try_out_large(gates: &[u32], inputs: &[u8], wires: &mut [u8]) -> Outcome
+    requires { ⌜ length (now inputs) + length (now gates) / 3 ≤ 286720 ⌝ }
+    requires { ⌜ Memory.bits (now inputs) ≡ true ⌝ }
+    ensures { λ r. ⌜ r ≡ outcome (checks (now (gates .entry)) (now (inputs .entry)) (now (wires .entry))) ⌝ }
+    ensures { λ _. ⌜ now (wires .exit) ≡ filled (now (gates .entry)) (now (inputs .entry)) (now (wires .entry)) ⌝ }
+{
+    let mut own = [0u8; 286720];
     try_in(gates, inputs, &mut own, wires)
 }
 

@@ -1,51 +1,39 @@
 -- What the generator gives, by what its checks find, and that the checks leave room: from the order of the checks.
 -- Assumes nothing.
 use mathlib.Core.Path.{_≡_, refl, ap, sym, _∙_, subst}
-use mathlib.Core.Bool.{_||_}
 use mathlib.Core.List.{List, [], _∷_, _++_}
 use Prim.Native.Nat.{ℕ, _+_, _*_, _-_, _≤_, _<_}
 use native.Mathlib.Nat.{mul-le-mul, zero-add}
 use native.Mathlib.Omega.{arith}
-use borrow.Author.Tests.{lt-ltb, le-ltb, ltb-false}
+use borrow.Author.Tests.{lt-ltb, le-ltb}
 use lib.Dec.{ltb}
 use lib.ListN.{length, take, drop}
 use lib.Seq.{sets, sets-eq, take-at}
 use Rattle.refusals.specs.declared.Refusal.{Refusal}
-use Rattle.refusals.specs.declared.Refusal.the-variants.{Variables, RowCount, GateBuffer}
+use Rattle.refusals.specs.declared.Refusal.the-variants.{GateBuffer}
 use Rattle.refusals.specs.declared.Outcome.{Outcome}
 use Rattle.refusals.specs.declared.Outcome.the-variants.{Taken, Refused as Not}
 use Rattle.refusals.specs.Checks.{Check, check, outcome, given}
 use Rattle.refusals.specs.Numbers.{said}
-use Rattle.refusals.proofs.Outcomes.{outcome-taken, outcome-refused, check-passed, checks-taken, given-said}
-use Rattle.words.proofs.Truth.{or-l, or-r}
+use Rattle.refusals.proofs.Outcomes.{outcome-taken, outcome-refused, given-said}
 use Rattle.dimensions.specs.declared.Dimensions.{Dimensions}
-use Rattle.dimensions.specs.Sizes.{outside, sizeChecks, ceiling}
+use Rattle.dimensions.specs.Sizes.{sizeChecks, rowCount, ceiling}
+use Rattle.dimensions.proofs.Limits.{Within}
 use Rattle.gates.specs.Memory.{wordsOf, over}
 use Rattle.gates.proofs.InMemory.{words-length}
 use Rattle.generator.specs.declared.Generated.{Generated}
 use Rattle.generator.specs.declared.Generated.the-variants.{Of, Refused}
 use Rattle.sections.specs.declared.Addresses.{Addresses}
-use Rattle.sections.specs.Addressing.{addresses}
+use Rattle.sections.specs.Addressing.{addresses, addressesOn}
 use Rattle.netlist.specs.Outputs.{CarriesOut}
 use Rattle.netlist.specs.Netlist.{circuit, gatesFor, gatesOn}
 use Rattle.generator.specs.Generation.{generatorChecks, generated, generatedCode, generatedNumbers, written, Carried}
 use Rattle.netlist.proofs.EveryState.{gates-carry-out}
 use Rattle.netlist.proofs.Counts.{circuit-length, gates-length}
 
--- n and the rows of dimensions that are taken
-pub small : (n left right : ℕ) → outcome (sizeChecks n left right) ≡ Taken → (n ≤ 32) × (left + right ≤ 256)
-small n left right e =
-    let n-in = check-passed (outside 32 n) Variables _ e in
-    let rows-in = check-passed (outside 128 left || outside 128 right) RowCount _ (checks-taken (outside 32 n) Variables _ e) in
-    let l = ltb-false 128 left (or-r (ltb left 1) (ltb 128 left) (or-l (outside 128 left) (outside 128 right) rows-in)) in
-    let r = ltb-false 128 right (or-r (ltb right 1) (ltb 128 right) (or-r (outside 128 left) (outside 128 right) rows-in)) in
-    (ltb-false 32 n (or-r (ltb n 1) (ltb 32 n) n-in), omega arith)
-
--- the ceiling of such dimensions
-pub ceiling-small : (n left right : ℕ) → outcome (sizeChecks n left right) ≡ Taken → 64 * (left + right + n + 1) * (n + 1) ≤ 610368
-ceiling-small n left right e =
-    let h = small n left right e in
-    omega (arith, mul-le-mul (h .0) (h .1), mul-le-mul (h .0) (h .0))
+-- the ceiling of dimensions that are taken
+pub ceiling-small : (d : Dimensions) → Within d → ceiling d ≤ 880704
+ceiling-small d w = omega (arith, mul-le-mul (w .n-most) (w .rows-most), mul-le-mul (w .n-most) (w .n-most))
 
 -- the number of gates, counted
 pub counted : (n m : ℕ) (a : Addresses) → a ≡ addresses n m → a .wires - a .inputs ≡ length (circuit (addresses n m))
@@ -69,28 +57,28 @@ module _ (d : Dimensions) (words : List ℕ) where
       → (given o (Of (length (gatesOn d))) Refused ≡ generated d words) × (given o (over (wordsOf (gatesOn d)) words) (λ r. words) ≡ written d words)
   by-outcome o e = (ap (λ (x : Outcome). given x (Of (length (gatesOn d))) Refused) (sym e), ap (λ (x : Outcome). given x (over (wordsOf (gatesOn d)) words) (λ r. words)) (sym e))
 
-  pub refuse-size : (r : Refusal) → outcome (sizeChecks (d .n) (d .left) (d .right)) ≡ Not r
+  pub refuse-size : (r : Refusal) → outcome (sizeChecks d) ≡ Not r
       → (Refused r ≡ generated d words) × ((words ≡ written d words) × Carried d (Refused r) words)
   unfolding bufferChecks
   refuse-size r e =
-      let t = by-outcome (Not r) (outcome-refused (sizeChecks (d .n) (d .left) (d .right)) bufferChecks r e) in
+      let t = by-outcome (Not r) (outcome-refused (sizeChecks d) bufferChecks r e) in
       (t .0, (t .1, tt))
 
-  module _ (e : outcome (sizeChecks (d .n) (d .left) (d .right)) ≡ Taken) where
+  module _ (e : outcome (sizeChecks d) ≡ Taken) where
     pub refuse-buffer : length words < 3 * ceiling d → (Refused GateBuffer ≡ generated d words) × ((words ≡ written d words) × Carried d (Refused GateBuffer) words)
     unfolding bufferChecks
     refuse-buffer h =
-        let t = by-outcome (Not GateBuffer) (outcome-taken (sizeChecks (d .n) (d .left) (d .right)) bufferChecks e ∙ rw (lt-ltb _ _ h)) in
+        let t = by-outcome (Not GateBuffer) (outcome-taken (sizeChecks d) bufferChecks e ∙ rw (lt-ltb _ _ h)) in
         (t .0, (t .1, tt))
 
-    pub taken : 3 * ceiling d ≤ length words → (r : ℕ) (w : List ℕ) → r ≡ length (circuit (addresses (d .n) (d .left + d .right)))
-        → w ≡ sets words 0 (wordsOf (circuit (addresses (d .n) (d .left + d .right))))
+    pub taken : 3 * ceiling d ≤ length words → (r : ℕ) (w : List ℕ) → r ≡ length (circuit (addressesOn d))
+        → w ≡ sets words 0 (wordsOf (circuit (addressesOn d)))
         → (Of r ≡ generated d words) × ((w ≡ written d words) × Carried d (Of r) w)
     unfolding bufferChecks gatesFor
     taken h r w er ew =
-        let g = circuit (addresses (d .n) (d .left + d .right)) in
-        let t = by-outcome Taken (outcome-taken (sizeChecks (d .n) (d .left) (d .right)) bufferChecks e ∙ rw (le-ltb _ _ h)) in
-        let l : 0 + length (wordsOf g) ≤ length words = omega (arith, words-length g, gates-length (d .n) (d .left) (d .right)) in
+        let g = circuit (addressesOn d) in
+        let t = by-outcome Taken (outcome-taken (sizeChecks d) bufferChecks e ∙ rw (le-ltb _ _ h)) in
+        let l : 0 + length (wordsOf g) ≤ length words = omega (arith, words-length g, gates-length (d .n) (rowCount d)) in
         let whole : w ≡ over (wordsOf g) words = ew ∙ sets-eq (wordsOf g) words 0 l ∙ ap (λ (k : ℕ). wordsOf g ++ drop k words) (zero-add (length (wordsOf g))) in
         let front : take (3 * r) w ≡ wordsOf g = ap (take (3 * r)) whole ∙ take-at (wordsOf g) _ (3 * r) (omega (arith, words-length g, er)) in
         (ap Of er ∙ t .0, (whole ∙ t .1, subst (CarriesOut d) (sym front) (gates-carry-out d)))

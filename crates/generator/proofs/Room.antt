@@ -13,20 +13,20 @@ use Rattle.generator.specs.Storing.{Fits}
 use Rattle.generator.proofs.Circuit.{All, at-each}
 
 -- the inputs come before all other wires, and these are few
-pub wires-few : (n m : ℕ) → n ≤ 32 → m ≤ 256 → (a : Addresses) → a ≡ addresses n m → (a .inputs ≤ a .wires) × (a .wires ≤ 262144)
+pub wires-few : (n m : ℕ) → n ≤ 32 → m ≤ 384 → (a : Addresses) → a ≡ addresses n m → (a .inputs ≤ a .wires) × (a .wires ≤ 286306)
 wires-few n m hn hm a e =
-    let p : n * m ≤ 8192 = mul-le-mul hn hm in
+    let p : n * m ≤ 12288 = mul-le-mul hn hm in
     let q : n * n ≤ 1024 = mul-le-mul hn hn in
-    subst (λ (x : Addresses). (x .inputs ≤ x .wires) × (x .wires ≤ 262144)) (sym e) (omega arith)
+    subst (λ (x : Addresses). (x .inputs ≤ x .wires) × (x .wires ≤ 286306)) (sym e) (omega arith)
 
 -- what is asked of a section
 abbrev Asked : ℕ → ℕ → Section → Type 0
 Asked inputs len s =
-    ((s .template + s .size ≤ 75) × (s .size ≤ 16)) × ((s .zeros ≤ 4) × (s .lines ≤ 256) × (s .cells ≤ 256)) × ((inputs ≤ s .base) × (s .base ≤ 1048576))
+    ((s .template + s .size ≤ 75) × (s .size ≤ 16)) × ((s .zeros ≤ 4) × (s .lines ≤ 384) × (s .cells ≤ 384)) × ((inputs ≤ s .base) × (s .base ≤ 1048576))
     × (Below 16777216 (s .slots) × Below 65536 (s .outer) × Below 65536 (s .inner))
     × (3 * (s .base - inputs) + 3 * ((s .zeros + s .size * s .cells) * s .lines) ≤ len)
 
-module _ (n m len : ℕ) (hn : n ≤ 32) (hm : m ≤ 256) (hp : n * m ≤ 8192) (hq : n * n ≤ 1024) (room : 3 * (addresses n m .wires - addresses n m .inputs) ≤ len) where
+module _ (n m len : ℕ) (hn : n ≤ 32) (hm : m ≤ 384) (hp : n * m ≤ 12288) (hq : n * n ≤ 1024) (room : 3 * (addresses n m .wires - addresses n m .inputs) ≤ len) where
   abbrev a : Addresses
   a = addresses n m
 
@@ -51,10 +51,10 @@ module _ (n m len : ℕ) (hn : n ≤ 32) (hm : m ≤ 256) (hp : n * m ≤ 8192) 
 enough : (n m len : ℕ) → 3 * (64 * (m + n + 1) * (n + 1)) ≤ len → 3 * (addresses n m .wires - addresses n m .inputs) ≤ len
 enough n m len h = omega arith
 
-pub fits : (n m len : ℕ) → n ≤ 32 → m ≤ 256 → 3 * (64 * (m + n + 1) * (n + 1)) ≤ len
+pub fits : (n m len : ℕ) → n ≤ 32 → m ≤ 384 → 3 * (64 * (m + n + 1) * (n + 1)) ≤ len
     → (i : ℕ) → i ≡ addresses n m .inputs → (k : ℕ) (s : Section) → s ≡ sectionAt (addresses n m) k → Fits i s len
 fits n m len hn hm h i ei k s es =
-    let p : n * m ≤ 8192 = mul-le-mul hn hm in
+    let p : n * m ≤ 12288 = mul-le-mul hn hm in
     let q : n * n ≤ 1024 = mul-le-mul hn hn in
     let f = each-fits n m len hn hm p q (enough n m len h) k in
     subst (λ (x : ℕ). Fits x s len) (sym ei) (subst (λ (x : Section). Fits (addresses n m .inputs) x len) (sym es) f)

@@ -11,15 +11,15 @@ use lib.Seq.{drop-cons, sets, sets-eq}
 use Rattle.netlist.specs.Arrays.{along, Below}
 use Rattle.netlist.proofs.Arrays.{below-at}
 
-module _ (slots steps : List ℕ) (i : ℕ) (hs : Below 33554432 slots) (hd : Below 65536 steps) (hi : i ≤ 256)
+module _ (slots steps : List ℕ) (i : ℕ) (hs : Below 41943040 slots) (hd : Below 65536 steps) (hi : i ≤ 384)
     (es : length slots ≡ 8) (ed : length steps ≡ 8) where
-  pub step-fits : (k : ℕ) → k < 8 → getD steps k 0 * i ≤ 16777216
+  pub step-fits : (k : ℕ) → k < 8 → getD steps k 0 * i ≤ 25165824
   step-fits k l =
       let d : getD steps k 0 ≤ 65536 = omega (arith, below-at 65536 steps hd k (omega arith)) in
       omega (arith, mul-le-mul d hi)
 
-  pub sum-fits : (k : ℕ) → k < 8 → getD slots k 0 + getD steps k 0 * i ≤ 50331648
-  sum-fits k l = omega (arith, step-fits k l, below-at 33554432 slots hs k (omega arith))
+  pub sum-fits : (k : ℕ) → k < 8 → getD slots k 0 + getD steps k 0 * i ≤ 67108864
+  sum-fits k l = omega (arith, step-fits k l, below-at 41943040 slots hs k (omega arith))
 
 -- k slots from slot j on, read one by one
 unfoldable pub from : List ℕ → List ℕ → ℕ → ℕ → ℕ → List ℕ

@@ -16,7 +16,7 @@ use Rattle.netlist.specs.Netlist.{gatesOn}
 
 -- 1, 2, then 7: fewer than three words for each gate of the ceiling
 abbrev pub generatorChecks : Dimensions → List ℕ → List Check
-generatorChecks d words = sizeChecks (d .n) (d .left) (d .right) ++ (check (ltb (length words) (3 * ceiling d)) GateBuffer ∷ [])
+generatorChecks d words = sizeChecks d ++ (check (ltb (length words) (3 * ceiling d)) GateBuffer ∷ [])
 
 -- how many gates there are
 abbrev pub generated : Dimensions → List ℕ → Generated

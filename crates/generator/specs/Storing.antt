@@ -38,7 +38,7 @@ gatesAt d k = gatesOf (sectionAt (addressesOn d) k)
 -- sums over a section's numbers fit a word, and so many words, with room behind so many inputs
 pub record Fits (inputs : ℕ) (s : Section) (len : ℕ) : Type 0 where
   pub named : (s .template + s .size ≤ 75) × (s .size ≤ 16)
-  pub counts : (s .zeros ≤ 4) × (s .lines ≤ 256) × (s .cells ≤ 256)
+  pub counts : (s .zeros ≤ 4) × (s .lines ≤ 384) × (s .cells ≤ 384)
   pub begins : (inputs ≤ s .base) × (s .base ≤ 1048576)
   pub below : Below 16777216 (s .slots) × Below 65536 (s .outer) × Below 65536 (s .inner)
   pub room : 3 * (s .base - inputs) + 3 * ((s .zeros + s .size * s .cells) * s .lines) ≤ len

@@ -69,7 +69,7 @@ fn place(words: &mut [u32], inputs: u32, base: u32, template: &[u32], slots: [u3
 
 // The slots after i steps.
 fn along(slots: [u32; 8], steps: [u32; 8], i: u32) -> [u32; 8]
-    requires { ⌜ (Below 33554432 slots) × (Below 65536 steps) × (i ≤ 256) ⌝ }
+    requires { ⌜ (Below 41943040 slots) × (Below 65536 steps) × (i ≤ 384) ⌝ }
     ensures { λ r. ⌜ r ≡ Arrays.along slots steps i ⌝ }
 {
     let mut here = slots;
@@ -92,8 +92,8 @@ fn cells(
     steps: [u32; 8],
 )
     requires { ⌜ (tidy (now template) ≡ true) × (length (now template) ≤ 16) ⌝ }
-    requires { ⌜ (n ≤ 256) × (inputs ≤ base) × (base ≤ 16777216) ⌝ }
-    requires { ⌜ (Below 33554432 slots) × (Below 65536 steps) ⌝ }
+    requires { ⌜ (n ≤ 384) × (inputs ≤ base) × (base ≤ 16777216) ⌝ }
+    requires { ⌜ (Below 41943040 slots) × (Below 65536 steps) ⌝ }
     requires { ⌜ 3 * (base - inputs) + 3 * (length (now template) * n) ≤ length (now words) ⌝ }
     ensures { λ _. ⌜ now (words .exit) ≡ sets (now (words .entry)) (3 * (base - inputs)) (wordsOf (Arrays.cells (gatesIn (now (template .entry))) slots steps base n)) ⌝ }
 {
@@ -120,8 +120,8 @@ fn line(
     steps: [u32; 8],
 )
     requires { ⌜ (tidy (now template) ≡ true) × (length (now template) ≤ 16) ⌝ }
-    requires { ⌜ (zeros ≤ 4) × (n ≤ 256) × (inputs ≤ base) × (base ≤ 8388608) ⌝ }
-    requires { ⌜ (Below 33554432 slots) × (Below 65536 steps) ⌝ }
+    requires { ⌜ (zeros ≤ 4) × (n ≤ 384) × (inputs ≤ base) × (base ≤ 8388608) ⌝ }
+    requires { ⌜ (Below 41943040 slots) × (Below 65536 steps) ⌝ }
     requires { ⌜ 3 * (base - inputs) + 3 * (zeros + length (now template) * n) ≤ length (now words) ⌝ }
     ensures { λ _. ⌜ now (words .exit) ≡ sets (now (words .entry)) (3 * (base - inputs)) (wordsOf (Arrays.line zeros (gatesIn (now (template .entry))) slots steps base n)) ⌝ }
 {

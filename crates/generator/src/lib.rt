@@ -49,7 +49,7 @@ pub fn generate(d: Dimensions, words: &mut [u32]) -> Generated
 
 // Writes the circuit, and says how many gates it has.
 fn write(words: &mut [u32], d: Dimensions) -> usize
-    requires { ⌜ (d .n ≤ 32) × (rowCount d ≤ 256) × (3 * ceiling d ≤ length (now words)) ⌝ }
+    requires { ⌜ (d .n ≤ 32) × (rowCount d ≤ 384) × (3 * ceiling d ≤ length (now words)) ⌝ }
     ensures { λ r. ⌜ r ≡ length (circuit (addressesOn d)) ⌝ }
     ensures { λ _. ⌜ now (words .exit) ≡ sets (now (words .entry)) 0 (wordsOf (circuit (addressesOn d))) ⌝ }
 {
@@ -62,7 +62,7 @@ fn write(words: &mut [u32], d: Dimensions) -> usize
 
 // Writes the first `count` sections of the circuit.
 fn sections(words: &mut [u32], d: Dimensions, inputs: u32, count: u32)
-    requires { ⌜ (d .n ≤ 32) × (rowCount d ≤ 256) × (3 * ceiling d ≤ length (now words)) ⌝ }
+    requires { ⌜ (d .n ≤ 32) × (rowCount d ≤ 384) × (3 * ceiling d ≤ length (now words)) ⌝ }
     requires { ⌜ (inputs ≡ addressesOn d .inputs) × (count ≤ 19 + d .n) ⌝ }
     ensures { λ _. ⌜ now (words .exit) ≡ sets (now (words .entry)) 0 (wordsOf (rows (gatesAt d) count)) ⌝ }
 {

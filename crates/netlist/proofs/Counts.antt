@@ -149,12 +149,11 @@ module _ (a : Addresses) where
       circuit-count andGates ∙ omega (arith, judging-count andGates, choosing-count andGates, changing-count andGates, outputs-count andGates)
 
 -- no more gates than the ceiling
-pub gates-length : (n left right : ℕ) → length (gatesFor n left right) ≤ 64 * (left + right + n + 1) * (n + 1)
+pub gates-length : (n m : ℕ) → length (gatesFor n m) ≤ 64 * (m + n + 1) * (n + 1)
 unfolding gatesFor
-gates-length n left right = omega (arith, circuit-length (addresses n (left + right)))
+gates-length n m = omega (arith, circuit-length (addresses n m))
 
--- AND gates, with m rows: 8mn + 6n² + 7m + 7n + 5
-pub gates-ands : (n left right : ℕ)
-    → ands (gatesFor n left right) ≡ 8 * (left + right) * n + 6 * n * n + 7 * (left + right) + 7 * n + 5
+-- AND gates: 8mn + 6n² + 7m + 7n + 5
+pub gates-ands : (n m : ℕ) → ands (gatesFor n m) ≡ 8 * m * n + 6 * n * n + 7 * m + 7 * n + 5
 unfolding gatesFor
-gates-ands n left right = circuit-ands (addresses n (left + right))
+gates-ands n m = circuit-ands (addresses n m)

@@ -26,7 +26,7 @@ use Rattle.gates.proofs.InMemory.{accepted-words, words-length}
 use Rattle.two_pass.proofs.Evaluation.{evaluates}
 use Rattle.wires.specs.Layout.{stateBits}
 use Rattle.wires.specs.Packing.{inputBits}
-use Rattle.wires.proofs.Lengths.{both-length, input-length, state-length}
+use Rattle.wires.proofs.Lengths.{tables-length, input-length, state-length}
 use Rattle.netlist.specs.Outputs.{closed, outputBits, outputsIn, CarriesOut}
 use Rattle.sections.specs.Addressing.{addresses}
 use Rattle.netlist.specs.Netlist.{circuit, gatesFor, gatesOn}
@@ -64,7 +64,7 @@ module _ (d : Dimensions) (tables : Tables) (s : State) where
       let e : inputWires d + length (circuit a) - suc (stateWires (d .n)) ≡ a .outputs = omega (arith, circuit-length a) in
       ap (λ (k : ℕ). drop k (wiresOf bits (circuit a))) e
       ∙ subst (λ (m : ℕ). length bits ≡ addresses (d .n) m .inputs → drop (addresses (d .n) m .outputs) (wiresOf bits (circuit (addresses (d .n) m))) ≡ outputBits (d .n) rows s)
-      (both-length d tables) (λ l. circuit-outputs (d .n) rows s l formed) (input-length d tables s ∙ inputs-at d)
+      (tables-length d tables) (λ l. circuit-outputs (d .n) rows s l formed) (input-length d tables s ∙ inputs-at d)
 
   outputs-length : length (bytesOf (outputBits (d .n) (rowsOf d tables) s)) ≡ stateWires (d .n) + 1
   unfolding outputBits
@@ -99,7 +99,7 @@ module _ (d : Dimensions) (tables : Tables) (s : State) where
 
 pub gates-carry-out : (d : Dimensions) → CarriesOut d (wordsOf (gatesOn d))
 gates-carry-out d = record {
-  few = omega (arith, words-length (gatesOn d), gates-length (d .n) (d .left) (d .right));
+  few = omega (arith, words-length (gatesOn d), gates-length (d .n) (rowCount d));
   taken = gates-accepted d;
   steps = λ tables s wires formed h.
       let e = evaluated d tables s wires (omega (arith, words-length (gatesOn d))) in

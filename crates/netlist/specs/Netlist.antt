@@ -1,7 +1,8 @@
 -- The circuit of the giant step for n variables and m rows: its sections, one behind the other.
 use mathlib.Core.List.{List, _++_}
-use Prim.Native.Nat.{ℕ, _+_}
+use Prim.Native.Nat.{ℕ}
 use Rattle.dimensions.specs.declared.Dimensions.{Dimensions}
+use Rattle.dimensions.specs.Sizes.{rowCount}
 use Rattle.sections.specs.declared.Addresses.{Addresses}
 use Rattle.sections.specs.Addressing.{addresses}
 use Rattle.sections.specs.Sections as Sections
@@ -132,10 +133,10 @@ module _ (a : Addresses) where
   abbrev pub circuit : List Gate
   circuit = judging ++ (choosing ++ (changing ++ outputs))
 
--- the gates for n variables and the two stations' row counts
-unfoldable pub gatesFor : ℕ → ℕ → ℕ → List Gate
-gatesFor n left right = circuit (addresses n (left + right))
+-- the gates for n variables and m rows
+unfoldable pub gatesFor : ℕ → ℕ → List Gate
+gatesFor n m = circuit (addresses n m)
 
 -- the circuit of some dimensions
 abbrev pub gatesOn : Dimensions → List Gate
-gatesOn d = gatesFor (d .n) (d .left) (d .right)
+gatesOn d = gatesFor (d .n) (rowCount d)

@@ -34,7 +34,7 @@ use Rattle.gates.proofs.InMemory.{bitsOf-bytesOf}
 use Rattle.wires.specs.Layout.{rowsBits, stateBits}
 use Rattle.wires.specs.Bits.{bitsIn, inOrder, stateAt}
 use Rattle.wires.specs.Packing.{inputBits, packChecks, packed}
-use Rattle.wires.proofs.Lengths.{state-length, rows-length, both-length, twice}
+use Rattle.wires.proofs.Lengths.{state-length, rows-length, tables-length, twice}
 use Rattle.wires.proofs.Addresses.{state-at}
 use Rattle.wires.proofs.Checks.{passed, pack-taken}
 use Rattle.readback.specs.declared.Read.{Read}
@@ -144,13 +144,13 @@ module _ (d : Dimensions) (tables : Tables) (run : Run) (bytes : List ℕ) (e : 
       let o = passed d tables run (length bytes) e in
       let f = formed-run-e run (o .formed) in
       ap (readBack (d .n)) (ap (drop (2 * d .n * rowCount d)) split ∙ drop-at rowBytes _ (2 * d .n * rowCount d) rows-wide)
-      ∙ read-packed (d .n) (stateOf run) _ (ap (λ (k : ℕ). wellFormedState k (stateOf run)) (sym (o .same)) ∙ f .state) (o .allowed .n-least) (o .allowed .n-most)
+      ∙ read-packed (d .n) (stateOf run) _ (ap (λ (k : ℕ). wellFormedState k (stateOf run)) (sym (o .same)) ∙ f .state) (o .allowed .size .n-least) (o .allowed .size .n-most)
       ∙ ap (λ (r : Run). record { outcome = Taken; run = r }) (ap (λ (k : ℕ). runOf k (stateOf run)) (sym (o .same)) ∙ sym (run-back run (formed-tidy run room f)))
     where
       rows-wide : length rowBytes ≡ 2 * d .n * rowCount d
       rows-wide =
           length-map (rowsBits (d .n) (rowsOf d tables)) digit ∙ rows-length (d .n) (rowsOf d tables)
-          ∙ ap (λ (k : ℕ). (d .n + d .n) * k) (both-length d tables) ∙ twice (d .n) (rowCount d)
+          ∙ ap (λ (k : ℕ). (d .n + d .n) * k) (tables-length d tables) ∙ twice (d .n) (rowCount d)
 
   -- a run that was read from some bytes puts those bytes behind the rows
   pub pack-read : (from : List ℕ) → Held (d .n) from run → packed d tables run bytes ≡ over (rowBytes ++ take (stateWires (d .n)) from) bytes

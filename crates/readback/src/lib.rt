@@ -63,6 +63,7 @@ pub fn read_back(n: u8, bytes: &[u8]) -> Read
         n,
         left: 1,
         right: 1,
+        public: 0,
     };
     if bytes.len() < d.state_wires() {
         return refused(n, Refusal::Wires);

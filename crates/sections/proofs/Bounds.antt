@@ -7,8 +7,8 @@ use native.Mathlib.Omega.{arith}
 use Rattle.sections.specs.declared.Addresses.{Addresses}
 use Rattle.sections.specs.Addressing.{addresses, Small}
 
-module _ (n m : ℕ) (hn : n ≤ 255) (hm : m ≤ 510) where
-  pub products : (n * m ≤ 130050) × (n * n ≤ 65025)
+module _ (n m : ℕ) (hn : n ≤ 255) (hm : m ≤ 765) where
+  pub products : (n * m ≤ 195075) × (n * n ≤ 65025)
   products = (mul-le-mul hn hm, mul-le-mul hn hn)
 
   pub small : (a : Addresses) → a ≡ addresses n m → Small a

@@ -54,6 +54,6 @@ addressesOn d = addresses (d .n) (rowCount d)
 -- sums over the addresses fit a word
 abbrev pub Small : Addresses → Type 0
 Small a =
-    (a .n ≤ 255) × (a .m ≤ 510) × (a .state ≤ 4194304) × (a .standing ≤ 4194304) × (a .inputs ≤ 4194304) × (a .literals ≤ 4194304)
-    × (a .scan ≤ 4194304) × (a .weights ≤ 4194304) × (a .picks ≤ 4194304) × (a .lowest ≤ 4194304) × (a .rule ≤ 4194304) × (a .selects ≤ 4194304)
-    × (a .levels ≤ 4194304) × (a .block ≤ 4194304) × (a .assignments ≤ 4194304) × (a .depths ≤ 4194304) × (a .outputs ≤ 4194304)
+    (a .n ≤ 255) × (a .m ≤ 765) × (a .state ≤ 8388608) × (a .standing ≤ 8388608) × (a .inputs ≤ 8388608) × (a .literals ≤ 8388608)
+    × (a .scan ≤ 8388608) × (a .weights ≤ 8388608) × (a .picks ≤ 8388608) × (a .lowest ≤ 8388608) × (a .rule ≤ 8388608) × (a .selects ≤ 8388608)
+    × (a .levels ≤ 8388608) × (a .block ≤ 8388608) × (a .assignments ≤ 8388608) × (a .depths ≤ 8388608) × (a .outputs ≤ 8388608)

@@ -55,14 +55,14 @@ impl Addresses {
         ensures { λ r. ⌜ r ≡ addressesOn d ⌝ }
     {
         let n = d.n as u32;
-        let m = d.left as u32 + d.right as u32;
+        let m = d.left as u32 + d.right as u32 + d.public as u32;
         layout(n, m, n * m, n * n)
     }
 }
 
 // The same, by n and m and their products.
 fn layout(n: u32, m: u32, nm: u32, nn: u32) -> Addresses
-    requires { ⌜ (n ≤ 255) × (m ≤ 510) × (nm ≤ 130050) × (nn ≤ 65025) ⌝ }
+    requires { ⌜ (n ≤ 255) × (m ≤ 765) × (nm ≤ 195075) × (nn ≤ 65025) ⌝ }
     ensures { λ r. ⌜ r ≡ addressesOf n m nm nn ⌝ }
 {
     let standing = 2 * nm + 3 * n + 1 + 3 * nn;

@@ -4,6 +4,7 @@ use mathlib.Core.Path.{_≡_, refl}
 use mathlib.Core.List.{List, [], _∷_, _++_}
 use Prim.Native.Nat.{ℕ}
 use Rattle.words.specs.Sets.{bit}
+use Rattle.dimensions.specs.Sizes.{dimensions}
 use Rattle.tables.specs.Tables.{allTables}
 use Rattle.state.specs.declared.Standing.the-variants.{Open, Satisfied, Refuted}
 use Rattle.state.specs.State.{State, fresh}
@@ -45,8 +46,8 @@ row : bytesOf (rowBits 3 (record { positive = 1; negative = 4 })) ≡ 1 ∷ 0 �
 unfolding upto bit
 row = refl
 
--- (1) | (-1): the left row, the right row, the fresh state
-inputs : bytesOf (inputBits (record { n = 1; left = 1; right = 1 }) (allTables (1 ∷ 0 ∷ []) (0 ∷ 1 ∷ [])) fresh)
-    ≡ (1 ∷ 0 ∷ []) ++ (0 ∷ 1 ∷ []) ++ (0 ∷ 0 ∷ 1 ∷ 0 ∷ 0 ∷ 0 ∷ 0 ∷ 0 ∷ 0 ∷ [])
+-- (1) | (-1) | (1 -1): the left row, the right row, the public row, the fresh state
+inputs : bytesOf (inputBits (dimensions 1 1 1 1) (allTables (1 ∷ 0 ∷ []) (0 ∷ 1 ∷ []) (1 ∷ 1 ∷ [])) fresh)
+    ≡ (1 ∷ 0 ∷ []) ++ (0 ∷ 1 ∷ []) ++ (1 ∷ 1 ∷ []) ++ (0 ∷ 0 ∷ 1 ∷ 0 ∷ 0 ∷ 0 ∷ 0 ∷ 0 ∷ 0 ∷ [])
 unfolding inputBits rowsBits stateBits upto joined onLevel bit
 inputs = refl

@@ -55,8 +55,12 @@ pub table-length : (words : List ℕ) (i k : ℕ) → length (rowsFrom words i k
 table-length words i zero = refl
 table-length words i (suc k) = ap suc (table-length words (suc i) k)
 
-pub both-length : (d : Dimensions) (tables : Tables) → length (rowsOf d tables) ≡ rowCount d
-both-length d tables = length-append (rowsFrom (tables .left) 0 (d .left)) _ ∙ ap₂ _+_ (table-length (tables .left) 0 (d .left)) (table-length (tables .right) 0 (d .right))
+pub tables-length : (d : Dimensions) (tables : Tables) → length (rowsOf d tables) ≡ rowCount d
+tables-length d tables =
+    length-append (rowsFrom (tables .left) 0 (d .left)) _
+    ∙ ap₂ _+_ (table-length (tables .left) 0 (d .left))
+    (length-append (rowsFrom (tables .right) 0 (d .right)) _ ∙ ap₂ _+_ (table-length (tables .right) 0 (d .right)) (table-length (tables .public) 0 (d .public)))
+    ∙ omega arith
 
 pub twice : (n m : ℕ) → (n + n) * m ≡ 2 * n * m
 twice n m = ap (λ (k : ℕ). k * m) (two n)
@@ -69,8 +73,11 @@ pub input-length : (d : Dimensions) (tables : Tables) (s : State) → length (in
 unfolding inputBits
 input-length d tables s =
     length-append (rowsBits (d .n) (rowsOf d tables)) (stateBits (d .n) s)
-    ∙ ap₂ _+_ (rows-length (d .n) (rowsOf d tables) ∙ ap (λ (k : ℕ). (d .n + d .n) * k) (both-length d tables) ∙ twice (d .n) (rowCount d)) (state-length (d .n) s)
+    ∙ ap₂ _+_ (rows-length (d .n) (rowsOf d tables) ∙ ap (λ (k : ℕ). (d .n + d .n) * k) (tables-length d tables) ∙ twice (d .n) (rowCount d)) (state-length (d .n) s)
 
--- left rows, right rows and state, one behind the other
-pub input-parts : (d : Dimensions) → inputWires d ≡ (d .n + d .n) * d .left + (d .n + d .n) * d .right + stateWires (d .n)
-input-parts d = ap (λ (k : ℕ). k + stateWires (d .n)) (sym (twice (d .n) (rowCount d)) ∙ mul-add (d .n + d .n) (d .left) (d .right))
+-- left rows, right rows, public rows and state, one behind the other
+pub input-parts : (d : Dimensions) → inputWires d ≡ (d .n + d .n) * d .left + (d .n + d .n) * d .right + (d .n + d .n) * d .public + stateWires (d .n)
+input-parts d =
+    ap (λ (k : ℕ). k + stateWires (d .n))
+    (sym (twice (d .n) (rowCount d)) ∙ mul-add (d .n + d .n) (d .left + d .right) (d .public)
+    ∙ ap (λ (k : ℕ). k + (d .n + d .n) * d .public) (mul-add (d .n + d .n) (d .left) (d .right)))

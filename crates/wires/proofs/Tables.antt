@@ -1,4 +1,4 @@
--- A table's rows, one behind the other, and both tables' rows and a state behind one another. By induction on the number of rows.
+-- A table's rows, one behind the other, and all tables' rows and a state behind one another. By induction on the number of rows.
 -- Assumes nothing.
 use mathlib.Core.Path.{_≡_, refl, sym, ap, ap₂, _∙_, fun-ext}
 use mathlib.Core.Bool.{Bool}
@@ -42,20 +42,28 @@ table-joined n words k =
     front : (j : ℕ) → j ≡ 0 + j
     front j = omega arith
 
--- left rows, right rows and state, stored one behind the other at the front
-pub inputs-stored : (d : Dimensions) (tables : Tables) (run : Run) (b b₁ b₂ b₃ : List ℕ) (p q : ℕ)
+-- left rows, right rows, public rows and state, stored one behind the other at the front
+pub inputs-stored : (d : Dimensions) (tables : Tables) (run : Run) (b b₁ b₂ b₃ b₄ : List ℕ) (p q r : ℕ)
     → b₁ ≡ stored b 0 (rowsBits (d .n) (rowsFrom (tables .left) 0 (d .left))) → p ≡ 0 + (d .n + d .n) * d .left
     → b₂ ≡ stored b₁ p (rowsBits (d .n) (rowsFrom (tables .right) 0 (d .right))) → q ≡ p + (d .n + d .n) * d .right
-    → b₃ ≡ stored b₂ q (stateBits (d .n) (stateOf run)) → inputWires d ≤ length b
-    → b₃ ≡ over (bytesOf (inputBits d tables (stateOf run))) b
+    → b₃ ≡ stored b₂ q (rowsBits (d .n) (rowsFrom (tables .public) 0 (d .public))) → r ≡ q + (d .n + d .n) * d .public
+    → b₄ ≡ stored b₃ r (stateBits (d .n) (stateOf run)) → inputWires d ≤ length b
+    → b₄ ≡ over (bytesOf (inputBits d tables (stateOf run))) b
 unfolding inputBits
-inputs-stored d tables run b b₁ b₂ b₃ p q e₁ h₁ e₂ h₂ e₃ room =
-    let L = rowsBits (d .n) (rowsFrom (tables .left) 0 (d .left)) in
-    let R = rowsBits (d .n) (rowsFrom (tables .right) 0 (d .right)) in
+inputs-stored d tables run b b₁ b₂ b₃ b₄ p q r e₁ h₁ e₂ h₂ e₃ h₃ e₄ room =
+    let ls = rowsFrom (tables .left) 0 (d .left) in
+    let rs = rowsFrom (tables .right) 0 (d .right) in
+    let ps = rowsFrom (tables .public) 0 (d .public) in
+    let L = rowsBits (d .n) ls in
+    let R = rowsBits (d .n) rs in
+    let P = rowsBits (d .n) ps in
     let S = stateBits (d .n) (stateOf run) in
-    stored-then b 0 p L (R ++ S) e₁ (h₁ ∙ ap (λ (k : ℕ). 0 + k) (sym (table-wires (tables .left) (d .left))))
-    (stored-then b₁ p q R S e₂ (h₂ ∙ ap (λ (k : ℕ). p + k) (sym (table-wires (tables .right) (d .right)))) e₃)
-    ∙ ap (stored b 0) (sym (append-assoc L R S) ∙ ap (λ (l : List Bool). l ++ S) (sym (rows-append (d .n) (rowsFrom (tables .left) 0 (d .left)) (rowsFrom (tables .right) 0 (d .right)))))
+    stored-then b 0 p L (R ++ (P ++ S)) e₁ (h₁ ∙ ap (λ (k : ℕ). 0 + k) (sym (table-wires (tables .left) (d .left))))
+    (stored-then b₁ p q R (P ++ S) e₂ (h₂ ∙ ap (λ (k : ℕ). p + k) (sym (table-wires (tables .right) (d .right))))
+    (stored-then b₂ q r P S e₃ (h₃ ∙ ap (λ (k : ℕ). q + k) (sym (table-wires (tables .public) (d .public)))) e₄))
+    ∙ ap (stored b 0)
+    (ap (λ (l : List Bool). L ++ l) (sym (append-assoc R P S)) ∙ sym (append-assoc L (R ++ P) S)
+    ∙ ap (λ (l : List Bool). l ++ S) (ap (λ (l : List Bool). L ++ l) (sym (rows-append (d .n) rs ps)) ∙ sym (rows-append (d .n) ls (rs ++ ps))))
     ∙ stored-front b (inputBits d tables (stateOf run)) (omega (arith, input-length d tables (stateOf run)))
   where
     table-wires : (words : List ℕ) (k : ℕ) → length (rowsBits (d .n) (rowsFrom words 0 k)) ≡ (d .n + d .n) * k

@@ -17,7 +17,7 @@ use Rattle.state.specs.WellFormed.{stateChecks}
 use Rattle.gates.specs.Memory.{bytesOf, over}
 use Rattle.wires.specs.Layout.{rowsBits, stateBits}
 
--- the input values: left rows, right rows, state
+-- the input values: left rows, right rows, public rows, state
 unfoldable pub inputBits : Dimensions → Tables → State → List Bool
 inputBits d tables s = rowsBits (d .n) (rowsOf d tables) ++ stateBits (d .n) s
 

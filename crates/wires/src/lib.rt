@@ -13,10 +13,17 @@ ghost use Rattle.wires.specs.Packing.{packChecks, packed};
 ghost use Rattle.wires.specs.StatePacking.{packable, packedState};
 
 // Whether rows and run can be packed into so many bytes: 1, 2, 4, 3, 10, 12 or 13 if not.
-pub fn check(d: Dimensions, left: &[u32], right: &[u32], run: Run, room: usize) -> Outcome
-    ensures { λ r. ⌜ r ≡ outcome (packChecks d (allTables (now (left .entry)) (now (right .entry))) run room) ⌝ }
+pub fn check(
+    d: Dimensions,
+    left: &[u32],
+    right: &[u32],
+    public: &[u32],
+    run: Run,
+    room: usize,
+) -> Outcome
+    ensures { λ r. ⌜ r ≡ outcome (packChecks d (allTables (now (left .entry)) (now (right .entry)) (now (public .entry))) run room) ⌝ }
 {
-    match tables::accept(d, left, right) {
+    match tables::accept(d, left, right, public) {
         Outcome::Taken => {}
         Outcome::Refused(refusal) => return Outcome::Refused(refusal),
     }
@@ -26,18 +33,26 @@ pub fn check(d: Dimensions, left: &[u32], right: &[u32], run: Run, room: usize) 
     state::check_state(d, run)
 }
 
-// Packs left rows, right rows and run into the front of the bytes; later bytes stay. Refused, it changes no byte.
-pub fn pack(d: Dimensions, left: &[u32], right: &[u32], run: Run, bytes: &mut [u8]) -> Outcome
-    ensures { λ r. ⌜ r ≡ outcome (packChecks d (allTables (now (left .entry)) (now (right .entry))) run (length (now (bytes .entry)))) ⌝ }
-    ensures { λ _. ⌜ now (bytes .exit) ≡ packed d (allTables (now (left .entry)) (now (right .entry))) run (now (bytes .entry)) ⌝ }
+// Packs left rows, right rows, public rows and run into the front of the bytes; later bytes stay. Refused, it changes no byte.
+pub fn pack(
+    d: Dimensions,
+    left: &[u32],
+    right: &[u32],
+    public: &[u32],
+    run: Run,
+    bytes: &mut [u8],
+) -> Outcome
+    ensures { λ r. ⌜ r ≡ outcome (packChecks d (allTables (now (left .entry)) (now (right .entry)) (now (public .entry))) run (length (now (bytes .entry)))) ⌝ }
+    ensures { λ _. ⌜ now (bytes .exit) ≡ packed d (allTables (now (left .entry)) (now (right .entry)) (now (public .entry))) run (now (bytes .entry)) ⌝ }
 {
-    match check(d, left, right, run, bytes.len()) {
+    match check(d, left, right, public, run, bytes.len()) {
         Outcome::Taken => {}
         Outcome::Refused(refusal) => return Outcome::Refused(refusal),
     }
     let n = d.n as usize;
     let behind_left = packing::put_rows(n, left, d.left as usize, bytes, 0);
-    let behind_rows = packing::put_rows(n, right, d.right as usize, bytes, behind_left);
+    let behind_right = packing::put_rows(n, right, d.right as usize, bytes, behind_left);
+    let behind_rows = packing::put_rows(n, public, d.public as usize, bytes, behind_right);
     packing::put_state(n, run, bytes, behind_rows);
     Outcome::Taken
 }
@@ -52,6 +67,7 @@ pub fn pack_state(run: Run, bytes: &mut [u8]) -> bool
         n,
         left: 1,
         right: 1,
+        public: 0,
     };
     if bytes.len() < d.state_wires() {
         return false;

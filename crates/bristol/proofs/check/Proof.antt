@@ -34,7 +34,7 @@ accepted-requires : tie.Need-accepted-requires
 accepted-requires c κs = search needs
 
 -- the sizes are within the limits
-sized : (c : tie.After-accepted) → let start = c .before .before .before .before .before .before .args in outcome (sizeChecks (start .d .n) (start .d .left) (start .d .right)) ≡ Taken
+sized : (c : tie.After-accepted) → let start = c .before .before .before .before .before .before .args in outcome (sizeChecks (start .d)) ≡ Taken
 sized c = sym (c .before .before .before .before .check .ensures) ∙ c .before .before .enum-told .given .1
 
 -- the gates are judged behind the inputs

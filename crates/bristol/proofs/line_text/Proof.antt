@@ -1,17 +1,19 @@
 -- `line_text` meets its contract: the number picks the line.
 -- Assumes nothing.
-use mathlib.Core.Path.{sym, ap, _∙_}
+use mathlib.Core.Path.{_≡_, sym, ap, _∙_}
+use mathlib.Core.Bool.{true}
 use mathlib.Core.List.{[]}
 use Prim.Native.Nat.{ℕ, _+_, _-_, _/_, _≤_}
 use native.Mathlib.Omega.{arith}
 use denote.Ref.{now}
 use lib.ListN.{length, getD}
 use Rattle.dimensions.specs.Sizes.{inputWires}
-use Rattle.gates.specs.Memory.{gatesOf}
+use Rattle.gates.specs.Memory as Memory
 use Rattle.bristol_line.specs.Lines.{sizeLine}
 use Rattle.bristol_line.specs.ByValue.{lineOf}
 use Rattle.bristol.specs.Text.{gateLines}
 use Rattle.bristol.proofs.Numbering.{inputs-small, lines-first, lines-second, lines-third, lines-blank, lines-gate}
+use Rattle.bristol.proofs.Requests.{taken-within, taken-accepted}
 use borrow.Author.Needs.{needs}
 use Rattle.bristol.proofs.line_text.Statement.{statement}
 use Rattle.bristol.proofs.line_text.Tie as tie
@@ -19,9 +21,13 @@ use Rattle.bristol.proofs.line_text.Tie as tie
 input-wires-requires : tie.Need-input-wires-requires
 input-wires-requires c κs = search needs
 
+-- the gates are accepted
+accepted : (c : tie.Start) → Memory.accepted (inputWires (c .args .d)) (now (c .args .gates)) ≡ true
+accepted c = taken-accepted (c .args .d) (now (c .args .gates)) (c .pre .0)
+
 -- the inputs are few
-few : (c : tie.Start) → inputWires (c .args .d) ≤ 17179869184
-few c = inputs-small (c .args .d) (omega arith) (omega arith) (omega arith)
+few : (c : tie.Start) → inputWires (c .args .d) ≤ 27747
+few c = inputs-small (c .args .d) (taken-within (c .args .d) (now (c .args .gates)) (c .pre .0))
 
 -- a line behind the blank one
 behind : (c : tie.At-match-rest) → 4 ≤ c .before .before .before .args .line
@@ -54,7 +60,7 @@ returns c =
     let gates = length (now (start .args .gates)) / 3 in
     c .sizes .ensures
     ∙ ap (λ (k : ℕ). lineOf (sizeLine gates (k + gates))) (c .before .before .input-wires .ensures)
-    ∙ ap lineOf (sym (lines-first (start .args .d) (now (start .args .gates)) (start .args .line) (start .pre .0) (c .before .match .keys1)))
+    ∙ ap lineOf (sym (lines-first (start .args .d) (now (start .args .gates)) (start .args .line) (accepted start) (c .before .match .keys1)))
 
 returns-2 : tie.Need-returns-2
 returns-2 c =
@@ -75,7 +81,7 @@ returns-5 : tie.Need-returns-5
 returns-5 c =
     let start = c .before .before .before .before .args in
     c .gate-text .ensures
-    ∙ ap (λ (k : ℕ). lineOf (getD (gateLines k (gatesOf (now (start .gates)))) (start .line - 4) [])) (c .before .before .input-wires .ensures)
+    ∙ ap (λ (k : ℕ). lineOf (getD (gateLines k (Memory.gatesOf (now (start .gates)))) (start .line - 4) [])) (c .before .before .input-wires .ensures)
     ∙ ap lineOf (sym (lines-gate (start .d) (now (start .gates)) (start .line) (behind (c .before))))
 
 pub line-text-spec : {M : Type 1} → statement M

@@ -11,15 +11,13 @@ use Rattle.bristol_line.proofs.Lengths.{Holds, holds}
 use Rattle.bristol.specs.Text.{linesOf}
 use Rattle.bristol.specs.Writing.{lineAt}
 use Rattle.bristol.proofs.Numbering.{lines-length}
-use Rattle.bristol.proofs.Requests.{taken-accepted, taken-lines, line-long, line-copied}
+use Rattle.bristol.proofs.Requests.{taken-lines, line-long, line-copied}
 use borrow.Author.Needs.{needs}
 use Rattle.bristol.proofs.put_line.Statement.{statement}
 use Rattle.bristol.proofs.put_line.Tie as tie
 
 line-text-requires : tie.Need-line-text-requires
-line-text-requires c κs =
-    let start = c .before .before in
-    (taken-accepted (start .args .d) (now (start .args .gates)) (start .pre .0), start .pre .1)
+line-text-requires c κs = search needs
 
 -- how many lines there are
 number : (c : tie.Start) → length (linesOf (c .args .d) (gatesOf (now (c .args .gates)))) ≡ 4 + length (now (c .args .gates)) / 3

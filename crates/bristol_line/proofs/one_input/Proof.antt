@@ -4,7 +4,8 @@ use mathlib.Core.List.{_++_, append-assoc}
 use Rattle.lexer.specs.Spelling.{bytes}
 use Rattle.gates.specs.Gates.Gate.{INV}
 use Rattle.bristol_line.specs.Lines.{gateLine}
-use Rattle.bristol_line.proofs.Pieces.{spaced, four-pieces, made}
+use Rattle.bristol_line.specs.ByValue.{spaced}
+use Rattle.bristol_line.proofs.Pieces.{zeros, four-pieces, made}
 use borrow.Author.Needs.{needs}
 use Rattle.bristol_line.proofs.one_input.Statement.{statement}
 use Rattle.bristol_line.proofs.one_input.Tie as tie
@@ -25,7 +26,7 @@ returns : tie.Need-returns
 returns c =
     let start = c .before .before .before .before .before .before .before .before .before .before .args in
     made (((bytes "1 1 " ++ spaced (start .a)) ++ spaced (start .wire)) ++ bytes "INV\n") (gateLine (start .wire) (INV (start .a))) _ _
-    (four-pieces (bytes "1 1 ") (spaced (start .a)) (spaced (start .wire)) (bytes "INV\n") _ _ _ _ _ _ _ _
+    (four-pieces zeros (bytes "1 1 ") (spaced (start .a)) (spaced (start .wire)) (bytes "INV\n") _ _ _ _ _ _ _ _
     (c .before .before .before .before .before .before .before .put .ensures)
     (c .before .before .before .before .before .put-field .ensures .1)
     (c .before .before .before .put-field2 .ensures .1)

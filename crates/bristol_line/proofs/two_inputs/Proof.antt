@@ -4,7 +4,8 @@ use mathlib.Core.List.{_∷_, _++_, append-assoc}
 use denote.Ref.{now}
 use Rattle.lexer.specs.Spelling.{bytes}
 use Rattle.text.specs.Decimal.{decimal}
-use Rattle.bristol_line.proofs.Pieces.{spaced, five-pieces, made}
+use Rattle.bristol_line.specs.ByValue.{spaced}
+use Rattle.bristol_line.proofs.Pieces.{zeros, five-pieces, made}
 use borrow.Author.Needs.{needs}
 use Rattle.bristol_line.proofs.two_inputs.Statement.{statement}
 use Rattle.bristol_line.proofs.two_inputs.Tie as tie
@@ -29,7 +30,7 @@ returns c =
     let start = c .before .before .before .before .before .before .before .before .before .before .before .args in
     made ((((bytes "2 1 " ++ spaced (start .a)) ++ spaced (start .b)) ++ spaced (start .wire)) ++ now (start .kind))
     (bytes "2 1 " ++ decimal (start .a) ++ (32 ∷ decimal (start .b) ++ (32 ∷ decimal (start .wire) ++ (32 ∷ now (start .kind))))) _ _
-    (five-pieces (bytes "2 1 ") (spaced (start .a)) (spaced (start .b)) (spaced (start .wire)) (now (start .kind)) _ _ _ _ _ _ _ _ _ _
+    (five-pieces zeros (bytes "2 1 ") (spaced (start .a)) (spaced (start .b)) (spaced (start .wire)) (now (start .kind)) _ _ _ _ _ _ _ _ _ _
     (c .before .before .before .before .before .before .before .before .put .ensures)
     (c .before .before .before .before .before .before .put-field .ensures .1)
     (c .before .before .before .before .put-field2 .ensures .1)

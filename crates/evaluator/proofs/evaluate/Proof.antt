@@ -1,4 +1,4 @@
--- `evaluate` meets its contract: either way of evaluating has it, and the trial's premises are what the tests found.
+-- `evaluate` meets its contract: each way of evaluating has it, and a trial's premises are what the tests found.
 -- Assumes nothing.
 use borrow.Author.Needs.{needs}
 use mathlib.Core.Path.{sym, _∙_}
@@ -8,6 +8,10 @@ use lib.ListN.{length}
 use Rattle.evaluator.proofs.evaluate.Statement.{statement}
 use Rattle.evaluator.proofs.evaluate.Tie as tie
 
+-- where the code starts, from where the slices' lengths are known
+abbrev start : tie.After-slice-known → tie.Start
+start c = c .before .before .before
+
 add-end : tie.Need-add-end
 add-end c = search needs
 
@@ -16,9 +20,9 @@ bits-requires c κs = search needs
 
 try-out-requires : tie.Need-try-out-requires
 try-out-requires c κs =
-    let a = c .before .before .before .before .before .before .before .before .args in
-    let t = c .before .before .bits in
-    (leb-true (length (a .inputs .now) + length (a .gates .now) / 3) 204800 (c .before .before .before .if2 .taken), sym (t .ensures) ∙ c .before .if3 .taken)
+    let at-if2 = c .before .before .before in
+    let a = start (at-if2 .before .before) .args in
+    (leb-true (length (a .inputs .now) + length (a .gates .now) / 3) 204800 (at-if2 .if2 .taken), sym (c .before .before .bits .ensures) ∙ c .before .if3 .taken)
 
 same-length : tie.Need-same-length
 same-length c = search needs
@@ -26,14 +30,29 @@ same-length c = search needs
 returns : tie.Need-returns
 returns c = search needs
 
-evaluate-requires : tie.Need-evaluate-requires
-evaluate-requires c κs = search needs
+bits-requires-2 : tie.Need-bits-requires-2
+bits-requires-2 c κs = search needs
+
+try-out-large-requires : tie.Need-try-out-large-requires
+try-out-large-requires c κs =
+    let at-if5 = c .before .before .before in
+    let a = start (at-if5 .before .before .before) .args in
+    (leb-true (length (a .inputs .now) + length (a .gates .now) / 3) 286720 (at-if5 .if5 .taken), sym (c .before .before .bits2 .ensures) ∙ c .before .if6 .taken)
 
 same-length-2 : tie.Need-same-length-2
 same-length-2 c = search needs
 
 returns-2 : tie.Need-returns-2
 returns-2 c = search needs
+
+evaluate-requires : tie.Need-evaluate-requires
+evaluate-requires c κs = search needs
+
+same-length-3 : tie.Need-same-length-3
+same-length-3 c = search needs
+
+returns-3 : tie.Need-returns-3
+returns-3 c = search needs
 
 pub evaluate-spec : {M : Type 1} → statement M
 evaluate-spec =
@@ -44,6 +63,10 @@ evaluate-spec =
     try-out-requires
     same-length
     returns
-    evaluate-requires
+    bits-requires-2
+    try-out-large-requires
     same-length-2
-    returns-2)
+    returns-2
+    evaluate-requires
+    same-length-3
+    returns-3)

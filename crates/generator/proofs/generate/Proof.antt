@@ -1,11 +1,27 @@
 -- `generate` meets its contract: each way out is the outcome of its checks.
 -- Assumes nothing.
-use mathlib.Core.Path.{sym, _∙_}
+use mathlib.Core.Path.{_≡_, sym, _∙_}
 use native.Mathlib.Omega.{arith}
-use Rattle.generator.proofs.Generating.{small, ceiling-small, with-said, refuse-size, refuse-buffer, taken}
+use Rattle.refusals.specs.Checks.{outcome}
+use Rattle.refusals.specs.declared.Outcome.the-variants.{Taken}
+use Rattle.dimensions.specs.Sizes.{sizeChecks}
+use Rattle.dimensions.proofs.Limits.{within}
+use Rattle.generator.proofs.Generating.{ceiling-small, with-said, refuse-size, refuse-buffer, taken}
 use borrow.Author.Needs.{needs}
 use Rattle.generator.proofs.generate.Statement.{statement}
 use Rattle.generator.proofs.generate.Tie as tie
+
+-- ---- the places of the code, each from the one behind it
+
+abbrev start : tie.After-check → tie.Start
+start c = c .before .before
+
+abbrev checked : tie.After-enum-told → tie.After-check
+checked c = c .before .before
+
+-- the sizes are taken where the ceiling is asked for
+sizes : (c : tie.After-enum-told) → outcome (sizeChecks (start (checked c) .args .d)) ≡ Taken
+sizes c = sym (checked c .check .ensures) ∙ c .enum-told .given .1
 
 check-requires : tie.Need-check-requires
 check-requires c κs = search needs
@@ -15,8 +31,9 @@ enum-known-outcome c = search needs
 
 returns : tie.Need-returns
 returns c =
-    let a = c .before .before .before .before .before .args in
-    with-said (a .d) (a .words .now) _ _ (refuse-size (a .d) (a .words .now) _ (sym (c .before .before .before .check .ensures) ∙ c .before .outcome .given .1))
+    let at-check = c .before .before .before in
+    let a = start at-check .args in
+    with-said (a .d) (a .words .now) _ _ (refuse-size (a .d) (a .words .now) _ (sym (at-check .check .ensures) ∙ c .before .outcome .given .1))
 
 enum-told : tie.Need-enum-told
 enum-told c = search needs
@@ -25,27 +42,23 @@ ceiling-requires : tie.Need-ceiling-requires
 ceiling-requires c κs = search needs
 
 mul-if1 : tie.Need-mul-if1
-mul-if1 c = omega (arith, c .ceiling .ensures, ceiling-small (c .before .before .before .before .before .args .d .n) (c .before .before .before .before .before .args .d .left) (c .before .before .before .before .before .args .d .right) (sym (c .before .before .before .check .ensures) ∙ c .before .enum-told .given .1))
+mul-if1 c =
+    let d = start (checked (c .before)) .args .d in
+    omega (arith, c .ceiling .ensures, ceiling-small d (within d (sizes (c .before))))
 
 returns-2 : tie.Need-returns-2
 returns-2 c =
     let at-enum-told = c .before .before in
-    let at-check = at-enum-told .before .before in
-    let start = at-check .before .before in
-    let a = start .args in
+    let a = start (checked at-enum-told) .args in
     with-said (a .d) (a .words .now) _ _
-    (refuse-buffer (a .d) (a .words .now) (sym (at-check .check .ensures) ∙ at-enum-told .enum-told .given .1)
-    (rw (c .before .ceiling .ensures) at (c .if1 .taken)))
+    (refuse-buffer (a .d) (a .words .now) (sizes at-enum-told) (rw (c .before .ceiling .ensures) at (c .if1 .taken)))
 
 write-requires : tie.Need-write-requires
 write-requires c κs =
     let at-ceiling = c .before .before in
-    let at-enum-told = at-ceiling .before in
-    let at-check = at-enum-told .before .before in
-    let start = at-check .before .before in
-    let a = start .args in
-    let t = small (a .d .n) (a .d .left) (a .d .right) (sym (at-check .check .ensures) ∙ at-enum-told .enum-told .given .1) in
-    (t .0, t .1, rw (at-ceiling .ceiling .ensures) at (c .before .if1 .left))
+    let d = start (checked (at-ceiling .before)) .args .d in
+    let w = within d (sizes (at-ceiling .before)) in
+    (w .n-most, w .rows-most, rw (at-ceiling .ceiling .ensures) at (c .before .if1 .left))
 
 same-length : tie.Need-same-length
 same-length c = search needs
@@ -55,12 +68,9 @@ returns-3 c =
     let at-write = c .before .before in
     let at-if1 = at-write .before .before in
     let at-ceiling = at-if1 .before in
-    let at-enum-told = at-ceiling .before in
-    let at-check = at-enum-told .before .before in
-    let start = at-check .before .before in
-    let a = start .args in
+    let a = start (checked (at-ceiling .before)) .args in
     with-said (a .d) (a .words .now) _ _
-    (taken (a .d) (a .words .now) (sym (at-check .check .ensures) ∙ at-enum-told .enum-told .given .1)
+    (taken (a .d) (a .words .now) (sizes (at-ceiling .before))
     (rw (at-ceiling .ceiling .ensures) at (at-if1 .if1 .left)) _ _ (at-write .write .ensures .0) (at-write .write .ensures .1))
 
 pub generate-spec : {M : Type 1} → statement M

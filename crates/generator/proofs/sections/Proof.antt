@@ -6,6 +6,7 @@ use Prim.Native.Nat.{_+_, _*_, _-_, _≤_}
 use native.Mathlib.Omega.{arith}
 use lib.ListN.{length}
 use lib.Seq.{sets, length-sets}
+use Rattle.dimensions.specs.Sizes.{rowCount, ceiling}
 use Rattle.gates.specs.Memory.{wordsOf}
 use Rattle.netlist.specs.Arrays.{rows}
 use Rattle.generator.specs.Storing.{gatesAt}
@@ -45,8 +46,8 @@ section-requires c κs =
     let a = l .before .before in
     let d = a .args .d in
     let k = kept l in
-    let room : 3 * (64 * (d .left + d .right + d .n + 1) * (d .n + 1)) ≤ length (l .loop .words) = omega (arith, a .pre .0 .2) in
-    ((refl, refl), fits (d .n) (d .left + d .right) (length (l .loop .words)) (a .pre .0 .0) (a .pre .0 .1) room (a .args .inputs) (a .pre .1 .0) (l .loop .k) _ (c .before .before .before .at .ensures))
+    let room : 3 * ceiling d ≤ length (l .loop .words) = omega (arith, a .pre .0 .2) in
+    ((refl, refl), fits (d .n) (rowCount d) (length (l .loop .words)) (a .pre .0 .0) (a .pre .0 .1) room (a .args .inputs) (a .pre .1 .0) (l .loop .k) _ (c .before .before .before .at .ensures))
 
 add-k : tie.Need-add-k Inv-loop μ-loop
 add-k c = search needs
@@ -64,7 +65,7 @@ loop-again c =
     let d = a .args .d in
     let test = at-loop-test .loop-test .taken in (
       omega (arith, test),
-      section-more (d .n) (d .left + d .right) (l .loop .k) (omega (arith, test, a .pre .1 .1)) (a .args .inputs) (a .pre .1 .0) _ (at-at .at .ensures)
+      section-more (d .n) (rowCount d) (l .loop .k) (omega (arith, test, a .pre .1 .1)) (a .args .inputs) (a .pre .1 .0) _ (at-at .at .ensures)
           (a .args .words .now) (l .loop .words) _ (l .loop .inv .1) (at-section .section .ensures),
     )
 

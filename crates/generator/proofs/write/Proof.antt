@@ -5,6 +5,7 @@ use mathlib.Core.List.{List}
 use Prim.Native.Nat.{_+_}
 use native.Mathlib.Omega.{arith}
 use lib.Seq.{sets}
+use Rattle.dimensions.specs.Sizes.{rowCount}
 use Rattle.gates.specs.Gates.{Gate}
 use Rattle.gates.specs.Memory.{wordsOf}
 use Rattle.sections.specs.declared.Addresses.{Addresses}
@@ -15,14 +16,22 @@ use borrow.Author.Needs.{needs}
 use Rattle.generator.proofs.write.Statement.{statement}
 use Rattle.generator.proofs.write.Tie as tie
 
+-- ---- the places of the code, each from the one behind it
+
+abbrev start : tie.After-of → tie.Start
+start c = c .before .before
+
+abbrev addressed : tie.After-sections → tie.After-of
+addressed c = c .before .before .before .before
+
 of-requires : tie.Need-of-requires
 of-requires c κs = search needs
 
 sub-gates : tie.Need-sub-gates
 sub-gates c =
-    let s = c .before .before .before in
+    let s = start (c .before) in
     let d = s .args .d in
-    omega (arith, wires-few (d .n) (d .left + d .right) (s .pre .0) (s .pre .1) _ (c .before .of .ensures))
+    omega (arith, wires-few (d .n) (rowCount d) (s .pre .0) (s .pre .1) _ (c .before .of .ensures))
 
 cast-sections : tie.Need-cast-sections
 cast-sections c = search needs
@@ -32,15 +41,16 @@ add-sections c = search needs
 
 sections-requires : tie.Need-sections-requires
 sections-requires c κs =
-    let s = c .before .before .before .before .before in
-    ((s .pre .0, s .pre .1, s .pre .2), (ap (λ (a : Addresses). a .inputs) (c .before .before .before .of .ensures), omega arith))
+    let at-of = c .before .before .before in
+    let s = start at-of in
+    ((s .pre .0, s .pre .1, s .pre .2), (ap (λ (a : Addresses). a .inputs) (at-of .of .ensures), omega arith))
 
 cast-result : tie.Need-cast-result
 cast-result c =
-    let at-of = c .before .before .before .before .before .before in
-    let s = at-of .before .before in
+    let at-of = addressed (c .before .before) in
+    let s = start at-of in
     let d = s .args .d in
-    omega (arith, wires-few (d .n) (d .left + d .right) (s .pre .0) (s .pre .1) _ (at-of .of .ensures))
+    omega (arith, wires-few (d .n) (rowCount d) (s .pre .0) (s .pre .1) _ (at-of .of .ensures))
 
 same-length : tie.Need-same-length
 same-length c = search needs
@@ -48,11 +58,11 @@ same-length c = search needs
 returns : tie.Need-returns
 returns c =
     let at-sections = c .before .before in
-    let at-of = at-sections .before .before .before .before in
-    let s = at-of .before .before in
+    let at-of = addressed at-sections in
+    let s = start at-of in
     let d = s .args .d in (
-      counted (d .n) (d .left + d .right) _ (at-of .of .ensures),
-      at-sections .sections .ensures ∙ ap (λ (l : List Gate). sets (s .args .words .now) 0 (wordsOf l)) (all-sections (d .n) (d .left + d .right) (19 + d .n) refl),
+      counted (d .n) (rowCount d) _ (at-of .of .ensures),
+      at-sections .sections .ensures ∙ ap (λ (l : List Gate). sets (s .args .words .now) 0 (wordsOf l)) (all-sections (d .n) (rowCount d) (19 + d .n) refl),
     )
 
 pub write-spec : {M : Type 1} → statement M

@@ -8,9 +8,13 @@ use borrow.Author.Needs.{needs}
 use Rattle.wires.proofs.check.Statement.{statement}
 use Rattle.wires.proofs.check.Tie as tie
 
+-- where the code starts, from the first call
+abbrev start : tie.After-accept → tie.Start
+start c = c .before .before .before .before
+
 -- the tables at the start
 abbrev tables : tie.Start → Tables
-tables s = allTables (s .args .left .now) (s .args .right .now)
+tables s = allTables (s .args .left .now) (s .args .right .now) (s .args .public .now)
 
 accept-requires : tie.Need-accept-requires
 accept-requires c κs = search needs
@@ -24,8 +28,8 @@ enum-known-refusal c = search needs
 returns : tie.Need-returns
 returns c =
     let at-accept = c .before .before .before in
-    let start = at-accept .before .before .before in
-    let s = start in refuse-tables (s .args .d) (tables s) (s .args .run) (s .args .room) _ (sym (at-accept .accept .ensures) ∙ c .before .refusal .given .1)
+    let s = start at-accept in
+    refuse-tables (s .args .d) (tables s) (s .args .run) (s .args .room) _ (sym (at-accept .accept .ensures) ∙ c .before .refusal .given .1)
 
 input-wires-requires : tie.Need-input-wires-requires
 input-wires-requires c κs = search needs
@@ -34,7 +38,7 @@ returns-2 : tie.Need-returns-2
 returns-2 c =
     let at-enum-told = c .before .before in
     let at-accept = at-enum-told .before .before in
-    let s = at-accept .before .before .before in
+    let s = start at-accept in
     refuse-room (s .args .d) (tables s) (s .args .run) (s .args .room) (sym (at-accept .accept .ensures) ∙ at-enum-told .enum-told .given .1)
     (subst (λ (k : ℕ). s .args .room < k) (c .before .input-wires .ensures) (c .if1 .taken))
 
@@ -46,7 +50,7 @@ returns-3 c =
     let at-input-wires = c .before .before in
     let at-enum-told = at-input-wires .before in
     let at-accept = at-enum-told .before .before in
-    let s = at-accept .before .before .before in
+    let s = start at-accept in
     c .check-state .ensures
     ∙ state-decides (s .args .d) (tables s) (s .args .run) (s .args .room) (sym (at-accept .accept .ensures) ∙ at-enum-told .enum-told .given .1)
     (subst (λ (k : ℕ). k ≤ s .args .room) (at-input-wires .input-wires .ensures) (c .before .if1 .left))

@@ -1,11 +1,14 @@
--- `pack` meets its contract: left rows, right rows and state are stored one behind the other.
+-- `pack` meets its contract: left rows, right rows, public rows and state are stored one behind the other.
 -- Assumes nothing.
 use mathlib.Core.Path.{_≡_, sym, _∙_}
 use native.Mathlib.Omega.{arith}
 use lib.ListN.{length}
+use Rattle.refusals.specs.Checks.{outcome}
+use Rattle.refusals.specs.declared.Outcome.the-variants.{Taken}
 use Rattle.tables.specs.Tables.{Tables, allTables}
 use Rattle.wires.proofs.Lengths.{input-parts}
-use Rattle.wires.proofs.Checks.{passed, pack-refused, pack-taken}
+use Rattle.wires.specs.Packing.{packChecks}
+use Rattle.wires.proofs.Checks.{Passed, passed, pack-refused, pack-taken}
 use Rattle.wires.proofs.Tables.{inputs-stored}
 use borrow.Author.Needs.{needs}
 use Rattle.wires.proofs.pack.Statement.{statement}
@@ -13,7 +16,31 @@ use Rattle.wires.proofs.pack.Tie as tie
 
 -- the tables at the start
 abbrev tables : tie.Start → Tables
-tables s = allTables (s .args .left .now) (s .args .right .now)
+tables s = allTables (s .args .left .now) (s .args .right .now) (s .args .public .now)
+
+-- ---- the places of the code, each from the one behind it
+
+abbrev start : tie.After-check → tie.Start
+start c = c .before .before .before .before .before
+
+abbrev told : tie.After-put-rows → tie.After-enum-told
+told c = c .before .before .before .before
+
+abbrev left-put : tie.After-put-rows2 → tie.After-put-rows
+left-put c = c .before .before .before .before .before
+
+abbrev right-put : tie.After-put-rows3 → tie.After-put-rows2
+right-put c = c .before .before .before .before .before
+
+abbrev started : tie.After-enum-told → tie.Start
+started c = start (c .before .before)
+
+-- the checks that are passed where rows are put
+passes : (c : tie.After-enum-told) → let s = started c in outcome (packChecks (s .args .d) (tables s) (s .args .run) (length (s .args .bytes .now))) ≡ Taken
+passes c = sym (c .before .before .check .ensures) ∙ c .enum-told .given .1
+
+taken : (c : tie.After-enum-told) → let s = started c in Passed (s .args .d) (tables s) (s .args .run) (length (s .args .bytes .now))
+taken c = let s = started c in passed (s .args .d) (tables s) (s .args .run) (length (s .args .bytes .now)) (passes c)
 
 check-requires : tie.Need-check-requires
 check-requires c κs = search needs
@@ -27,7 +54,7 @@ enum-known-refusal c = search needs
 returns : tie.Need-returns
 returns c =
     let at-check = c .before .before .before in
-    let s = at-check .before .before .before .before in
+    let s = start at-check in
     let e = sym (at-check .check .ensures) ∙ c .before .refusal .given .1 in
     (sym e, pack-refused (s .args .d) (tables s) (s .args .run) (s .args .bytes .now) _ e)
 
@@ -40,10 +67,9 @@ cast-put-rows c = search needs
 put-rows-requires : tie.Need-put-rows-requires
 put-rows-requires c κs =
     let at-enum-told = c .before .before .before in
-    let at-check = at-enum-told .before .before in
-    let s = at-check .before .before .before .before in
-    let o = passed (s .args .d) (tables s) (s .args .run) (length (s .args .bytes .now)) (sym (at-check .check .ensures) ∙ at-enum-told .enum-told .given .1) in
-    (o .allowed .n-most, (o .allowed .left-length, omega (arith, o .enough, input-parts (s .args .d))))
+    let s = started at-enum-told in
+    let o = taken at-enum-told in
+    (o .allowed .size .n-most, (o .allowed .left-length, omega (arith, o .enough, input-parts (s .args .d))))
 
 cast-put-rows-2 : tie.Need-cast-put-rows-2
 cast-put-rows-2 c = search needs
@@ -51,27 +77,41 @@ cast-put-rows-2 c = search needs
 put-rows-requires-2 : tie.Need-put-rows-requires-2
 put-rows-requires-2 c κs =
     let at-put-rows = c .before .before .before .before in
-    let at-enum-told = at-put-rows .before .before .before .before in
-    let at-check = at-enum-told .before .before in
-    let s = at-check .before .before .before .before in
+    let s = started (told at-put-rows) in
+    let o = taken (told at-put-rows) in
     let p = at-put-rows .put-rows in
-    let o = passed (s .args .d) (tables s) (s .args .run) (length (s .args .bytes .now)) (sym (at-check .check .ensures) ∙ at-enum-told .enum-told .given .1) in
-    let l : length (p .last .1 .1 .1 .0) ≡ length (s .args .bytes .now) = p .kept .1 .1 .1 .0 in
-    (o .allowed .n-most, (o .allowed .right-length, omega (arith, p .ensures .0, o .enough, input-parts (s .args .d))))
+    let k : length (p .last .1 .1 .1 .0) ≡ length (s .args .bytes .now) = p .kept .1 .1 .1 .0 in
+    (o .allowed .size .n-most, (o .allowed .right-length, omega (arith, p .ensures .0, o .enough, input-parts (s .args .d))))
+
+cast-put-rows-3 : tie.Need-cast-put-rows-3
+cast-put-rows-3 c = search needs
+
+put-rows-requires-3 : tie.Need-put-rows-requires-3
+put-rows-requires-3 c κs =
+    let at-put-rows2 = c .before .before .before .before in
+    let at-put-rows = left-put at-put-rows2 in
+    let s = started (told at-put-rows) in
+    let o = taken (told at-put-rows) in
+    let p = at-put-rows .put-rows in
+    let q = at-put-rows2 .put-rows2 in
+    let k : length (p .last .1 .1 .1 .0) ≡ length (s .args .bytes .now) = p .kept .1 .1 .1 .0 in
+    let l : length (q .last .1 .1 .1 .0) ≡ length (p .last .1 .1 .1 .0) = q .kept .1 .1 .1 .0 in
+    (o .allowed .size .n-most, (o .allowed .public-length, omega (arith, p .ensures .0, q .ensures .0, o .enough, input-parts (s .args .d))))
 
 put-state-requires : tie.Need-put-state-requires
 put-state-requires c κs =
-    let at-put-rows2 = c .before .before .before in
-    let at-put-rows = at-put-rows2 .before .before .before .before .before in
-    let at-enum-told = at-put-rows .before .before .before .before in
-    let at-check = at-enum-told .before .before in
-    let s = at-check .before .before .before .before in
+    let at-put-rows3 = c .before .before .before in
+    let at-put-rows2 = right-put at-put-rows3 in
+    let at-put-rows = left-put at-put-rows2 in
+    let s = started (told at-put-rows) in
+    let o = taken (told at-put-rows) in
     let p = at-put-rows .put-rows in
     let q = at-put-rows2 .put-rows2 in
-    let o = passed (s .args .d) (tables s) (s .args .run) (length (s .args .bytes .now)) (sym (at-check .check .ensures) ∙ at-enum-told .enum-told .given .1) in
+    let r = at-put-rows3 .put-rows3 in
     let k : length (p .last .1 .1 .1 .0) ≡ length (s .args .bytes .now) = p .kept .1 .1 .1 .0 in
     let l : length (q .last .1 .1 .1 .0) ≡ length (p .last .1 .1 .1 .0) = q .kept .1 .1 .1 .0 in
-    (o .allowed .n-most, omega (arith, p .ensures .0, q .ensures .0, o .enough, input-parts (s .args .d)))
+    let m : length (r .last .1 .1 .1 .0) ≡ length (q .last .1 .1 .1 .0) = r .kept .1 .1 .1 .0 in
+    (o .allowed .size .n-most, omega (arith, p .ensures .0, q .ensures .0, r .ensures .0, o .enough, input-parts (s .args .d)))
 
 same-length : tie.Need-same-length
 same-length c = search needs
@@ -79,17 +119,19 @@ same-length c = search needs
 returns-2 : tie.Need-returns-2
 returns-2 c =
     let at-put-state = c .before .before in
-    let at-put-rows2 = at-put-state .before .before .before .before in
-    let at-put-rows = at-put-rows2 .before .before .before .before .before in
-    let at-enum-told = at-put-rows .before .before .before .before in
-    let at-check = at-enum-told .before .before in
-    let s = at-check .before .before .before .before in
+    let at-put-rows3 = at-put-state .before .before .before .before in
+    let at-put-rows2 = right-put at-put-rows3 in
+    let at-put-rows = left-put at-put-rows2 in
+    let s = started (told at-put-rows) in
+    let e = passes (told at-put-rows) in
     let p = at-put-rows .put-rows in
     let q = at-put-rows2 .put-rows2 in
-    let r = at-put-state .put-state in
-    let e = sym (at-check .check .ensures) ∙ at-enum-told .enum-told .given .1 in
-    let o = passed (s .args .d) (tables s) (s .args .run) (length (s .args .bytes .now)) e in
-    (sym e, inputs-stored (s .args .d) (tables s) (s .args .run) (s .args .bytes .now) _ _ _ _ _ (p .ensures .1) (p .ensures .0) (q .ensures .1) (q .ensures .0) (r .ensures) (o .enough) ∙ pack-taken (s .args .d) (tables s) (s .args .run) (s .args .bytes .now) e)
+    let r = at-put-rows3 .put-rows3 in
+    let t = at-put-state .put-state in
+    let stored =
+    inputs-stored (s .args .d) (tables s) (s .args .run) (s .args .bytes .now) _ _ _ _ _ _ _ (p .ensures .1) (p .ensures .0) (q .ensures .1) (q .ensures .0)
+    (r .ensures .1) (r .ensures .0) (t .ensures) (taken (told at-put-rows) .enough) in
+    (sym e, stored ∙ pack-taken (s .args .d) (tables s) (s .args .run) (s .args .bytes .now) e)
 
 pub pack-spec : {M : Type 1} → statement M
 pack-spec =
@@ -104,6 +146,8 @@ pack-spec =
     put-rows-requires
     cast-put-rows-2
     put-rows-requires-2
+    cast-put-rows-3
+    put-rows-requires-3
     put-state-requires
     same-length
     returns-2)

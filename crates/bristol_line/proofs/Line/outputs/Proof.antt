@@ -9,7 +9,8 @@ use Rattle.text.specs.Decimal.{decimal}
 use Rattle.text.proofs.Decimals.{decimal-digit}
 use Rattle.dimensions.specs.Sizes.{stateWires}
 use Rattle.bristol_line.specs.Lines.{line, outputLine}
-use Rattle.bristol_line.proofs.Pieces.{spaced, ended, three-pieces, made}
+use Rattle.bristol_line.specs.ByValue.{spaced}
+use Rattle.bristol_line.proofs.Pieces.{zeros, ended, three-pieces, made}
 use borrow.Author.Needs.{needs}
 use Rattle.bristol_line.proofs.Line.outputs.Statement.{statement}
 use Rattle.bristol_line.proofs.Line.outputs.Tie as tie
@@ -34,7 +35,7 @@ returns c =
     let fields : List ℕ → ℕ → List ℕ → List (List ℕ) = λ count k closing. count ∷ decimal k ∷ closing ∷ [] in
     let pieces : (spaced 2 ++ spaced wires) ++ ended 1 ≡ line (fields (decimal 2) wires (decimal 1)) = simp append-assoc in
     made ((spaced 2 ++ spaced wires) ++ ended 1) (outputLine d) _ _
-    (three-pieces (spaced 2) (spaced wires) (ended 1) _ _ _ _ _ _ (c .before .before .before .before .before .put-field .ensures .1) (c .before .before .put-field2 .ensures .1) (c .put-field3 .ensures .1))
+    (three-pieces zeros (spaced 2) (spaced wires) (ended 1) _ _ _ _ _ _ (c .before .before .before .before .before .put-field .ensures .1) (c .before .before .put-field2 .ensures .1) (c .put-field3 .ensures .1))
     (pieces ∙ ap₂ (λ (count : List ℕ) (k : ℕ). line (fields count k (decimal 1))) (decimal-digit 2 (omega arith)) (state .state-wires .ensures)
     ∙ ap (λ (closing : List ℕ). line (fields (bytes "2") (stateWires (d .n)) closing)) (decimal-digit 1 (omega arith)))
 

@@ -2,7 +2,8 @@
 -- Assumes nothing.
 use mathlib.Core.List.{_++_, append-assoc}
 use Rattle.bristol_line.specs.Lines.{sizeLine}
-use Rattle.bristol_line.proofs.Pieces.{spaced, ended, further, made}
+use Rattle.bristol_line.specs.ByValue.{spaced}
+use Rattle.bristol_line.proofs.Pieces.{ended, further, made}
 use borrow.Author.Needs.{needs}
 use Rattle.bristol_line.proofs.Line.sizes.Statement.{statement}
 use Rattle.bristol_line.proofs.Line.sizes.Tie as tie

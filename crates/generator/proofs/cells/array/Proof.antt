@@ -31,14 +31,14 @@ facts : (c : tie.In-loop Inv-loop μ-loop)
     → let s = c .before .before .before .before .before .before .before .before .args .s in
     let j = c .before .loop .j in
     let row = s .zeros + s .size * s .cells in
-    (row ≤ 4100) × (row * j + row ≤ row * s .lines) × (row * s .lines ≤ 1049600)
+    (row ≤ 6148) × (row * j + row ≤ row * s .lines) × (row * s .lines ≤ 2360832)
 facts c =
     let a = c .before .before .before .before .before .before .before .before in
     let s = a .args .s in
     let row = s .zeros + s .size * s .cells in
     let f = a .pre .1 in
-    let h : row ≤ 4100 = omega (arith, mul-le-mul (f .named .1) (f .counts .2), f .counts .0) in
-    let t = turns row (s .lines) (c .before .loop .j) 4100 256 h (f .counts .1) (c .loop-test .taken) in
+    let h : row ≤ 6148 = omega (arith, mul-le-mul (f .named .1) (f .counts .2), f .counts .0) in
+    let t = turns row (s .lines) (c .before .loop .j) 6148 384 h (f .counts .1) (c .loop-test .taken) in
     (h, t .0, t .1)
 
 mul-row : tie.Need-mul-row Inv-loop μ-loop
@@ -61,7 +61,7 @@ along-requires : tie.Need-along-requires Inv-loop μ-loop
 along-requires c κs =
     let s = c .before .before .before .before .before .before .before .before in
     let f = s .pre .1 in
-    (below-more 16777216 33554432 (s .args .s .slots) (f .below .0) (omega arith), f .below .1, omega (arith, f .counts .1))
+    (below-more 16777216 41943040 (s .args .s .slots) (f .below .0) (omega arith), f .below .1, omega (arith, f .counts .1))
 
 line-requires : tie.Need-line-requires Inv-loop μ-loop
 line-requires c κs =
@@ -74,7 +74,7 @@ line-requires c κs =
     let k = kept l in
     let few : length (a .args .template .now) ≤ 16 = omega (arith, f .named .1) in
     let at : l .loop .at ≡ s .base + (s .zeros + s .size * s .cells) * l .loop .j = rw e at (l .loop .inv .1) in
-    let here = along-below 16777216 65536 256 (s .slots) (s .outer) (l .loop .j) (f .below .0) (f .below .1) (omega (arith, f .counts .1)) in
+    let here = along-below 16777216 65536 384 (s .slots) (s .outer) (l .loop .j) (f .below .0) (f .below .1) (omega (arith, f .counts .1)) in
     let room : 3 * (l .loop .at - a .args .inputs) + 3 * (s .zeros + s .size * s .cells) ≤ length (l .loop .words) = omega (arith, f .room, f .begins, at, t) in
     ((a .pre .0 .0, few), ((f .counts .0, f .counts .2, omega (arith, f .begins, at), omega (arith, f .begins, at, t)), ((rw (c .before .along .ensures) here, f .below .2), rw e room)))
 

@@ -38,14 +38,14 @@ place-requires c κs =
     let l = c .before .before .before in
     let s = l .before .before .before in
     let k = kept l in
-    let t = turns (length (s .args .template .now)) (s .args .n) (l .loop .i) 16 256 (s .pre .0 .1) (s .pre .1 .0 .0) (c .before .before .loop-test .taken) in
+    let t = turns (length (s .args .template .now)) (s .args .n) (l .loop .i) 16 384 (s .pre .0 .1) (s .pre .1 .0 .0) (c .before .before .loop-test .taken) in
     (s .pre .0 .0, ((omega arith, omega arith), omega arith))
 
 add-at : tie.Need-add-at Inv-loop μ-loop
 add-at c =
     let l = c .before .before .before .before .before .before in
     let s = l .before .before .before in
-    let t = turns (length (s .args .template .now)) (s .args .n) (l .loop .i) 16 256 (s .pre .0 .1) (s .pre .1 .0 .0) (c .before .before .before .before .before .loop-test .taken) in
+    let t = turns (length (s .args .template .now)) (s .args .n) (l .loop .i) 16 384 (s .pre .0 .1) (s .pre .1 .0 .0) (c .before .before .before .before .before .loop-test .taken) in
     omega arith
 
 add-i : tie.Need-add-i Inv-loop μ-loop

@@ -1,9 +1,10 @@
 -- `Section::at` meets its contract: the tests are the definition's, and sums over the addresses fit.
 -- Assumes nothing.
 use mathlib.Core.Path.{ap, _∙_}
-use Prim.Native.Nat.{_+_, _-_}
+use Prim.Native.Nat.{_-_}
 use native.Mathlib.Omega.{arith}
 use lib.ListN.{getD}
+use Rattle.dimensions.specs.Sizes.{rowCount}
 use Rattle.sections.specs.declared.Addresses.{Addresses}
 use Rattle.sections.specs.Addressing.{addressesOn}
 use Rattle.sections.specs.Sections.{first, nextLevel, nextStanding}
@@ -22,7 +23,7 @@ cast-n c = search needs
 first-requires : tie.Need-first-requires
 first-requires c κs =
     let d = c .before .before .before .args .d in
-    (small (d .n) (d .left + d .right) (omega arith) (omega arith) _ (c .before .before .of .ensures), c .if1 .taken)
+    (small (d .n) (rowCount d) (omega arith) (omega arith) _ (c .before .before .of .ensures), c .if1 .taken)
 
 returns : tie.Need-returns
 returns c =
@@ -33,12 +34,12 @@ returns c =
 next-level-requires : tie.Need-next-level-requires
 next-level-requires c κs =
     let s = c .before .before .before .before .args in
-    small-before (s .d .n) (s .d .left + s .d .right) (omega arith) (omega arith) _ (c .before .before .before .of .ensures) (s .k - 18) (omega arith)
+    small-before (s .d .n) (rowCount (s .d)) (omega arith) (omega arith) _ (c .before .before .before .of .ensures) (s .k - 18) (omega arith)
 
 next-standing-requires : tie.Need-next-standing-requires
 next-standing-requires c κs =
     let d = c .before .before .before .before .args .d in
-    small-behind (d .n) (d .left + d .right) (omega arith) (omega arith) _ (c .before .before .before .of .ensures)
+    small-behind (d .n) (rowCount d) (omega arith) (omega arith) _ (c .before .before .before .of .ensures)
 
 returns-2 : tie.Need-returns-2
 returns-2 c =
