@@ -1,4 +1,4 @@
-// The circuit program: reads n and the two row counts on standard input, and prints the text of their circuit, or the refusal alone.
+// The circuit program: reads n and the three row counts on standard input, and prints the text of their circuit, or the refusal alone.
 use libc::STDIN_FILENO;
 use libc::STDOUT_FILENO;
 

@@ -17,10 +17,20 @@ use Rattle.header.specs.Header.{pastRemarks, headerOf}
 use Rattle.clauses.specs.Clauses.{clauses}
 use Rattle.dimacs.specs.Text.{tableOf}
 
--- the outcome, n, the row count and the first four words
-meaning : String → List ℕ
+-- the outcome, n, the row count and the first four words of a text with the least row count that it may have
+meaningOf : ℕ → String → List ℕ
 unfolding tableOf withoutRemarks linesOf kept headerOf pastRemarks partsFrom cut filled run trimmed same clauses numberOf decimalOf digitsAfter put
-meaning s = let t = tableOf (bytes s) in codeOf (t .outcome) ∷ (t .n ∷ (t .rows ∷ take 4 (t .words)))
+meaningOf least s = let t = tableOf least (bytes s) in codeOf (t .outcome) ∷ (t .n ∷ (t .rows ∷ take 4 (t .words)))
+
+-- of a station's text
+meaning : String → List ℕ
+unfolding meaningOf
+meaning = meaningOf 1
+
+-- of the public one
+publicMeaning : String → List ℕ
+unfolding meaningOf
+publicMeaning = meaningOf 0
 
 abbrev table : ℕ → ℕ → ℕ → ℕ → ℕ → ℕ → List ℕ
 table n m a b c d = 0 ∷ (n ∷ (m ∷ (a ∷ (b ∷ (c ∷ (d ∷ []))))))
@@ -89,3 +99,21 @@ rows-of-any-length = refl
 variables-first : meaning "p cnf 33 0\nx" ≡ refusal 1
 unfolding meaning
 variables-first = refl
+
+-- a public text may have no rows, and then no clause
+no-rows : publicMeaning "p cnf 3 0\nc none\n" ≡ table 3 0 0 0 0 0
+unfolding publicMeaning
+no-rows = refl
+
+clause-behind-no-rows : publicMeaning "p cnf 3 0\n1 0\n" ≡ refusal 5
+unfolding publicMeaning
+clause-behind-no-rows = refl
+
+station-without-rows : meaning "p cnf 3 0\n" ≡ refusal 2
+unfolding meaning
+station-without-rows = refl
+
+-- its header's 2 comes before 5 too
+public-rows-first : publicMeaning "p cnf 3 129\nx" ≡ refusal 2
+unfolding publicMeaning
+public-rows-first = refl

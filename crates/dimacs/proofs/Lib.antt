@@ -1,7 +1,7 @@
 pub mod Fill
 pub mod Remarks
 pub mod Texts
-pub mod Pairs
+pub mod ThreeTexts
 pub mod Accepted
 pub mod Endings
 pub mod Examples

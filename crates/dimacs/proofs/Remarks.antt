@@ -33,18 +33,19 @@ same-body : (n m : ℕ) (ts us : List Piece) → bytesOf ts ≡ bytesOf us → b
 same-body n m ts us e =
     ap₂ (λ (c : Bool) (rs : List Row). cond (c && eqb (length rs) m) (accepted n rs) (refused Text)) (complete-same n ts us e) (rows-same n ts us e)
 
-module _ (text : List ℕ) where
-  tokens-same : bytesOf (tokensFrom (withoutRemarks text) (headerOf (withoutRemarks text) .end)) ≡ bytesOf (tokensPast text (headerOf text .end))
+module _ (least : ℕ) (text : List ℕ) where
+  tokens-same : bytesOf (tokensFrom (withoutRemarks text) (headerOf least (withoutRemarks text) .end)) ≡ bytesOf (tokensPast text (headerOf least text .end))
   unfolding partsFrom tokensPast
   tokens-same =
-      let i = headerOf (withoutRemarks text) .end in
-      let end = headerOf text .end in
-      ap (λ (l : List ℕ). bytesOf (filled (cut isSeparator i l))) (header-same text .rest) ∙ same-tokens end i (drop end text)
+      let i = headerOf least (withoutRemarks text) .end in
+      let end = headerOf least text .end in
+      ap (λ (l : List ℕ). bytesOf (filled (cut isSeparator i l))) (header-same least text .rest) ∙ same-tokens end i (drop end text)
 
-  by-sizes : (x : Sizes) → fromHeader (withoutRemarks text) (headerOf (withoutRemarks text) .end) x ≡ standing text (headerOf text .end) x
+  by-sizes : (x : Sizes) → fromHeader (withoutRemarks text) (headerOf least (withoutRemarks text) .end) x ≡ standing text (headerOf least text .end) x
   by-sizes (S.Refused r) = refl
-  by-sizes (S.Of n m) = same-body n m (tokensFrom (withoutRemarks text) (headerOf (withoutRemarks text) .end)) (tokensPast text (headerOf text .end)) tokens-same
+  by-sizes (S.Of n m) =
+      same-body n m (tokensFrom (withoutRemarks text) (headerOf least (withoutRemarks text) .end)) (tokensPast text (headerOf least text .end)) tokens-same
 
-  pub as-it-stands : plainTable (withoutRemarks text) ≡ standing text (headerOf text .end) (headerOf text .sizes)
+  pub as-it-stands : plainTable least (withoutRemarks text) ≡ standing text (headerOf least text .end) (headerOf least text .sizes)
   as-it-stands =
-      ap (fromHeader (withoutRemarks text) (headerOf (withoutRemarks text) .end)) (header-same text .sizes) ∙ by-sizes (headerOf text .sizes)
+      ap (fromHeader (withoutRemarks text) (headerOf least (withoutRemarks text) .end)) (header-same least text .sizes) ∙ by-sizes (headerOf least text .sizes)

@@ -16,20 +16,22 @@ use Rattle.header.proofs.Limits.{header-either}
 use Rattle.dimacs.specs.Text.{refused, tableOf}
 use Rattle.dimacs.proofs.Remarks.{standing, as-it-stands}
 
-pub overlong : (text : List ℕ) → 65536 < length text → tableOf text ≡ refused Text
+pub overlong : (least : ℕ) (text : List ℕ) → 65536 < length text → tableOf least text ≡ refused Text
 unfolding tableOf
-overlong text h = rw (lt-ltb 65536 (length text) h)
+overlong least text h = rw (lt-ltb 65536 (length text) h)
 
-pub by-header : (text : List ℕ) → length text ≤ 65536 → (h : Header) → h ≡ headerOf text → (x : Sizes) → h .sizes ≡ x → tableOf text ≡ standing text (h .end) x
+pub by-header : (least : ℕ) (text : List ℕ) → length text ≤ 65536 → (h : Header) → h ≡ headerOf least text → (x : Sizes) → h .sizes ≡ x
+    → tableOf least text ≡ standing text (h .end) x
 unfolding tableOf
-by-header text short h e x q =
+by-header least text short h e x q =
     rw (le-ltb 65536 (length text) short)
-    (as-it-stands text ∙ ap (λ (y : Header). standing text (y .end) (y .sizes)) (sym e) ∙ ap (standing text (h .end)) q)
+    (as-it-stands least text ∙ ap (λ (y : Header). standing text (y .end) (y .sizes)) (sym e) ∙ ap (standing text (h .end)) q)
 
 -- n and m that a header gives
-pub limits : (text : List ℕ) (h : Header) → h ≡ headerOf text → (n m : ℕ) → h .sizes ≡ S.Of n m → (n ≤ mostVariables) × (m ≤ mostRows)
-limits text h e n m q =
-    header-either (λ x. (n m : ℕ) → x ≡ S.Of n m → (n ≤ mostVariables) × (m ≤ mostRows))
+pub limits : (least : ℕ) (text : List ℕ) (h : Header) → h ≡ headerOf least text → (n m : ℕ) → h .sizes ≡ S.Of n m
+    → (n ≤ mostVariables) × (m ≤ mostRows)
+limits least text h e n m q =
+    header-either least (λ x. (n m : ℕ) → x ≡ S.Of n m → (n ≤ mostVariables) × (m ≤ mostRows))
     (λ n m k. absurd (let z : _≡_ {A = ℕ} 0 1 = cc in omega arith))
     (λ n m k. absurd (let z : _≡_ {A = ℕ} 0 1 = cc in omega arith))
     (λ n m k. absurd (let z : _≡_ {A = ℕ} 0 1 = cc in omega arith))

@@ -1,4 +1,5 @@
--- What a station's text means: a table, or refusal 1, 2 or 5 (document 01, "DIMACS" and "Turned back"; document 02, "Remarks between clauses").
+-- What a text means: a table, or refusal 1, 2 or 5 (document 01, "DIMACS" and "Turned back"; document 02, "Remarks between clauses").
+-- `least` is the least row count that its header may have: 1 for a station, 0 for the public rest rules (document 02, "Public rest rules").
 use Prim.Native.Nat.{ℕ, _-_, _*_}
 use mathlib.Core.Bool.{_&&_, cond}
 use mathlib.Core.List.{List, _++_}
@@ -35,9 +36,9 @@ fromHeader text end (S.Refused r) = refused r
 fromHeader text end (S.Of n m) = bodyOf n m (clauses n (tokensFrom text end))
 
 -- the table of a text in which remarks stand before the header only
-abbrev pub plainTable : List ℕ → Table
-plainTable text = fromHeader text (headerOf text .end) (headerOf text .sizes)
+abbrev pub plainTable : ℕ → List ℕ → Table
+plainTable least text = fromHeader text (headerOf least text .end) (headerOf least text .sizes)
 
 -- an overlong text is 5 before all else; any other has the table that it has without its remark lines
-unfoldable pub tableOf : List ℕ → Table
-tableOf text = cond (ltb 65536 (length text)) (refused Text) (plainTable (withoutRemarks text))
+unfoldable pub tableOf : ℕ → List ℕ → Table
+tableOf least text = cond (ltb 65536 (length text)) (refused Text) (plainTable least (withoutRemarks text))

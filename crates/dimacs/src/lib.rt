@@ -1,4 +1,4 @@
-// Reads the DIMACS texts of the two stations into tables of row words.
+// Reads DIMACS texts, those of the two stations and that of the public rest rules, into tables of row words.
 use clauses::Clause;
 use header::Sizes;
 use refusals::Outcome;
@@ -8,9 +8,9 @@ ghost use Prim.Native.Nat.{_≤_};
 ghost use Rattle.dimensions.specs.Sizes.{mostVariables, mostRows};
 ghost use Rattle.clauses.specs.First.{clausesFrom};
 ghost use Rattle.dimacs.specs.Text.{tableOf, bodyOf, refused};
-ghost use Rattle.dimacs.specs.Pair.{pairOf, refusedPair};
+ghost use Rattle.dimacs.specs.ThreeTexts.{refusedTexts, acceptedTexts, together, textTables};
 
-// A station's table: n, its row count and its row words, positive before negative; the words past the rows are zero. A refused text has none.
+// A text's table: n, its row count and its row words, positive before negative; the words past the rows are zero. A refused text has none.
 pub struct Table {
     pub outcome: Outcome,
     pub n: u8,
@@ -18,14 +18,16 @@ pub struct Table {
     pub words: [u32; 256],
 }
 
-// The tables of both stations. A refused pair has none.
-pub struct Pair {
+// The tables of three texts, left, right and public. Refused texts have none.
+pub struct TextTables {
     pub outcome: Outcome,
     pub n: u8,
     pub left_rows: u8,
     pub right_rows: u8,
+    pub public_rows: u8,
     pub left: [u32; 256],
     pub right: [u32; 256],
+    pub public: [u32; 256],
 }
 
 // Nothing but the refusal.
@@ -70,14 +72,14 @@ fn read_rows(text: &[u8], start: usize, n: u8, m: u8) -> Table
     }
 }
 
-// The table of a station's text, or 1, 2 or 5.
-pub fn read(text: &[u8]) -> Table
-    ensures { λ r. ⌜ r ≡ tableOf (now (text .entry)) ⌝ }
+// The table of a text whose header has `least` rows or more, or 1, 2 or 5.
+pub fn read(text: &[u8], least: u8) -> Table
+    ensures { λ r. ⌜ r ≡ tableOf least (now (text .entry)) ⌝ }
 {
     if 65536 < text.len() {
         return refuse(Refusal::Text);
     }
-    let header = header::read_header(text);
+    let header = header::read_header(text, least);
     let end = header.end;
     let sizes = header.sizes;
     match sizes {
@@ -87,44 +89,68 @@ pub fn read(text: &[u8]) -> Table
 }
 
 // Nothing but the refusal.
-fn refuse_pair(refusal: Refusal) -> Pair
-    ensures { λ r. ⌜ r ≡ refusedPair refusal ⌝ }
+fn refuse_texts(refusal: Refusal) -> TextTables
+    ensures { λ r. ⌜ r ≡ refusedTexts refusal ⌝ }
 {
-    Pair {
+    TextTables {
         outcome: Outcome::Refused(refusal),
         n: 0,
         left_rows: 0,
         right_rows: 0,
+        public_rows: 0,
         left: [0u32; 256],
         right: [0u32; 256],
+        public: [0u32; 256],
     }
 }
 
-// The tables of two stations' texts: the left text's refusal, then the right's, then 6.
-pub fn read_pair(left: &[u8], right: &[u8]) -> Pair
-    ensures { λ r. ⌜ r ≡ pairOf (tableOf (now (left .entry))) (tableOf (now (right .entry))) ⌝ }
+// All three tables.
+fn accept_texts(l: Table, r: Table, p: Table) -> TextTables
+    ensures { λ t. ⌜ t ≡ acceptedTexts l r p ⌝ }
 {
-    let l = read(left);
-    let left_outcome = l.outcome;
-    if let Outcome::Refused(refusal) = left_outcome {
-        return refuse_pair(refusal);
-    }
-    let r = read(right);
-    let right_outcome = r.outcome;
-    if let Outcome::Refused(refusal) = right_outcome {
-        return refuse_pair(refusal);
-    }
-    if l.n != r.n {
-        return refuse_pair(Refusal::TextsDiffer);
-    }
-    let left_words = l.words;
-    let right_words = r.words;
-    Pair {
+    let left = l.words;
+    let right = r.words;
+    let public = p.words;
+    TextTables {
         outcome: Outcome::Taken,
         n: l.n,
         left_rows: l.rows,
         right_rows: r.rows,
-        left: left_words,
-        right: right_words,
+        public_rows: p.rows,
+        left,
+        right,
+        public,
     }
+}
+
+// The tables of three texts, or the first text's refusal, the second's, the third's or 6.
+fn join(l: Table, r: Table, p: Table) -> TextTables
+    ensures { λ t. ⌜ t ≡ together l r p ⌝ }
+{
+    let left = l.outcome;
+    let right = r.outcome;
+    let public = p.outcome;
+    if let Outcome::Refused(refusal) = left {
+        return refuse_texts(refusal);
+    }
+    if let Outcome::Refused(refusal) = right {
+        return refuse_texts(refusal);
+    }
+    if let Outcome::Refused(refusal) = public {
+        return refuse_texts(refusal);
+    }
+    if (l.n != r.n) | (l.n != p.n) {
+        return refuse_texts(Refusal::TextsDiffer);
+    }
+    accept_texts(l, r, p)
+}
+
+// The tables of the two stations' texts and of the public one: the left text's refusal, the right's, the public's, then 6.
+pub fn read_tables(left: &[u8], right: &[u8], public: &[u8]) -> TextTables
+    ensures { λ r. ⌜ r ≡ textTables (now (left .entry)) (now (right .entry)) (now (public .entry)) ⌝ }
+{
+    let l = read(left, 1);
+    let r = read(right, 1);
+    let p = read(public, 0);
+    join(l, r, p)
 }

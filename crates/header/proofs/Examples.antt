@@ -15,9 +15,15 @@ use Rattle.header.specs.Header.{pastRemarks, headerOf, sizesSaid}
 use Rattle.header.specs.declared.Header.{Header}
 use Rattle.header.specs.declared.Sizes.the-variants.{Of, Refused}
 
+-- in a station's text
 header : String → Header
 unfolding headerOf pastRemarks partsFrom cut filled run trimmed same numberOf decimalOf digitsAfter
-header s = headerOf (bytes s)
+header s = headerOf 1 (bytes s)
+
+-- in that of the public rest rules
+publicHeader : String → Header
+unfolding headerOf pastRemarks partsFrom cut filled run trimmed same numberOf decimalOf digitsAfter
+publicHeader s = headerOf 0 (bytes s)
 
 abbrev sizes : ℕ → ℕ → ℕ → Header
 sizes n m end = record { sizes = Of n m; end = end }
@@ -56,6 +62,24 @@ minus-one = refl
 too-many-rows : header "p cnf 1 129\n" ≡ refused RowCount 11
 unfolding header
 too-many-rows = refl
+
+-- no rows: the public rest rules alone may have none
+no-rows : header "p cnf 3 0" ≡ refused RowCount 9
+unfolding header
+no-rows = refl
+
+no-public-rows : publicHeader "p cnf 3 0" ≡ sizes 3 0 9
+unfolding publicHeader
+no-public-rows = refl
+
+-- the other limits hold for them too
+too-many-public-rows : publicHeader "p cnf 3 129\n" ≡ refused RowCount 11
+unfolding publicHeader
+too-many-public-rows = refl
+
+no-public-variables : publicHeader "p cnf 0 0\n" ≡ refused Variables 9
+unfolding publicHeader
+no-public-variables = refl
 
 -- as numbers: 0, n and m, or the refusal's
 taken-said : sizesSaid (header "p cnf 3 2\n" .sizes) ≡ 0 ∷ (3 ∷ (2 ∷ []))

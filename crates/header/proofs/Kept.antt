@@ -86,29 +86,32 @@ module _ (text : List ℕ) where
   search-from (suc fuel) at f h =
       by-byte at h (λ l c. remark-here at l c (λ k. search-from fuel (runEnd inLine text at + 1) (omega (arith, end-ge inLine text at)) (omega arith)))
 
+-- ---- the header, whatever the least row count
+
+module _ (least : ℕ) (text : List ℕ) where
   -- the text without its remarks has the same sizes in its header, and goes on behind it with what is kept of the text
   pub record Same : Type 0 where
-    pub sizes : headerOf (withoutRemarks text) .sizes ≡ headerOf text .sizes
-    pub rest : drop (headerOf (withoutRemarks text) .end) (withoutRemarks text) ≡ keptFrom line (drop (headerOf text .end) text)
+    pub sizes : headerOf least (withoutRemarks text) .sizes ≡ headerOf least text .sizes
+    pub rest : drop (headerOf least (withoutRemarks text) .end) (withoutRemarks text) ≡ keptFrom line (drop (headerOf least text .end) text)
 
-  same : (v : List ℕ) (g h : Header) → withoutRemarks text ≡ v → headerOf v ≡ g → headerOf text ≡ h
+  same : (v : List ℕ) (g h : Header) → withoutRemarks text ≡ v → headerOf least v ≡ g → headerOf least text ≡ h
       → g .sizes ≡ h .sizes → drop (g .end) v ≡ keptFrom line (drop (h .end) text) → Same
   same v g h w eg eh s r =
-      let e : headerOf (withoutRemarks text) ≡ g = ap headerOf w ∙ eg in
+      let e : headerOf least (withoutRemarks text) ≡ g = ap (headerOf least) w ∙ eg in
       record {
         sizes = ap (λ (x : Header). x .sizes) e ∙ s ∙ sym (ap (λ (x : Header). x .sizes) eh);
         rest = ap₂ (λ (x : Header) (l : List ℕ). drop (x .end) l) e w ∙ r ∙ sym (ap (λ (x : Header). keptFrom line (drop (x .end) text)) eh);
       }
 
   -- a text of remarks alone
-  none : NoLine 0 → Same
+  none : NoLine text 0 → Same
   unfolding headerOf pastRemarks cut trimmed run partsFrom filled keptFrom
   none (e, k) =
       same [] (record { sizes = Refused Text; end = 0 }) (record { sizes = Refused Text; end = length text })
-      (kept-is text ∙ k) refl (ap (headed text) e) refl (sym (rw (drop-of-length-le {A = ℕ} text {i = length text} (omega arith))))
+      (kept-is text ∙ k) refl (ap (headed least text) e) refl (sym (rw (drop-of-length-le {A = ℕ} text {i = length text} (omega arith))))
 
   -- a text whose header's line stands at h
-  found : (h : ℕ) → LineAt 0 h → Same
+  found : (h : ℕ) → LineAt text 0 h → Same
   unfolding headerOf runEnd
   found h (within, e, c, k) =
       let rest = drop h text in
@@ -118,14 +121,15 @@ module _ (text : List ℕ) where
       = on (ltb 0 (length v))
       (λ l. other-line v 0 (ltb-true 0 (length v) l) (λ x. c (sym (first-kept rest) ∙ x)))
       (λ l. no-line v 0 (ltb-false 0 (length v) l)) in
-      same v (record { sizes = sizesOf (part 0 (0 + run inLine v) v); end = 0 + run inLine v }) (record { sizes = sizesOf (part h (h + width) text); end = h + width })
+      same v (record { sizes = sizesOf least (part 0 (0 + run inLine v) v); end = 0 + run inLine v })
+      (record { sizes = sizesOf least (part h (h + width) text); end = h + width })
       (kept-is text ∙ k)
-      (ap (headed v) first ∙ header-at v 0 (0 + run inLine v) refl (omega arith))
-      (ap (headed text) e ∙ header-at text h (h + width) refl within)
-      (ap sizesOf (let i : 0 + run inLine v - 0 ≡ width = omega (arith, line-run rest) in let j : h + width - h ≡ width = omega arith in
+      (ap (headed least v) first ∙ header-at v 0 least (0 + run inLine v) refl (omega arith))
+      (ap (headed least text) e ∙ header-at text h least (h + width) refl within)
+      (ap (sizesOf least) (let i : 0 + run inLine v - 0 ≡ width = omega (arith, line-run rest) in let j : h + width - h ≡ width = omega arith in
       ap (λ (x : ℕ). take x v) i ∙ line-take rest ∙ sym (ap (λ (x : ℕ). take x rest) j)))
       (let i : 0 + run inLine v ≡ width = omega (arith, line-run rest) in
       ap (λ (x : ℕ). drop x v) i ∙ line-drop rest ∙ ap (keptFrom line) (drop-drop width h text))
 
   pub header-same : Same
-  header-same = ⊎-elim none (λ n. found (n .0) (n .1)) (search-from (length text) 0 (omega arith) (omega arith))
+  header-same = ⊎-elim none (λ n. found (n .0) (n .1)) (search-from text (length text) 0 (omega arith) (omega arith))

@@ -7,7 +7,7 @@ use Prim.Native.Nat.{ℕ, _≤_}
 use native.Mathlib.Omega.{arith}
 use lib.Dec.{eqb, ltb}
 use borrow.Author.Tests.{lt-ltb, le-ltb, ltb-true, ltb-false}
-use Rattle.words.proofs.Truth.{on, or-r}
+use Rattle.words.proofs.Truth.{on, or-l, or-r}
 use Rattle.lexer.specs.Spelling.{bytes}
 use Rattle.words.specs.Sameness.{same}
 use Rattle.lexer.specs.Bytes.{isBlank, isTail, trimmed}
@@ -16,89 +16,92 @@ use Rattle.numbers.specs.Numbers.{Number, number, malformed, numberOf}
 use Rattle.numbers.specs.Held.{held, numberHeld}
 use Rattle.numbers.specs.declared.Number.the-variants as L
 use Rattle.numbers.proofs.Decimals.{held-value, held-none}
-use Rattle.dimensions.specs.Sizes.{mostVariables, mostRows, outside}
-use Rattle.dimensions.proofs.Limits.{least, most}
+use Rattle.dimensions.specs.Sizes.{mostVariables, mostRows}
 use Rattle.refusals.specs.declared.Refusal.the-variants.{Variables, RowCount, Text}
 use Rattle.header.specs.declared.Sizes.{Sizes}
 use Rattle.header.specs.declared.Sizes.the-variants.{Of, Refused}
 use Rattle.header.specs.Header.{pastRemarks, beyond, judged, twoNumbers, headerParts, headed, headerOf}
 
--- what is not beyond a limit is from 1 to it
-pub within : (limit : ℕ) (s : Bool) (v : ℕ) → beyond limit s v ≡ false → (1 ≤ v) × (v ≤ limit)
-within limit s v e = let o = or-r s (outside limit v) e in (least limit v o, most limit v o)
+-- what is not beyond its limits is within them
+pub within : (least most : ℕ) (s : Bool) (v : ℕ) → beyond least most s v ≡ false → (least ≤ v) × (v ≤ most)
+within least most s v e =
+    let o = or-r s (ltb v least || ltb most v) e in
+    (ltb-false v least (or-l (ltb v least) (ltb most v) o), ltb-false most v (or-r (ltb v least) (ltb most v) o))
 
 -- ---- held values
 
-held-low : (v : ℕ) → ltb (held v) 1 ≡ ltb v 1
-held-low v =
-    on (ltb v 1)
-    (λ e. lt-ltb (held v) 1 (omega (arith, ltb-true v 1 e)) ∙ sym e)
-    (λ e. le-ltb (held v) 1 (omega (arith, ltb-false v 1 e)) ∙ sym e)
+held-low : (least v : ℕ) → least ≤ 1000 → ltb (held v) least ≡ ltb v least
+held-low least v h =
+    on (ltb v least)
+    (λ e. lt-ltb (held v) least (omega (arith, ltb-true v least e)) ∙ sym e)
+    (λ e. le-ltb (held v) least (omega (arith, ltb-false v least e)) ∙ sym e)
 
-held-high : (limit v : ℕ) → limit ≤ 999 → ltb limit (held v) ≡ ltb limit v
-held-high limit v h =
-    on (ltb limit v)
-    (λ e. lt-ltb limit (held v) (omega (arith, ltb-true limit v e)) ∙ sym e)
-    (λ e. le-ltb limit (held v) (omega (arith, ltb-false limit v e)) ∙ sym e)
+held-high : (most v : ℕ) → most ≤ 999 → ltb most (held v) ≡ ltb most v
+held-high most v h =
+    on (ltb most v)
+    (λ e. lt-ltb most (held v) (omega (arith, ltb-true most v e)) ∙ sym e)
+    (λ e. le-ltb most (held v) (omega (arith, ltb-false most v e)) ∙ sym e)
 
-beyond-held : (limit : ℕ) (s : Bool) (v : ℕ) → limit ≤ 999 → beyond limit s (held v) ≡ beyond limit s v
-beyond-held limit s v h = ap₂ (λ (a b : Bool). s || (a || b)) (held-low v) (held-high limit v h)
+module _ (least most : ℕ) (s : Bool) (v : ℕ) where
+  beyond-held : least ≤ 1000 → most ≤ 999 → beyond least most s (held v) ≡ beyond least most s v
+  beyond-held h k = ap₂ (λ (a b : Bool). s || (a || b)) (held-low least v h) (held-high most v k)
 
--- a value within its limit is held as it is
-held-within : (limit : ℕ) (s : Bool) (v : ℕ) → limit ≤ 999 → beyond limit s v ≡ false → held v ≡ v
-held-within limit s v h e = omega (arith, within limit s v e .1)
+  -- a value within its limits is held as it is
+  held-within : most ≤ 999 → beyond least most s v ≡ false → held v ≡ v
+  held-within h e = omega (arith, within least most s v e .1)
 
-judged-held : (s t : Bool) (v w : ℕ) → judged (number s (held v)) (number t (held w)) ≡ judged (number s v) (number t w)
-judged-held s t v w =
-    let n-held = beyond-held mostVariables s v (omega arith) in
-    let m-held = beyond-held mostRows t w (omega arith) in
-    on (beyond mostVariables s v)
+judged-held : (least : ℕ) (s t : Bool) (v w : ℕ) → least ≤ 1000 → judged least (number s (held v)) (number t (held w)) ≡ judged least (number s v) (number t w)
+judged-held least s t v w h =
+    let n-held = beyond-held 1 mostVariables s v (omega arith) (omega arith) in
+    let m-held = beyond-held least mostRows t w h (omega arith) in
+    on (beyond 1 mostVariables s v)
     (λ a. rw (n-held, a))
-    (λ a. on (beyond mostRows t w)
+    (λ a. on (beyond least mostRows t w)
     (λ b. rw (n-held, m-held, a, b))
-    (λ b. rw (n-held, m-held, a, b) (ap₂ Of (held-within mostVariables s v (omega arith) a) (held-within mostRows t w (omega arith) b))))
+    (λ b. rw (n-held, m-held, a, b) (ap₂ Of (held-within 1 mostVariables s v (omega arith) a) (held-within least mostRows t w (omega arith) b))))
 
 -- ---- two parts as they are read
 
-module _ (n m : List ℕ) where
-  pub no-n : numberHeld (numberOf n) ≡ L.Malformed → judged (numberOf n) (numberOf m) ≡ Refused Text
+module _ (least : ℕ) (n m : List ℕ) where
+  pub no-n : numberHeld (numberOf n) ≡ L.Malformed → judged least (numberOf n) (numberOf m) ≡ Refused Text
   no-n e = rw (held-none (numberOf n) e)
 
-  pub no-m : numberHeld (numberOf m) ≡ L.Malformed → judged (numberOf n) (numberOf m) ≡ Refused Text
-  no-m e = ap (judged (numberOf n)) (held-none (numberOf m) e) ∙ go (numberOf n)
+  pub no-m : numberHeld (numberOf m) ≡ L.Malformed → judged least (numberOf n) (numberOf m) ≡ Refused Text
+  no-m e = ap (judged least (numberOf n)) (held-none (numberOf m) e) ∙ go (numberOf n)
     where
-      go : (x : Number) → judged x malformed ≡ Refused Text
+      go : (x : Number) → judged least x malformed ≡ Refused Text
       go malformed = refl
       go (number s v) = refl
 
-  pub both : (s t : Bool) (v w : ℕ) → numberHeld (numberOf n) ≡ L.Value s v → numberHeld (numberOf m) ≡ L.Value t w
-      → judged (number s v) (number t w) ≡ judged (numberOf n) (numberOf m)
-  both s t v w e f =
+  pub both : least ≤ 1000 → (s t : Bool) (v w : ℕ) → numberHeld (numberOf n) ≡ L.Value s v → numberHeld (numberOf m) ≡ L.Value t w
+      → judged least (number s v) (number t w) ≡ judged least (numberOf n) (numberOf m)
+  both h s t v w e f =
       let x = held-value (numberOf n) s v e in
       let y = held-value (numberOf m) t w f in
-      ap₂ (λ (a b : ℕ). judged (number s a) (number t b)) (sym (x .2)) (sym (y .2)) ∙ judged-held s t (x .0) (y .0) ∙ sym (ap₂ judged (x .1) (y .1))
+      ap₂ (λ (a b : ℕ). judged least (number s a) (number t b)) (sym (x .2)) (sym (y .2))
+      ∙ judged-held least s t (x .0) (y .0) h ∙ sym (ap₂ (judged least) (x .1) (y .1))
 
 -- ---- whatever holds of refusals 1, 2 and 5 and of n and m within their limits holds of a header
 
-module _ (P : Sizes → Type 0) (text-refused : P (Refused Text)) (n-refused : P (Refused Variables)) (m-refused : P (Refused RowCount))
-    (taken : (n m : ℕ) → (1 ≤ n) × (n ≤ mostVariables) → (1 ≤ m) × (m ≤ mostRows) → P (Of n m)) where
-  judged-either : (x y : Number) → P (judged x y)
+module _ (least : ℕ) (P : Sizes → Type 0) (text-refused : P (Refused Text)) (n-refused : P (Refused Variables)) (m-refused : P (Refused RowCount))
+    (taken : (n m : ℕ) → (1 ≤ n) × (n ≤ mostVariables) → (least ≤ m) × (m ≤ mostRows) → P (Of n m)) where
+  judged-either : (x y : Number) → P (judged least x y)
   judged-either malformed y = text-refused
   judged-either (number s n) malformed = text-refused
   judged-either (number s n) (number t m) =
-      on (beyond mostVariables s n)
+      on (beyond 1 mostVariables s n)
       (λ a. rw a n-refused)
-      (λ a. on (beyond mostRows t m)
+      (λ a. on (beyond least mostRows t m)
       (λ b. rw (a, b) m-refused)
-      (λ b. rw (a, b) (taken n m (within mostVariables s n a) (within mostRows t m b))))
+      (λ b. rw (a, b) (taken n m (within 1 mostVariables s n a) (within least mostRows t m b))))
 
-  two-either : (ps : List Piece) → P (twoNumbers ps)
+  two-either : (ps : List Piece) → P (twoNumbers least ps)
   two-either [] = text-refused
   two-either (n ∷ []) = text-refused
   two-either (n ∷ (m ∷ [])) = judged-either (numberOf (n .bytes)) (numberOf (m .bytes))
   two-either (n ∷ (m ∷ (x ∷ xs))) = text-refused
 
-  parts-either : (ps : List Piece) → P (headerParts ps)
+  parts-either : (ps : List Piece) → P (headerParts least ps)
   parts-either [] = text-refused
   parts-either (p ∷ []) = text-refused
   parts-either (p ∷ (f ∷ ps)) =
@@ -106,10 +109,10 @@ module _ (P : Sizes → Type 0) (text-refused : P (Refused Text)) (n-refused : P
       (λ e. rw e (two-either ps))
       (λ e. rw e text-refused)
 
-  lines-either : (text : List ℕ) (lines : List Piece) → P (headed text lines .sizes)
+  lines-either : (text : List ℕ) (lines : List Piece) → P (headed least text lines .sizes)
   lines-either text [] = text-refused
   lines-either text (l ∷ ls) = parts-either (partsFrom isBlank (trimmed isTail (l .bytes)) 0)
 
-  pub header-either : (text : List ℕ) → P (headerOf text .sizes)
+  pub header-either : (text : List ℕ) → P (headerOf least text .sizes)
   unfolding headerOf
   header-either text = lines-either text (pastRemarks (linesFrom text 0))

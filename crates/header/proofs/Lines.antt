@@ -1,6 +1,6 @@
 -- The lines before the header, one at a time: past a remark stand the lines of the text that follows it.
 -- Assumes nothing.
-use mathlib.Core.Path.{_≡_, refl, sym, ap, ap₂, _∙_}
+use mathlib.Core.Path.{_≡_, sym, ap, ap₂, _∙_}
 use mathlib.Core.Bool.{Bool, not}
 use mathlib.Core.List.{List, [], _∷_}
 use Prim.Native.Nat.{ℕ, suc, _+_, _-_, _≤_, _<_}
@@ -54,7 +54,8 @@ module _ (text : List ℕ) (at : ℕ) where
         ap pastRemarks lines-first
         ∙ rw (remark-at ∙ ne-eqb (getD text at 0) 99 e) (sym lines-first)
 
-    past-line : getD text at 0 ≡ 99 → pastRemarks (linesFrom text at) ≡ pastRemarks (later isLineFeed (runEnd inLine text at) (drop (runEnd inLine text at) text))
+    past-line : getD text at 0 ≡ 99
+        → pastRemarks (linesFrom text at) ≡ pastRemarks (later isLineFeed (runEnd inLine text at) (drop (runEnd inLine text at) text))
     unfolding pastRemarks
     past-line e = ap pastRemarks lines-first ∙ rw (remark-at ∙ eq-eqb (getD text at 0) 99 e)
 
@@ -70,20 +71,24 @@ module _ (text : List ℕ) (at : ℕ) where
   unfolding pastRemarks cut
   no-line h = rw (drop-of-length-le text h)
 
-  pub empty-line : length text ≤ at → at ≤ length text → headed text (linesFrom text at) ≡ headed text []
+  pub empty-line : (least : ℕ) → length text ≤ at → at ≤ length text → headed least text (linesFrom text at) ≡ headed least text []
   unfolding cut trimmed run partsFrom filled
-  empty-line h k = rw (drop-of-length-le text h) (ap (λ (i : ℕ). record { sizes = Refused Text; end = i }) (let e : at + 0 ≡ length text = omega arith in e))
+  empty-line least h k =
+      let e : at + 0 ≡ length text = omega arith in
+      rw (drop-of-length-le text h) (ap (λ (i : ℕ). record { sizes = Refused Text; end = i }) e)
 
   -- the header is read in its line
-  pub header-at : (end : ℕ) → end ≡ runEnd inLine text at → at ≤ length text → headed text (linesFrom text at) ≡ record { sizes = sizesOf (part at end text); end = end }
+  pub header-at : (least end : ℕ) → end ≡ runEnd inLine text at → at ≤ length text
+      → headed least text (linesFrom text at) ≡ record { sizes = sizesOf least (part at end text); end = end }
   unfolding runEnd
-  header-at end e h =
+  header-at least end e h =
       let k = run inLine (drop at text) in
       let bound : at + k ≤ length text = end-le inLine text at h in
       let width : k ≡ end - at = omega (arith, e) in
       let place : at + length (take k (drop at text)) ≡ end = simp (length-take, length-drop) (omega (arith, e, bound)) in
-      ap (headed text) lines-first ∙ ap₂ (λ (i j : ℕ). record { sizes = sizesOf (take i (drop at text)); end = j }) width place
+      ap (headed least text) lines-first ∙ ap₂ (λ (i j : ℕ). record { sizes = sizesOf least (take i (drop at text)); end = j }) width place
 
 -- what is given says its number and its values
-pub said : (text : List ℕ) (h : Header) → h ≡ headerOf text → (h ≡ headerOf text) × (sizesSaid (h .sizes) ≡ headerSaid text)
-said text h e = (e, ap (λ (x : Header). sizesSaid (x .sizes)) e)
+pub said : (least : ℕ) (text : List ℕ) (h : Header) → h ≡ headerOf least text
+    → (h ≡ headerOf least text) × (sizesSaid (h .sizes) ≡ headerSaid least text)
+said least text h e = (e, ap (λ (x : Header). sizesSaid (x .sizes)) e)

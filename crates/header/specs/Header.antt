@@ -1,8 +1,10 @@
 -- The header of a text: `c` lines may stand before it, and nothing else; n and m are judged in it (document 01, "DIMACS" and "Turned back").
+-- `least` is the least m that is taken: 1 in a station's text, 0 in that of the public rest rules (document 02, "Public rest rules").
 use Prim.Native.Nat.{ℕ}
+use mathlib.Core.Path.{_≡_}
 use mathlib.Core.Bool.{Bool, _&&_, _||_, cond}
 use mathlib.Core.List.{List, [], _∷_}
-use lib.Dec.{eqb}
+use lib.Dec.{eqb, ltb}
 use lib.ListN.{length}
 use Rattle.lexer.specs.Spelling.{bytes}
 use Rattle.words.specs.Sameness.{same}
@@ -10,7 +12,7 @@ use Rattle.lexer.specs.Bytes.{isBlank, isTail, trimmed}
 use Rattle.lexer.specs.Remarks.{isRemark}
 use Rattle.lexer.specs.Pieces.{Piece, behind, linesFrom, partsFrom}
 use Rattle.numbers.specs.Numbers.{Number, number, malformed, numberOf}
-use Rattle.dimensions.specs.Sizes.{mostVariables, mostRows, outside}
+use Rattle.dimensions.specs.Sizes.{mostVariables, mostRows}
 use Rattle.refusals.specs.Numbers.{numberOf as refusalNumber}
 use Rattle.refusals.specs.Checks.{Check, check, outcome, given}
 use Rattle.refusals.specs.declared.Refusal.the-variants.{Variables, RowCount, Text}
@@ -23,45 +25,46 @@ unfoldable pub pastRemarks : List Piece → List Piece
 pastRemarks [] = []
 pastRemarks (l ∷ ls) = cond (isRemark (l .bytes)) (pastRemarks ls) (l ∷ ls)
 
--- a number that is not from 1 to the limit
-abbrev pub beyond : ℕ → Bool → ℕ → Bool
-beyond limit minus v = minus || outside limit v
+-- a number that is not from the least to the most
+abbrev pub beyond : ℕ → ℕ → Bool → ℕ → Bool
+beyond least most minus v = minus || (ltb v least || ltb most v)
 
 -- refusals 1 and 2
-abbrev pub limitChecks : Bool → ℕ → Bool → ℕ → List Check
-limitChecks s n t m = check (beyond mostVariables s n) Variables ∷ check (beyond mostRows t m) RowCount ∷ []
+abbrev pub limitChecks : ℕ → Bool → ℕ → Bool → ℕ → List Check
+limitChecks least s n t m = check (beyond 1 mostVariables s n) Variables ∷ check (beyond least mostRows t m) RowCount ∷ []
 
 -- n and m must both be well-formed; n is judged first, then m
-abbrev pub judged : Number → Number → Sizes
-judged malformed m = Refused Text
-judged (number s n) malformed = Refused Text
-judged (number s n) (number t m) = given (outcome (limitChecks s n t m)) (Of n m) Refused
+abbrev pub judged : ℕ → Number → Number → Sizes
+judged least malformed m = Refused Text
+judged least (number s n) malformed = Refused Text
+judged least (number s n) (number t m) = given (outcome (limitChecks least s n t m)) (Of n m) Refused
 
 -- n and m, and no more
-abbrev pub twoNumbers : List Piece → Sizes
-twoNumbers [] = Refused Text
-twoNumbers (n ∷ []) = Refused Text
-twoNumbers (n ∷ (m ∷ [])) = judged (numberOf (n .bytes)) (numberOf (m .bytes))
-twoNumbers (n ∷ (m ∷ (x ∷ xs))) = Refused Text
+abbrev pub twoNumbers : ℕ → List Piece → Sizes
+twoNumbers least [] = Refused Text
+twoNumbers least (n ∷ []) = Refused Text
+twoNumbers least (n ∷ (m ∷ [])) = judged least (numberOf (n .bytes)) (numberOf (m .bytes))
+twoNumbers least (n ∷ (m ∷ (x ∷ xs))) = Refused Text
 
 -- `p` at the line's first byte, `cnf`, n and m
-abbrev pub headerParts : List Piece → Sizes
-headerParts [] = Refused Text
-headerParts (p ∷ []) = Refused Text
-headerParts (p ∷ (f ∷ ps)) = cond (eqb (p .at) 0 && same (p .bytes) (bytes "p") && same (f .bytes) (bytes "cnf")) (twoNumbers ps) (Refused Text)
+abbrev pub headerParts : ℕ → List Piece → Sizes
+headerParts least [] = Refused Text
+headerParts least (p ∷ []) = Refused Text
+headerParts least (p ∷ (f ∷ ps)) =
+    cond (eqb (p .at) 0 && same (p .bytes) (bytes "p") && same (f .bytes) (bytes "cnf")) (twoNumbers least ps) (Refused Text)
 
 -- a header's line: parts set off by spaces and tabs; spaces, tabs and CRs may follow the last
-abbrev pub sizesOf : List ℕ → Sizes
-sizesOf line = headerParts (partsFrom isBlank (trimmed isTail line) 0)
+abbrev pub sizesOf : ℕ → List ℕ → Sizes
+sizesOf least line = headerParts least (partsFrom isBlank (trimmed isTail line) 0)
 
 -- the header is the first of some lines, and the clauses start behind it
-abbrev pub headed : List ℕ → List Piece → Header
-headed text [] = record { sizes = Refused Text; end = length text }
-headed text (l ∷ ls) = record { sizes = sizesOf (l .bytes); end = behind l }
+abbrev pub headed : ℕ → List ℕ → List Piece → Header
+headed least text [] = record { sizes = Refused Text; end = length text }
+headed least text (l ∷ ls) = record { sizes = sizesOf least (l .bytes); end = behind l }
 
 -- a text's header is the first line that is no remark
-unfoldable pub headerOf : List ℕ → Header
-headerOf text = headed text (pastRemarks (linesFrom text 0))
+unfoldable pub headerOf : ℕ → List ℕ → Header
+headerOf least text = headed least text (pastRemarks (linesFrom text 0))
 
 -- what reading a header says: 0, n and m of "`p cnf n m`", or 1, 2 or 5 of "Turned back because of the input"
 abbrev pub sizesSaid : Sizes → List ℕ
@@ -69,5 +72,9 @@ sizesSaid (Of n m) = 0 ∷ (n ∷ (m ∷ []))
 sizesSaid (Refused r) = refusalNumber r ∷ []
 
 -- the number and the values of a text's header
-abbrev pub headerSaid : List ℕ → List ℕ
-headerSaid text = sizesSaid (headerOf text .sizes)
+abbrev pub headerSaid : ℕ → List ℕ → List ℕ
+headerSaid least text = sizesSaid (headerOf least text .sizes)
+
+-- the header may be looked for from a place on, whatever the least
+abbrev pub HeaderFrom : List ℕ → ℕ → Type 0
+HeaderFrom text at = (least : ℕ) → headed least text (linesFrom text at) ≡ headerOf least text

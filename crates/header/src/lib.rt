@@ -5,13 +5,12 @@ use lexer::pieces::Piece;
 use numbers::Number;
 use refusals::Refusal;
 ghost use mathlib.Core.Path.{_≡_};
-ghost use mathlib.Core.List.{_∷_};
 ghost use Prim.Native.Nat.{_≤_};
 ghost use lib.ListN.{length};
 ghost use Rattle.lexer.specs.Bytes.{isBlank};
-ghost use Rattle.lexer.specs.Pieces.{linesFrom, partsFrom};
+ghost use Rattle.lexer.specs.Pieces.{partsFrom};
 ghost use Rattle.numbers.specs.Numbers.{number, numberOf};
-ghost use Rattle.header.specs.Header.{beyond, judged, twoNumbers, headerParts, sizesOf, headed, headerOf, sizesSaid, headerSaid};
+ghost use Rattle.header.specs.Header.{beyond, judged, twoNumbers, headerParts, sizesOf, headerOf, sizesSaid, headerSaid, HeaderFrom};
 
 // n and m, or 1, 2 or 5.
 pub enum Sizes {
@@ -25,29 +24,31 @@ pub struct Header {
     pub end: usize,
 }
 
-// Whether a number is not from 1 to the limit.
-fn is_beyond(limit: u64, minus: bool, v: u32) -> bool
-    ensures { λ r. ⌜ r ≡ beyond limit minus v ⌝ }
+// Whether a number is not from the least to the most.
+fn is_beyond(least: u64, most: u64, minus: bool, v: u32) -> bool
+    ensures { λ r. ⌜ r ≡ beyond least most minus v ⌝ }
 {
-    minus | ((v < 1) | (limit < v as u64))
+    minus | (((v as u64) < least) | (most < v as u64))
 }
 
 // Two numbers as n and m, where both are within their limits.
-fn judge(s: bool, v: u32, t: bool, w: u32) -> Sizes
-    ensures { λ r. ⌜ r ≡ judged (number s v) (number t w) ⌝ }
+fn judge(s: bool, v: u32, t: bool, w: u32, least: u8) -> Sizes
+    ensures { λ r. ⌜ r ≡ judged least (number s v) (number t w) ⌝ }
 {
-    if is_beyond(Dimensions::VARIABLES, s, v) {
+    if is_beyond(1, Dimensions::VARIABLES, s, v) {
         return Sizes::Refused(Refusal::Variables);
     }
-    if is_beyond(Dimensions::ROWS, t, w) {
+    if is_beyond(least as u64, Dimensions::ROWS, t, w) {
         return Sizes::Refused(Refusal::RowCount);
     }
-    Sizes::Of(v as u8, w as u8)
+    let n = v as u8;
+    let m = w as u8;
+    Sizes::Of(n, m)
 }
 
 // Two parts as n and m, where both are well-formed.
-fn read_both(n: &[u8], m: &[u8]) -> Sizes
-    ensures { λ r. ⌜ r ≡ judged (numberOf (now (n .entry))) (numberOf (now (m .entry))) ⌝ }
+fn read_both(n: &[u8], m: &[u8], least: u8) -> Sizes
+    ensures { λ r. ⌜ r ≡ judged least (numberOf (now (n .entry))) (numberOf (now (m .entry))) ⌝ }
 {
     let Number::Value(s, v) = numbers::read_number(n) else {
         return Sizes::Refused(Refusal::Text);
@@ -55,12 +56,12 @@ fn read_both(n: &[u8], m: &[u8]) -> Sizes
     let Number::Value(t, w) = numbers::read_number(m) else {
         return Sizes::Refused(Refusal::Text);
     };
-    judge(s, v, t, w)
+    judge(s, v, t, w, least)
 }
 
 // The two parts from `at` on as n and m, where no third follows.
-fn read_sizes(line: &[u8], at: usize) -> Sizes
-    ensures { λ r. ⌜ r ≡ twoNumbers (partsFrom isBlank (now (line .entry)) at) ⌝ }
+fn read_sizes(line: &[u8], at: usize, least: u8) -> Sizes
+    ensures { λ r. ⌜ r ≡ twoNumbers least (partsFrom isBlank (now (line .entry)) at) ⌝ }
 {
     let Piece::At(n, n_end) = lexer::pieces::next_part(line, at, Kind::Blank) else {
         return Sizes::Refused(Refusal::Text);
@@ -71,12 +72,12 @@ fn read_sizes(line: &[u8], at: usize) -> Sizes
     let Piece::Nothing = lexer::pieces::next_part(line, m_end, Kind::Blank) else {
         return Sizes::Refused(Refusal::Text);
     };
-    read_both(&line[n..n_end], &line[m..m_end])
+    read_both(&line[n..n_end], &line[m..m_end], least)
 }
 
 // n and m behind `p`, at the first byte, and `cnf`.
-fn read_parts(line: &[u8]) -> Sizes
-    ensures { λ r. ⌜ r ≡ headerParts (partsFrom isBlank (now (line .entry)) 0) ⌝ }
+fn read_parts(line: &[u8], least: u8) -> Sizes
+    ensures { λ r. ⌜ r ≡ headerParts least (partsFrom isBlank (now (line .entry)) 0) ⌝ }
 {
     let Piece::At(p, p_end) = lexer::pieces::next_part(line, 0, Kind::Blank) else {
         return Sizes::Refused(Refusal::Text);
@@ -93,21 +94,21 @@ fn read_parts(line: &[u8]) -> Sizes
     if !check::same(&line[f..f_end], b"cnf") {
         return Sizes::Refused(Refusal::Text);
     }
-    read_sizes(line, f_end)
+    read_sizes(line, f_end, least)
 }
 
 // n and m of a header's line.
-fn read_line(line: &[u8]) -> Sizes
-    ensures { λ r. ⌜ r ≡ sizesOf (now (line .entry)) ⌝ }
+fn read_line(line: &[u8], least: u8) -> Sizes
+    ensures { λ r. ⌜ r ≡ sizesOf least (now (line .entry)) ⌝ }
 {
     let end = lexer::kinds::trim(line, Kind::Tail);
-    read_parts(&line[..end])
+    read_parts(&line[..end], least)
 }
 
 // The place of the first line that is no remark, or the end.
 fn find_header(text: &[u8]) -> usize
     ensures { λ r. ⌜ r ≤ length (now (text .entry)) ⌝ }
-    ensures { λ r. ⌜ headed (now (text .entry)) (linesFrom (now (text .entry)) r) ≡ headerOf (now (text .entry)) ⌝ }
+    ensures { λ r. ⌜ HeaderFrom (now (text .entry)) r ⌝ }
 {
     let mut at = 0;
     while at < text.len() {
@@ -123,13 +124,13 @@ fn find_header(text: &[u8]) -> usize
     at
 }
 
-// The header of a text: the first line that is no remark.
-pub fn read_header(text: &[u8]) -> Header
-    ensures { λ r. ⌜ r ≡ headerOf (now (text .entry)) ⌝ }
-    ensures { λ r. ⌜ sizesSaid (r .sizes) ≡ headerSaid (now (text .entry)) ⌝ }
+// The header of a text, the first line that is no remark, with the least row count that it may have.
+pub fn read_header(text: &[u8], least: u8) -> Header
+    ensures { λ r. ⌜ r ≡ headerOf least (now (text .entry)) ⌝ }
+    ensures { λ r. ⌜ sizesSaid (r .sizes) ≡ headerSaid least (now (text .entry)) ⌝ }
 {
     let at = find_header(text);
     let end = lexer::kinds::find(text, at, Kind::LineFeed);
-    let sizes = read_line(&text[at..end]);
+    let sizes = read_line(&text[at..end], least);
     Header { sizes, end }
 }

@@ -53,18 +53,22 @@ sizeIn : String → Size
 unfolding fieldOf run digitsAfter
 sizeIn s = sizeOf (bytes s)
 
-three-numbers : sizeIn "2 1 1\n" ≡ size.Of 2 1 1
+four-numbers : sizeIn "2 1 1 0\n" ≡ size.Of 2 1 1 0
 unfolding sizeIn
-three-numbers = refl
+four-numbers = refl
 
-two-spaces : sizeIn "2  1 1\n" ≡ size.Refused NumberLine
+two-spaces : sizeIn "2  1 1 0\n" ≡ size.Refused NumberLine
 unfolding sizeIn
 two-spaces = refl
 
-a-tab : sizeIn "2\t1 1\n" ≡ size.Refused NumberLine
+a-tab : sizeIn "2\t1 1 0\n" ≡ size.Refused NumberLine
 unfolding sizeIn
 a-tab = refl
 
-two-numbers : sizeIn "2 1\n" ≡ size.Refused NumberLine
+three-numbers : sizeIn "2 1 1\n" ≡ size.Refused NumberLine
 unfolding sizeIn
-two-numbers = refl
+three-numbers = refl
+
+five-numbers : sizeIn "2 1 1 0 1\n" ≡ size.Refused NumberLine
+unfolding sizeIn
+five-numbers = refl

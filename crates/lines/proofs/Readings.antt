@@ -18,7 +18,7 @@ use Rattle.lines.specs.declared.Budget.the-variants as budget
 use Rattle.lines.specs.declared.Size.the-variants as size
 use Rattle.lines.specs.declared.Place.the-variants.{Behind, Malformed}
 use Rattle.lines.specs.Numbers.{Field, field, malformed, bounded, closed, fieldOf, short, budgetOf, sizeOf}
-use Rattle.lines.specs.Places.{placeOf, placeAt, budgetFrom, firstFrom, secondFrom, thirdFrom}
+use Rattle.lines.specs.Places.{placeOf, placeAt, budgetFrom, firstFrom, secondFrom, thirdFrom, fourthFrom}
 
 bounded-rest : (d : Option ℕ) (text rest : List ℕ) (v : ℕ) → bounded d text ≡ field v rest → text ≡ rest
 bounded-rest none text rest v e = cc
@@ -129,11 +129,15 @@ pub one-first : (input : List ℕ) (n second : ℕ) → placeAt input 0 32 ≡ B
 one-first input n second p = ap (firstFrom input) (found input 0 32 n second p .reads)
 
 pub one-second : (input : List ℕ) (n second left third : ℕ) → placeAt input second 32 ≡ Behind left third
-    → secondFrom input n (fieldOf 32 (drop second input)) ≡ thirdFrom input n left (fieldOf 10 (drop third input))
+    → secondFrom input n (fieldOf 32 (drop second input)) ≡ thirdFrom input n left (fieldOf 32 (drop third input))
 one-second input n second left third p = ap (secondFrom input n) (found input second 32 left third p .reads)
 
-pub one-third : (input : List ℕ) (n left third right end : ℕ) → placeAt input third 10 ≡ Behind right end
-    → thirdFrom input n left (fieldOf 10 (drop third input)) ≡ cond (leb end 100) (size.Of n left right) (size.Refused NumberLine)
-one-third input n left third right end p =
-    let f = found input third 10 right end p in
-    ap (thirdFrom input n left) (f .reads) ∙ ap (λ (k : ℕ). cond (leb k 100) (size.Of n left right) (size.Refused NumberLine)) (f .behind)
+pub one-third : (input : List ℕ) (n left third right fourth : ℕ) → placeAt input third 32 ≡ Behind right fourth
+    → thirdFrom input n left (fieldOf 32 (drop third input)) ≡ fourthFrom input n left right (fieldOf 10 (drop fourth input))
+one-third input n left third right fourth p = ap (thirdFrom input n left) (found input third 32 right fourth p .reads)
+
+pub one-fourth : (input : List ℕ) (n left right fourth public end : ℕ) → placeAt input fourth 10 ≡ Behind public end
+    → fourthFrom input n left right (fieldOf 10 (drop fourth input)) ≡ cond (leb end 100) (size.Of n left right public) (size.Refused NumberLine)
+one-fourth input n left right fourth public end p =
+    let f = found input fourth 10 public end p in
+    ap (fourthFrom input n left right) (f .reads) ∙ ap (λ (k : ℕ). cond (leb k 100) (size.Of n left right public) (size.Refused NumberLine)) (f .behind)

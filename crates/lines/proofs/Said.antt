@@ -29,7 +29,7 @@ budget-said input r e =
     (e, ap says e ∙ said-field says (fieldOf 10 input) no _ _ (λ v rest. said-if says (short input rest) (budget.Of v) no))
 
 pub size-said : (input : List ℕ) (r : Size) → r ≡ sizeOf input
-    → (r ≡ sizeOf input) × (sizeSaid r ≡ onSize input (8 ∷ []) (λ n left right. 0 ∷ (n ∷ (left ∷ (right ∷ [])))))
+    → (r ≡ sizeOf input) × (sizeSaid r ≡ onSize input (8 ∷ []) (λ n left right public. 0 ∷ (n ∷ (left ∷ (right ∷ (public ∷ []))))))
 size-said input r e =
     let says : Size → List ℕ = sizeSaid in
     let no = size.Refused NumberLine in (
@@ -37,5 +37,6 @@ size-said input r e =
       ap says e
           ∙ said-field says (fieldOf 32 input) no _ _ (λ n second.
           said-field says (fieldOf 32 second) no _ _ (λ left third.
-          said-field says (fieldOf 10 third) no _ _ (λ right rest. said-if says (short input rest) (size.Of n left right) no))),
+          said-field says (fieldOf 32 third) no _ _ (λ right fourth.
+          said-field says (fieldOf 10 fourth) no _ _ (λ public rest. said-if says (short input rest) (size.Of n left right public) no)))),
     )

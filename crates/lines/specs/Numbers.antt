@@ -61,18 +61,19 @@ abbrev pub budgetNumbers : Budget → List ℕ
 budgetNumbers (budget.Of count) = count ∷ []
 budgetNumbers (budget.Refused r) = []
 
--- what the dimension line leads to: n, left and right with single spaces and LF
-abbrev pub onSize {ℓ} : {A : Type ℓ} → List ℕ → A → (ℕ → ℕ → ℕ → A) → A
+-- what the dimension line leads to: n, left, right and, by document 02 (Public rest rules), public with single spaces and LF
+abbrev pub onSize {ℓ} : {A : Type ℓ} → List ℕ → A → (ℕ → ℕ → ℕ → ℕ → A) → A
 onSize input a f =
     onField (fieldOf 32 input) a (λ n second.
     onField (fieldOf 32 second) a (λ left third.
-    onField (fieldOf 10 third) a (λ right rest. cond (short input rest) (f n left right) a)))
+    onField (fieldOf 32 third) a (λ right fourth.
+    onField (fieldOf 10 fourth) a (λ public rest. cond (short input rest) (f n left right public) a))))
 
--- the three numbers, or 8
+-- the four numbers, or 8
 abbrev pub sizeOf : List ℕ → Size
 sizeOf input = onSize input (size.Refused NumberLine) size.Of
 
 -- what reading the dimension line says: 0 and its numbers, or 8
 abbrev pub sizeSaid : Size → List ℕ
-sizeSaid (size.Of n left right) = 0 ∷ (n ∷ (left ∷ (right ∷ [])))
+sizeSaid (size.Of n left right public) = 0 ∷ (n ∷ (left ∷ (right ∷ (public ∷ []))))
 sizeSaid (size.Refused r) = numberOf r ∷ []

@@ -25,13 +25,18 @@ placeAt line at closing = placeOf line (fieldOf closing (drop at line))
 abbrev pub budgetFrom : List ℕ → Field → Budget
 budgetFrom input f = onField f (budget.Refused NumberLine) (λ v rest. cond (short input rest) (budget.Of v) (budget.Refused NumberLine))
 
--- what the dimension line comes to by its third field
-abbrev pub thirdFrom : List ℕ → ℕ → ℕ → Field → Size
-thirdFrom input n left f = onField f (size.Refused NumberLine) (λ right rest. cond (short input rest) (size.Of n left right) (size.Refused NumberLine))
+-- what the dimension line comes to by its fourth field
+abbrev pub fourthFrom : List ℕ → ℕ → ℕ → ℕ → Field → Size
+fourthFrom input n left right f =
+    onField f (size.Refused NumberLine) (λ public rest. cond (short input rest) (size.Of n left right public) (size.Refused NumberLine))
 
--- by its second field
+-- by its third field
+abbrev pub thirdFrom : List ℕ → ℕ → ℕ → Field → Size
+thirdFrom input n left f = onField f (size.Refused NumberLine) (λ right rest. fourthFrom input n left right (fieldOf 10 rest))
+
+-- by its second
 abbrev pub secondFrom : List ℕ → ℕ → Field → Size
-secondFrom input n f = onField f (size.Refused NumberLine) (λ left rest. thirdFrom input n left (fieldOf 10 rest))
+secondFrom input n f = onField f (size.Refused NumberLine) (λ left rest. thirdFrom input n left (fieldOf 32 rest))
 
 -- by its first
 abbrev pub firstFrom : List ℕ → Field → Size

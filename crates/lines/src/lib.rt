@@ -18,9 +18,9 @@ pub enum Budget {
     Refused(Refusal),
 }
 
-// n and the two row counts, or 8.
+// n and the row counts of left, right and public table, or 8.
 pub enum Size {
-    Of(u64, u64, u64),
+    Of(u64, u64, u64, u64),
     Refused(Refusal),
 }
 
@@ -78,10 +78,10 @@ pub fn read_budget(input: &[u8]) -> Budget
     Budget::Refused(Refusal::NumberLine)
 }
 
-// The three numbers of a dimension line: single spaces and LF, at most 100 bytes; bytes after the LF are not looked at.
+// The four numbers of a dimension line: single spaces and LF, at most 100 bytes; bytes after the LF are not looked at.
 pub fn read_size(input: &[u8]) -> Size
     ensures { λ r. ⌜ r ≡ sizeOf (now (input .entry)) ⌝ }
-    ensures { λ r. ⌜ sizeSaid r ≡ onSize (now (input .entry)) (8 ∷ []) (λ n left right. 0 ∷ (n ∷ (left ∷ (right ∷ [])))) ⌝ }
+    ensures { λ r. ⌜ sizeSaid r ≡ onSize (now (input .entry)) (8 ∷ []) (λ n left right public. 0 ∷ (n ∷ (left ∷ (right ∷ (public ∷ []))))) ⌝ }
 {
     let Place::Behind(n, second) = field(input, 0, b' ') else {
         return Size::Refused(Refusal::NumberLine);
@@ -89,11 +89,14 @@ pub fn read_size(input: &[u8]) -> Size
     let Place::Behind(left, third) = field(input, second, b' ') else {
         return Size::Refused(Refusal::NumberLine);
     };
-    let Place::Behind(right, end) = field(input, third, b'\n') else {
+    let Place::Behind(right, fourth) = field(input, third, b' ') else {
+        return Size::Refused(Refusal::NumberLine);
+    };
+    let Place::Behind(public, end) = field(input, fourth, b'\n') else {
         return Size::Refused(Refusal::NumberLine);
     };
     if end <= LONGEST {
-        return Size::Of(n, left, right);
+        return Size::Of(n, left, right, public);
     }
     Size::Refused(Refusal::NumberLine)
 }

@@ -1,4 +1,4 @@
--- What the definition comes to, case by case: whether the generator takes the dimensions and whether three numbers are dimensions decide. The words
+-- What the definition comes to, case by case: whether the generator takes the dimensions and whether four numbers are dimensions decide. The words
 -- lent to the generator are three for each gate of the greatest ceiling that is served, so that its 7 is the program's.
 -- Assumes nothing.
 use mathlib.Core.Path.{_≡_, refl, sym, ap, _∙_, subst}
@@ -18,7 +18,7 @@ use Rattle.refusals.specs.declared.Outcome.{Outcome}
 use Rattle.refusals.specs.declared.Outcome.the-variants.{Taken, Refused}
 use Rattle.refusals.specs.Checks.{check, outcome, given}
 use Rattle.refusals.specs.Numbers.{numberOf}
-use Rattle.refusals.proofs.Outcomes.{outcome-taken, outcome-refused, check-passed}
+use Rattle.refusals.proofs.Outcomes.{outcome-refused, outcome-parts, check-passed}
 use Rattle.text.specs.declared.Text.{Text}
 use Rattle.text.specs.Texts.{textOf}
 use Rattle.text.specs.Refused.{refusedLine}
@@ -26,7 +26,7 @@ use Rattle.text.proofs.Appending.{text-back}
 use Rattle.text.proofs.Decimals.{decimal-length}
 use Rattle.dimensions.specs.declared.Dimensions.{Dimensions}
 use Rattle.dimensions.specs.declared.Sized.the-variants as sized′
-use Rattle.dimensions.specs.Sizes.{sizeChecks, sized, ceiling, inputWires}
+use Rattle.dimensions.specs.Sizes.{dimensions, rowCount, sizeChecks, sized, ceiling, inputWires}
 use Rattle.gates.specs.Memory.{gatesOf, wordsOf, over}
 use Rattle.gates.proofs.InMemory.{words-length, gates-words, accepted-words}
 use Rattle.netlist.specs.Netlist.{gatesOn}
@@ -89,7 +89,7 @@ limit k c h =
 
 module _ (d : Dimensions) (words : List ℕ) (h : length words ≡ 16383) where
   same-checks : outcome (generatorChecks d words) ≡ outcome (listChecks d)
-  same-checks = ap (λ (b : Bool). outcome (sizeChecks (d .n) (d .left) (d .right) ++ (check b GateBuffer ∷ []))) (limit (length words) (ceiling d) h)
+  same-checks = ap (λ (b : Bool). outcome (sizeChecks d ++ (check b GateBuffer ∷ []))) (limit (length words) (ceiling d) h)
 
   -- ---- dimensions that are refused
 
@@ -108,26 +108,19 @@ module _ (d : Dimensions) (words : List ℕ) (h : length words ≡ 16383) where
     checked : outcome (listChecks d) ≡ Taken
     checked = sym same-checks ∙ t
 
-    sizes-taken : outcome (sizeChecks (d .n) (d .left) (d .right)) ≡ Taken
-    sizes-taken = go (outcome (sizeChecks (d .n) (d .left) (d .right))) refl
-      where
-        go : (o : Outcome) → outcome (sizeChecks (d .n) (d .left) (d .right)) ≡ o → o ≡ Taken
-        go Taken e = refl
-        go (Refused q) e = sym (outcome-refused (sizeChecks (d .n) (d .left) (d .right)) (check (ltb 5461 (ceiling d)) GateBuffer ∷ []) q e) ∙ checked
+    both-taken : (outcome (sizeChecks d) ≡ Taken) × (outcome (check (ltb 5461 (ceiling d)) GateBuffer ∷ []) ≡ Taken)
+    both-taken = outcome-parts (sizeChecks d) (check (ltb 5461 (ceiling d)) GateBuffer ∷ []) checked
 
     few : ceiling d ≤ 5461
-    few =
-        ltb-false 5461 (ceiling d)
-        (check-passed (ltb 5461 (ceiling d)) GateBuffer Taken
-        (sym (outcome-taken (sizeChecks (d .n) (d .left) (d .right)) (check (ltb 5461 (ceiling d)) GateBuffer ∷ []) sizes-taken) ∙ checked))
+    few = ltb-false 5461 (ceiling d) (check-passed (ltb 5461 (ceiling d)) GateBuffer Taken (both-taken .1))
 
     circuit-short : length (circuitText d (gatesOn d)) ≤ 131072
     circuit-short =
-        served-short d (gatesOn d) few (omega (arith, few, gates-length (d .n) (d .left) (d .right)))
+        served-short d (gatesOn d) few (omega (arith, few, gates-length (d .n) (rowCount d)))
         (sym (accepted-words (inputWires d) (gatesOn d)) ∙ gates-accepted d)
 
     circuit-taken : outcome (circuitChecks d (wordsOf (gatesOn d))) ≡ Taken
-    circuit-taken = sym (take-circuit d (wordsOf (gatesOn d)) sizes-taken (ap not (gates-accepted d)))
+    circuit-taken = sym (take-circuit d (wordsOf (gatesOn d)) (both-taken .0) (ap not (gates-accepted d)))
 
     circuit-text : circuitText d (gatesOf (wordsOf (gatesOn d))) ≡ textFor d
     circuit-text = ap (circuitText d) (gates-words (gatesOn d)) ∙ ap (λ (o : Outcome). given o (circuitText d (gatesOn d)) refusedLine) (sym checked)
@@ -158,31 +151,31 @@ served d words left k h g l = go (outcome (generatorChecks d words)) refl g l
               (circuit-short d words h t);
         }
 
--- ---- three numbers
+-- ---- four numbers
 
-module _ (n left right : ℕ) where
+module _ (n left right public : ℕ) where
   abbrev named : Dimensions
-  named = record { n = n; left = left; right = right }
+  named = dimensions n left right public
 
   -- numbers that are dimensions
-  pub sized-of : (d : Dimensions) → sized n left right ≡ sized′.Of d → textFor d ≡ textFor named
-  sized-of d e = go (outcome (sizeChecks n left right)) e
+  pub sized-of : (d : Dimensions) → sized n left right public ≡ sized′.Of d → textFor d ≡ textFor named
+  sized-of d e = go (outcome (sizeChecks named)) e
     where
       go : (o : Outcome) → given o (sized′.Of named) sized′.Refused ≡ sized′.Of d → textFor d ≡ textFor named
       go Taken f = let same : d ≡ named = cc in ap textFor same
       go (Refused q) f = absurd (let z : _≡_ {A = ℕ} 0 1 = cc in omega arith)
 
   -- and numbers that are not
-  pub sized-refused : (r : Refusal) → sized n left right ≡ sized′.Refused r → refusedLine r ≡ textFor named
-  sized-refused r e = go (outcome (sizeChecks n left right)) refl e
+  pub sized-refused : (r : Refusal) → sized n left right public ≡ sized′.Refused r → refusedLine r ≡ textFor named
+  sized-refused r e = go (outcome (sizeChecks named)) refl e
     where
-      go : (o : Outcome) → outcome (sizeChecks n left right) ≡ o → given o (sized′.Of named) sized′.Refused ≡ sized′.Refused r → refusedLine r ≡ textFor named
+      go : (o : Outcome) → outcome (sizeChecks named) ≡ o → given o (sized′.Of named) sized′.Refused ≡ sized′.Refused r → refusedLine r ≡ textFor named
       go Taken t f = absurd (let z : _≡_ {A = ℕ} 0 1 = cc in omega arith)
       go (Refused q) t f =
           let same : r ≡ q = cc in
           ap refusedLine same
           ∙ ap (λ (o : Outcome). given o (circuitText named (gatesOn named)) refusedLine)
-          (sym (outcome-refused (sizeChecks n left right) (check (ltb 5461 (ceiling named)) GateBuffer ∷ []) q t))
+          (sym (outcome-refused (sizeChecks named) (check (ltb 5461 (ceiling named)) GateBuffer ∷ []) q t))
 
 -- ---- what was put for a text is put for the same text, and lies within the bytes
 

@@ -8,22 +8,22 @@ use Rattle.lines.specs.declared.Size.{Size}
 use Rattle.lines.specs.declared.Size.the-variants as size
 use Rattle.lines.specs.Numbers.{sizeOf}
 use Rattle.dimensions.specs.declared.Dimensions.{Dimensions}
-use Rattle.dimensions.specs.Sizes.{sizeChecks, ceiling}
+use Rattle.dimensions.specs.Sizes.{dimensions, sizeChecks, ceiling}
 use Rattle.text.specs.Refused.{refusedLine}
 use Rattle.bristol.specs.Text.{circuitText}
 use Rattle.netlist.specs.Netlist.{gatesOn}
 
 -- 1, 2, then 7: a ceiling above 5,461 gates
 abbrev pub listChecks : Dimensions → List Check
-listChecks d = sizeChecks (d .n) (d .left) (d .right) ++ (check (ltb 5461 (ceiling d)) GateBuffer ∷ [])
+listChecks d = sizeChecks d ++ (check (ltb 5461 (ceiling d)) GateBuffer ∷ [])
 
 -- the text of the circuit of some dimensions, or the refusal's line alone
 abbrev pub textFor : Dimensions → List ℕ
 textFor d = given (outcome (listChecks d)) (circuitText d (gatesOn d)) refusedLine
 
--- what is printed for three numbers, or for the lack of them
+-- what is printed for four numbers, or for the lack of them
 abbrev pub sizeText : Size → List ℕ
-sizeText (size.Of n left right) = textFor (record { n = n; left = left; right = right })
+sizeText (size.Of n left right public) = textFor (dimensions n left right public)
 sizeText (size.Refused r) = refusedLine r
 
 -- what is printed for a line

@@ -67,7 +67,7 @@ pub fn list(line: &[u8], bytes: &mut [u8; ROOM]) -> usize
     ensures { λ r. ⌜ Counts r (now (bytes .exit)) ⌝ }
 {
     match lines::read_size(line) {
-        Size::Of(n, left, right) => match Dimensions::new(n, left, right) {
+        Size::Of(n, left, right, public) => match Dimensions::new(n, left, right, public) {
             Sized::Of(d) => put_circuit(d, bytes),
             Sized::Refused(refusal) => put_refusal(refusal, bytes),
         },

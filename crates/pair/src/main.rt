@@ -1,4 +1,4 @@
-// The pair program: reads left.cnf, right.cnf and the budget on standard input, each whole before the next, and prints the reply.
+// The pair program: reads left.cnf, right.cnf, public.cnf and the budget on standard input, each whole before the next, and prints the reply.
 use libc::STDIN_FILENO;
 use libc::STDOUT_FILENO;
 ghost use Prim.Native.Nat.{_≤_};
@@ -61,35 +61,61 @@ fn extend(fd: i32, start: &[u8], buf: &mut [u8]) -> usize
     fill(fd, buf, n)
 }
 
-// Prints the reply to two texts and a line.
-fn print(left: &[u8], right: &[u8], line: &[u8]) {
-    let text = reply::reply(left, right, line);
+// Prints the reply to three texts and a line.
+fn print(left: &[u8], right: &[u8], public: &[u8], line: &[u8]) {
+    let text = reply::reply(left, right, public, line);
     let bytes = text.bytes;
     let length = text.length;
     io::write_all(STDOUT_FILENO, &bytes[..length]);
 }
 
-// Reads the line and prints the reply to it and two texts.
-fn answer(left: &[u8], right: &[u8]) {
+// Reads the line and prints the reply to it and three texts.
+fn answer(left: &[u8], right: &[u8], public: &[u8]) {
     let mut line = [0u8; 101];
     let n = input::read_line(STDIN_FILENO, &mut line);
-    print(left, right, &line[..n]);
+    print(left, right, public, &line[..n]);
 }
 
-// Reads a right text on from its start. One that fills its buffer, as one that cannot be read does, is overlong, which is 5 whatever
+// Reads a public text on from its start. One that fills its buffer, as one that cannot be read does, is overlong, which is 5 whatever
 // the line: it is answered at once.
+fn long_public(left: &[u8], right: &[u8], fd: i32, start: &[u8])
+    requires { ⌜ length (now start) ≤ 4096 ⌝ }
+{
+    let mut public = [0u8; OVERLONG];
+    let n = extend(fd, start, &mut public);
+    if n == OVERLONG {
+        return print(left, right, &public[..n], b"");
+    }
+    answer(left, right, &public[..n]);
+}
+
+// Reads the public text, then the line.
+fn read_public(left: &[u8], right: &[u8]) {
+    let mut public = [0u8; SHORT];
+    let begun = begin(b"public.cnf", &mut public);
+    if begun.fd < 0 {
+        return long_public(left, right, begun.fd, b"");
+    }
+    let n = begun.length;
+    if n == SHORT {
+        return long_public(left, right, begun.fd, &public[..n]);
+    }
+    answer(left, right, &public[..n]);
+}
+
+// Reads a right text on from its start. An overlong one is answered at once, whatever the public text and the line.
 fn long_right(left: &[u8], fd: i32, start: &[u8])
     requires { ⌜ length (now start) ≤ 4096 ⌝ }
 {
     let mut right = [0u8; OVERLONG];
     let n = extend(fd, start, &mut right);
     if n == OVERLONG {
-        return print(left, &right[..n], b"");
+        return print(left, &right[..n], b"", b"");
     }
-    answer(left, &right[..n]);
+    read_public(left, &right[..n]);
 }
 
-// Reads the right text, then the line.
+// Reads the right text, then the rest.
 fn read_right(left: &[u8]) {
     let mut right = [0u8; SHORT];
     let begun = begin(b"right.cnf", &mut right);
@@ -100,23 +126,23 @@ fn read_right(left: &[u8]) {
     if n == SHORT {
         return long_right(left, begun.fd, &right[..n]);
     }
-    answer(left, &right[..n]);
+    read_public(left, &right[..n]);
 }
 
-// Reads a left text on from its start. An overlong one is answered at once, whatever the right text and the line.
+// Reads a left text on from its start. An overlong one is answered at once, whatever the other texts and the line.
 fn long_left(fd: i32, start: &[u8])
     requires { ⌜ length (now start) ≤ 4096 ⌝ }
 {
     let mut left = [0u8; OVERLONG];
     let n = extend(fd, start, &mut left);
     if n == OVERLONG {
-        return print(&left[..n], b"", b"");
+        return print(&left[..n], b"", b"", b"");
     }
     read_right(&left[..n]);
 }
 
-// Reads the left text, then the rest. `long_left` and `long_right` are called in two places each, since a function that is called in
-// one is compiled into its caller, large buffer and all.
+// Reads the left text, then the rest. `long_left`, `long_right` and `long_public` are called in two places each, since a function that
+// is called in one is compiled into its caller, large buffer and all.
 fn main() {
     let mut left = [0u8; SHORT];
     let begun = begin(b"left.cnf", &mut left);

@@ -1,4 +1,4 @@
--- What holds of two texts that were read: n is at most 32, and refusals 1 to 4 do not apply to their tables, so that only the texts
+-- What holds of three texts that were read: n is at most 32, and refusals 1 to 4 do not apply to their tables, so that only the texts
 -- and the line are ever turned back. From what the reader proves of accepted texts.
 -- Assumes nothing.
 use mathlib.Core.Path.{_≡_, refl, sym, ap, _∙_, subst}
@@ -12,14 +12,15 @@ use Rattle.words.proofs.Truth.{and-i}
 use Rattle.refusals.specs.Checks.{given, outcome}
 use Rattle.refusals.specs.declared.Outcome.{Outcome}
 use Rattle.refusals.specs.declared.Outcome.the-variants.{Taken, Refused}
-use Rattle.tables.specs.Tables.{allTables}
+use Rattle.tables.specs.declared.Row.{Row}
 use Rattle.tables.specs.Rows.{rowsOf}
 use Rattle.tables.specs.Acceptance.{allBelow, tableChecks}
-use Rattle.dimacs.specs.declared.Pair.{Pair}
+use Rattle.dimacs.specs.declared.TextTables.{TextTables}
 use Rattle.dimacs.specs.declared.Table.{Table}
-use Rattle.dimacs.specs.Pair.{pairOf, pairOutcome, acceptedPair, refusedPair}
+use Rattle.dimacs.specs.ThreeTexts.{textsOutcome, textTables}
 use Rattle.dimacs.specs.Text.{tableOf}
-use Rattle.dimacs.proofs.Accepted.{Within, accepted-pair}
+use Rattle.dimacs.proofs.ThreeTexts.{outcome-is, by-outcome}
+use Rattle.dimacs.proofs.Accepted.{AllWithin, accepted-texts}
 use Rattle.solver.specs.declared.Solved.{Solved}
 use Rattle.solver.specs.declared.Solved.the-variants as solved′
 use Rattle.solver.specs.Step.{always}
@@ -29,26 +30,23 @@ use Rattle.solver.proofs.Demand2.{demand2}
 use Rattle.lines.specs.Numbers.{budgetOf}
 use Rattle.answers.specs.Printed.{solvedText}
 use Rattle.lines.specs.declared.Budget.the-variants as budget
-use Rattle.reply.specs.Reply.{dimensionsOf, answered, replied}
+use Rattle.reply.specs.Reply.{dimensionsOf, tablesIn, answered, replied}
 
--- two texts as they are read
-abbrev pub readOf : List ℕ → List ℕ → Pair
-readOf left right = pairOf (tableOf left) (tableOf right)
-
-pub n-high : (left right : List ℕ) → readOf left right .n ≤ 32
-n-high left right = go (pairOutcome a b) refl
+pub n-high : (left right public : List ℕ) → textTables left right public .n ≤ 32
+n-high left right public = go (textsOutcome l r p) refl
   where
-    a : Table
-    a = tableOf left
+    l : Table
+    l = tableOf 1 left
 
-    b : Table
-    b = tableOf right
+    r : Table
+    r = tableOf 1 right
 
-    go : (o : Outcome) → pairOutcome a b ≡ o → given o (acceptedPair a b) refusedPair .n ≤ 32
-    go Taken e =
-        subst (λ (o : Outcome). given o (acceptedPair a b) refusedPair .n ≤ 32) e
-        (accepted-pair left right (pairOf a b) refl (ap (λ (o : Outcome). given o (acceptedPair a b) refusedPair .outcome) e) .0 .variables-high)
-    go (Refused r) e = zero-le
+    p : Table
+    p = tableOf 0 public
+
+    go : (o : Outcome) → textsOutcome l r p ≡ o → textTables left right public .n ≤ 32
+    go Taken e = accepted-texts left right public (outcome-is l r p ∙ e) .left .variables-high
+    go (Refused x) e = subst (λ (t : TextTables). t .n ≤ 32) (sym (by-outcome l r p (Refused x) e)) zero-le
 
 -- ---- refusals 1 to 4
 
@@ -58,47 +56,55 @@ all-below n zero words h = refl
 all-below n (suc k) [] h = refl
 all-below n (suc k) (w ∷ ws) h = and-i (lt-ltb w (2 ^ n) (h zero)) (all-below n k ws (λ i. h (suc i)))
 
-pub tables-taken : (p : Pair) → Within (p .n) (p .«left_rows») (p .left) × Within (p .n) (p .«right_rows») (p .right)
-    → outcome (tableChecks (dimensionsOf p) (allTables (p .left) (p .right))) ≡ Taken
-tables-taken p w =
-    let l = w .0 in
-    let r = w .1 in
+pub tables-taken : (t : TextTables) → AllWithin t → outcome (tableChecks (dimensionsOf t) (tablesIn t)) ≡ Taken
+tables-taken t w =
+    let l = w .left in
+    let r = w .right in
+    let p = w .public in
     rw (
-      le-ltb (p .n) 1 (l .variables-low),
-      le-ltb 32 (p .n) (l .variables-high),
-      le-ltb (p .«left_rows») 1 (l .rows-low),
-      le-ltb 128 (p .«left_rows») (l .rows-high),
-      le-ltb (p .«right_rows») 1 (r .rows-low),
-      le-ltb 128 (p .«right_rows») (r .rows-high),
-      le-ltb (length (p .left)) (2 * p .«left_rows») (omega (arith, l .sized, l .rows-high)),
-      le-ltb (length (p .right)) (2 * p .«right_rows») (omega (arith, r .sized, r .rows-high)),
-      all-below (p .n) (2 * p .«left_rows») (p .left) (l .no-high-bit),
-      all-below (p .n) (2 * p .«right_rows») (p .right) (r .no-high-bit),
+      le-ltb (t .n) 1 (l .variables-low),
+      le-ltb 32 (t .n) (l .variables-high),
+      le-ltb (t .«left_rows») 1 (l .rows-low),
+      le-ltb 128 (t .«left_rows») (l .rows-high),
+      le-ltb (t .«right_rows») 1 (r .rows-low),
+      le-ltb 128 (t .«right_rows») (r .rows-high),
+      le-ltb 128 (t .«public_rows») (p .rows-high),
+      le-ltb (length (t .left)) (2 * t .«left_rows») (omega (arith, l .sized, l .rows-high)),
+      le-ltb (length (t .right)) (2 * t .«right_rows») (omega (arith, r .sized, r .rows-high)),
+      le-ltb (length (t .public)) (2 * t .«public_rows») (omega (arith, p .sized, p .rows-high)),
+      all-below (t .n) (2 * t .«left_rows») (t .left) (l .no-high-bit),
+      all-below (t .n) (2 * t .«right_rows») (t .right) (r .no-high-bit),
+      all-below (t .n) (2 * t .«public_rows») (t .public) (p .no-high-bit),
     )
 
--- where both texts and the line are taken, the reply is the answer of the budgeted run over their rows
-pub reply-answers : (left right line : List ℕ) (steps : ℕ) → readOf left right .outcome ≡ Taken → budgetOf line ≡ budget.Of steps
-    → let p = readOf left right in replied p line ≡ solved′.Of (answerOf (p .n) (always (rowsOf (dimensionsOf p) (allTables (p .left) (p .right)))) steps)
-unfolding solved
-reply-answers left right line steps taken e =
-    let p = readOf left right in
-    ap (λ (o : Outcome). given o (answered p (budgetOf line)) solved′.Refused) taken
-    ∙ ap (answered p) e
-    ∙ ap (λ (o : Outcome). given o (solved′.Of (answerOf (p .n) (always (rowsOf (dimensionsOf p) (allTables (p .left) (p .right)))) steps)) solved′.Refused)
-    (tables-taken p (accepted-pair left right p refl taken))
+module _ (left right public : List ℕ) where
+  -- the tables as they are read
+  abbrev texts : TextTables
+  texts = textTables left right public
 
--- and demand 2 holds of it
-pub reply-demand2 : (left right : List ℕ) (steps : ℕ) → readOf left right .outcome ≡ Taken
-    → let p = readOf left right in let rows = always (rowsOf (dimensionsOf p) (allTables (p .left) (p .right))) in Demand2 (p .n) rows steps (answerOf (p .n) rows steps)
-reply-demand2 left right steps taken =
-    let p = readOf left right in
-    demand2 (dimensionsOf p) (allTables (p .left) (p .right)) steps (tables-taken p (accepted-pair left right p refl taken))
+  -- the rows of all three, which stay as they are
+  abbrev pub rowsRead : ℕ → List Row
+  rowsRead = always (rowsOf (dimensionsOf texts) (tablesIn texts))
 
--- ---- the text
+  -- where the texts and the line are taken, the reply is the answer of the budgeted run over their rows
+  pub reply-answers : (line : List ℕ) (steps : ℕ) → texts .outcome ≡ Taken → budgetOf line ≡ budget.Of steps
+      → replied texts line ≡ solved′.Of (answerOf (texts .n) rowsRead steps)
+  unfolding solved
+  reply-answers line steps taken e =
+      ap (λ (o : Outcome). given o (answered texts (budgetOf line)) solved′.Refused) taken
+      ∙ ap (answered texts) e
+      ∙ ap (λ (o : Outcome). given o (solved′.Of (answerOf (texts .n) rowsRead steps)) solved′.Refused)
+      (tables-taken texts (accepted-texts left right public taken))
 
--- what is printed for a pair that was read
-pub printed : (left right : List ℕ) (p : Pair) (s : Solved) → p ≡ readOf left right → solvedText (min (p .n) 32) s ≡ solvedText (p .n) s
-printed left right p s e =
-    let low : p .n ≤ 32 = subst (λ (x : Pair). x .n ≤ 32) (sym e) (n-high left right) in
-    let same : min (p .n) 32 ≡ p .n = omega arith in
-    ap (λ (k : ℕ). solvedText k s) same
+  -- and demand 2 holds of it
+  pub reply-demand2 : (steps : ℕ) → texts .outcome ≡ Taken → Demand2 (texts .n) rowsRead steps (answerOf (texts .n) rowsRead steps)
+  reply-demand2 steps taken = demand2 (dimensionsOf texts) (tablesIn texts) steps (tables-taken texts (accepted-texts left right public taken))
+
+  -- ---- the text
+
+  -- what is printed for texts that were read
+  pub printed : (t : TextTables) (s : Solved) → t ≡ texts → solvedText (min (t .n) 32) s ≡ solvedText (t .n) s
+  printed t s e =
+      let low : t .n ≤ 32 = subst (λ (x : TextTables). x .n ≤ 32) (sym e) (n-high left right public) in
+      let same : min (t .n) 32 ≡ t .n = omega arith in
+      ap (λ (k : ℕ). solvedText k s) same

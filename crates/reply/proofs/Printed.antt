@@ -7,10 +7,9 @@ use Prim.Native.Nat.{ℕ}
 use Rattle.refusals.specs.Checks.{given}
 use Rattle.refusals.specs.declared.Outcome.{Outcome}
 use Rattle.refusals.specs.declared.Outcome.the-variants.{Taken, Refused}
-use Rattle.tables.specs.Tables.{allTables}
-use Rattle.tables.specs.Rows.{rowsOf}
-use Rattle.solver.specs.Step.{always}
-use Rattle.dimacs.specs.declared.Pair.{Pair}
+use Rattle.dimacs.specs.declared.TextTables.{TextTables}
+use Rattle.dimacs.specs.ThreeTexts.{textTables}
+use Rattle.solver.specs.declared.Solved.{Solved}
 use Rattle.solver.specs.declared.Solved.the-variants as solved
 use Rattle.lines.specs.Numbers.{budgetOf}
 use Rattle.answers.specs.Printed.{solvedText}
@@ -18,30 +17,38 @@ use Rattle.lines.specs.declared.Budget.{Budget}
 use Rattle.lines.specs.declared.Budget.the-variants as budget
 use Rattle.lines.proofs.Readings.{budget-below}
 use Rattle.answers.proofs.Injective.{solvedWithin, run-within, printed-injective}
-use Rattle.reply.specs.Reply.{dimensionsOf, answered, replied, replyText}
-use Rattle.reply.proofs.Accepted.{readOf, reply-answers}
+use Rattle.reply.specs.Reply.{answered, replied, replyText}
+use Rattle.reply.proofs.Accepted.{rowsRead, reply-answers}
 
-reply-within : (left right line : List ℕ) → solvedWithin (readOf left right .n) (replied (readOf left right) line)
-reply-within left right line = texts (p .outcome) refl
-  where
-    p : Pair
-    p = readOf left right
+module _ (left right public line : List ℕ) where
+  abbrev texts : TextTables
+  texts = textTables left right public
 
-    number : (b : Budget) → p .outcome ≡ Taken → budgetOf line ≡ b → solvedWithin (p .n) (replied p line)
-    number (budget.Of steps) taken e =
-        subst (solvedWithin (p .n)) (sym (reply-answers left right line steps taken e))
-        (run-within (p .n) (always (rowsOf (dimensionsOf p) (allTables (p .left) (p .right)))) steps (budget-below line steps e))
-    number (budget.Refused r) taken e =
-        subst (solvedWithin (p .n)) (sym (ap (λ (o : Outcome). given o (answered p (budgetOf line)) solved.Refused) taken ∙ ap (answered p) e)) tt
+  abbrev reply : Solved
+  reply = replied texts line
 
-    texts : (o : Outcome) → p .outcome ≡ o → solvedWithin (p .n) (replied p line)
-    texts Taken e = number (budgetOf line) e refl
-    texts (Refused r) e = subst (solvedWithin (p .n)) (sym (ap (λ (o : Outcome). given o (answered p (budgetOf line)) solved.Refused) e)) tt
+  reply-within : solvedWithin (texts .n) reply
+  reply-within = by-texts (texts .outcome) refl
+    where
+      given-by : (o : Outcome) → texts .outcome ≡ o → given o (answered texts (budgetOf line)) solved.Refused ≡ reply
+      given-by o e = sym (ap (λ (o : Outcome). given o (answered texts (budgetOf line)) solved.Refused) e)
 
-pub reply-injective : (left right line left′ right′ line′ : List ℕ) → readOf left right .n ≡ readOf left′ right′ .n
-    → replyText left right line ≡ replyText left′ right′ line′ → replied (readOf left right) line ≡ replied (readOf left′ right′) line′
+      by-line : (b : Budget) → texts .outcome ≡ Taken → budgetOf line ≡ b → solvedWithin (texts .n) reply
+      by-line (budget.Of steps) taken e =
+          subst (solvedWithin (texts .n)) (sym (reply-answers left right public line steps taken e))
+          (run-within (texts .n) (rowsRead left right public) steps (budget-below line steps e))
+      by-line (budget.Refused r) taken e = subst (solvedWithin (texts .n)) (sym (ap (answered texts) e) ∙ given-by Taken taken) tt
+
+      by-texts : (o : Outcome) → texts .outcome ≡ o → solvedWithin (texts .n) reply
+      by-texts Taken e = by-line (budgetOf line) e refl
+      by-texts (Refused r) e = subst (solvedWithin (texts .n)) (given-by (Refused r) e) tt
+
+pub reply-injective : (left right public line left′ right′ public′ line′ : List ℕ) → textTables left right public .n ≡ textTables left′ right′ public′ .n
+    → replyText left right public line ≡ replyText left′ right′ public′ line′
+    → replied (textTables left right public) line ≡ replied (textTables left′ right′ public′) line′
 unfolding replyText
-reply-injective left right line left′ right′ line′ same e =
-    printed-injective (readOf left right .n) (replied (readOf left right) line) (replied (readOf left′ right′) line′) (reply-within left right line)
-    (subst (λ (n : ℕ). solvedWithin n (replied (readOf left′ right′) line′)) (sym same) (reply-within left′ right′ line′))
-    (e ∙ ap (λ (n : ℕ). solvedText n (replied (readOf left′ right′) line′)) (sym same))
+reply-injective left right public line left′ right′ public′ line′ same e =
+    let t = textTables left right public in
+    let r = reply left′ right′ public′ line′ in
+    printed-injective (t .n) (reply left right public line) r (reply-within left right public line)
+    (subst (λ (n : ℕ). solvedWithin n r) (sym same) (reply-within left′ right′ public′ line′)) (e ∙ ap (λ (n : ℕ). solvedText n r) (sym same))

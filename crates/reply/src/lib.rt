@@ -1,5 +1,5 @@
-// The pair program's one function: two stations' texts and the line of standard input go in, what is printed comes out.
-use dimacs::Pair;
+// The pair program's one function: two stations' texts, that of the public rest rules and the line of standard input go in, what is printed comes out.
+use dimacs::TextTables;
 use dimensions::Dimensions;
 use lines::Budget;
 use refusals::Outcome;
@@ -11,33 +11,35 @@ ghost use Rattle.text.specs.Texts.{textOf};
 ghost use Rattle.answers.specs.Printed.{solvedText};
 ghost use Rattle.reply.specs.Reply.{answered, replied, replyText};
 
-// The budgeted run over the tables of a pair, or 8.
-fn answer(pair: Pair, budget: Budget) -> Solved
-    ensures { λ r. ⌜ r ≡ answered pair budget ⌝ }
+// The budgeted run over tables that were read, or 8.
+fn answer(tables: TextTables, budget: Budget) -> Solved
+    ensures { λ r. ⌜ r ≡ answered tables budget ⌝ }
 {
-    let left = pair.left;
-    let right = pair.right;
+    let left = tables.left;
+    let right = tables.right;
+    let public = tables.public;
     match budget {
         Budget::Refused(refusal) => Solved::Refused(refusal),
         Budget::Of(steps) => {
             let d = Dimensions {
-                n: pair.n,
-                left: pair.left_rows,
-                right: pair.right_rows,
+                n: tables.n,
+                left: tables.left_rows,
+                right: tables.right_rows,
+                public: tables.public_rows,
             };
-            solver::solve(d, &left, &right, steps)
+            solver::solve(d, &left, &right, &public, steps)
         }
     }
 }
 
 // The refusal of the texts, or 8, or the answer.
-fn judge(pair: Pair, line: &[u8]) -> Solved
-    ensures { λ r. ⌜ r ≡ replied pair (now (line .entry)) ⌝ }
+fn judge(tables: TextTables, line: &[u8]) -> Solved
+    ensures { λ r. ⌜ r ≡ replied tables (now (line .entry)) ⌝ }
 {
-    let outcome = pair.outcome;
+    let outcome = tables.outcome;
     match outcome {
         Outcome::Refused(refusal) => Solved::Refused(refusal),
-        Outcome::Taken => answer(pair, lines::read_budget(line)),
+        Outcome::Taken => answer(tables, lines::read_budget(line)),
     }
 }
 
@@ -52,9 +54,9 @@ fn print(n: u8, given: Solved) -> Text
 }
 
 // What the pair program prints. For a file that it cannot read it hands over 65,537 bytes, an overlong text, which is 5.
-pub fn reply(left: &[u8], right: &[u8], line: &[u8]) -> Text
-    ensures { λ r. ⌜ r ≡ textOf (replyText (now (left .entry)) (now (right .entry)) (now (line .entry))) ⌝ }
+pub fn reply(left: &[u8], right: &[u8], public: &[u8], line: &[u8]) -> Text
+    ensures { λ r. ⌜ r ≡ textOf (replyText (now (left .entry)) (now (right .entry)) (now (public .entry)) (now (line .entry))) ⌝ }
 {
-    let pair = dimacs::read_pair(left, right);
-    print(pair.n, judge(pair, line))
+    let tables = dimacs::read_tables(left, right, public);
+    print(tables.n, judge(tables, line))
 }

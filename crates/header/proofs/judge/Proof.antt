@@ -1,11 +1,27 @@
 -- `judge` meets its contract: each test is the definition's, and what passes it fits a byte. Assumes nothing.
-use mathlib.Core.Path.{sym, _∙_}
+use mathlib.Core.Path.{_≡_, sym, _∙_}
+use mathlib.Core.Bool.{false}
 use native.Mathlib.Omega.{arith}
 use borrow.Author.Needs.{needs}
 use Rattle.dimensions.specs.Sizes.{mostVariables, mostRows}
+use Rattle.header.specs.Header.{beyond}
 use Rattle.header.proofs.Limits.{within}
 use Rattle.header.proofs.judge.Statement.{statement}
 use Rattle.header.proofs.judge.Tie as tie
+
+-- where the code starts, from either test passed
+abbrev start : tie.Else1 → tie.Start
+start c = c .before .before
+
+abbrev first-passed : tie.Else2 → tie.Else1
+first-passed c = c .before .before
+
+-- what is passed is not beyond its limits
+n-passed : (c : tie.Else1) → beyond 1 mostVariables (start c .args .s) (start c .args .v) ≡ false
+n-passed c = sym (c .before .is-beyond .ensures) ∙ c .if1 .left
+
+m-passed : (c : tie.Else2) → let a = start (first-passed c) .args in beyond (a .least) mostRows (a .t) (a .w) ≡ false
+m-passed c = sym (c .before .is-beyond2 .ensures) ∙ c .if2 .left
 
 is-beyond-requires : tie.Need-is-beyond-requires
 is-beyond-requires c κs = search needs
@@ -17,24 +33,18 @@ is-beyond-requires-2 : tie.Need-is-beyond-requires-2
 is-beyond-requires-2 c κs = search needs
 
 returns-2 : tie.Need-returns-2
-returns-2 c =
-    rw (sym (c .before .before .before .is-beyond .ensures) ∙ c .before .before .if1 .left, sym (c .before .is-beyond2 .ensures) ∙ c .if2 .taken)
+returns-2 c = rw (n-passed (c .before .before), sym (c .before .is-beyond2 .ensures) ∙ c .if2 .taken)
 
-cast-t9 : tie.Need-cast-t9
-cast-t9 c =
-    let a = c .before .before .before .before .args in
-    omega (arith, within mostVariables (a .s) (a .v) (sym (c .before .before .before .is-beyond .ensures) ∙ c .before .before .if1 .left) .1)
+cast-n : tie.Need-cast-n
+cast-n c = let a = start (first-passed c) .args in omega (arith, within 1 mostVariables (a .s) (a .v) (n-passed (first-passed c)) .1)
 
-cast-t10 : tie.Need-cast-t10
-cast-t10 c =
-    let a = c .before .before .before .before .args in
-    omega (arith, within mostRows (a .t) (a .w) (sym (c .before .is-beyond2 .ensures) ∙ c .if2 .left) .1)
+cast-m : tie.Need-cast-m
+cast-m c = let a = start (first-passed c) .args in omega (arith, within (a .least) mostRows (a .t) (a .w) (m-passed c) .1)
 
 returns-3 : tie.Need-returns-3
-returns-3 c =
-    rw (sym (c .before .before .before .is-beyond .ensures) ∙ c .before .before .if1 .left, sym (c .before .is-beyond2 .ensures) ∙ c .if2 .left)
+returns-3 c = rw (n-passed (first-passed c), m-passed c)
 
 pub judge-spec : {M : Type 1} → statement M
 judge-spec =
     tie.close
-    (tie.spec is-beyond-requires returns is-beyond-requires-2 returns-2 cast-t9 cast-t10 returns-3)
+    (tie.spec is-beyond-requires returns is-beyond-requires-2 returns-2 cast-n cast-m returns-3)

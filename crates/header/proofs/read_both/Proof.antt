@@ -1,9 +1,17 @@
 -- `read_both` meets its contract: each number is held as it is read, and judged so. Assumes nothing.
 use mathlib.Core.Path.{sym, _∙_}
+use native.Mathlib.Omega.{arith}
 use borrow.Author.Needs.{needs}
 use Rattle.header.proofs.Limits.{no-n, no-m, both}
 use Rattle.header.proofs.read_both.Statement.{statement}
 use Rattle.header.proofs.read_both.Tie as tie
+
+-- the place after each number that was read, and the start
+abbrev start : tie.After-read-number → tie.Start
+start c = c .before .before .before
+
+abbrev first : tie.After-read-number2 → tie.After-read-number
+first c = c .before .before .before .before
 
 read-number-requires : tie.Need-read-number-requires
 read-number-requires c κs = search needs
@@ -15,7 +23,9 @@ enum-told : tie.Need-enum-told
 enum-told c = search needs
 
 returns : tie.Need-returns
-returns c = sym (no-n _ _ (sym (c .before .before .read-number .ensures) ∙ c .enum-told .given .1))
+returns c =
+    let read = c .before .before in
+    sym (no-n (start read .args .least) _ _ (sym (read .read-number .ensures) ∙ c .enum-told .given .1))
 
 read-number-requires-2 : tie.Need-read-number-requires-2
 read-number-requires-2 c κs = search needs
@@ -27,17 +37,22 @@ enum-told-2 : tie.Need-enum-told-2
 enum-told-2 c = search needs
 
 returns-2 : tie.Need-returns-2
-returns-2 c = sym (no-m _ _ (sym (c .before .before .read-number2 .ensures) ∙ c .enum-told2 .given .1))
+returns-2 c =
+    let read = c .before .before in
+    sym (no-m (start (first read) .args .least) _ _ (sym (read .read-number2 .ensures) ∙ c .enum-told2 .given .1))
 
 judge-requires : tie.Need-judge-requires
 judge-requires c κs = search needs
 
 returns-3 : tie.Need-returns-3
 returns-3 c =
+    let read-t = c .before .before in
+    let read-m = read-t .before .before in
+    let read-s = read-m .before .before in
+    let read-n = first read-m in
     c .judge .ensures
-    ∙ both _ _ _ _ _ _
-    (sym (c .before .before .before .before .before .before .before .before .read-number .ensures) ∙ c .before .before .before .before .before .before .s .given .1)
-    (sym (c .before .before .before .before .read-number2 .ensures) ∙ c .before .before .t .given .1)
+    ∙ both (start read-n .args .least) _ _ (omega arith) _ _ _ _ (sym (read-n .read-number .ensures) ∙ read-s .s .given .1)
+    (sym (read-m .read-number2 .ensures) ∙ read-t .t .given .1)
 
 pub read-both-spec : {M : Type 1} → statement M
 read-both-spec =

@@ -12,12 +12,18 @@ use Rattle.header.proofs.Lines.{header-at, said}
 use Rattle.header.proofs.read_header.Statement.{statement}
 use Rattle.header.proofs.read_header.Tie as tie
 
+-- where the code starts
+abbrev start : tie.After-find → tie.Start
+start c = c .before .before .before
+
 -- the line lies in the text
 starts : (c : tie.After-find) → c .before .find-header .result ≤ c .find .result
-starts c = omega (arith, c .find .ensures, end-ge (λ b. not (isLineFeed b)) (c .before .before .before .args .text .now) (c .before .find-header .result))
+starts c = omega (arith, c .find .ensures, end-ge (λ b. not (isLineFeed b)) (start c .args .text .now) (c .before .find-header .result))
 
-ends : (c : tie.After-find) → c .find .result ≤ length (c .before .before .before .args .text .now)
-ends c = omega (arith, c .find .ensures, end-le (λ b. not (isLineFeed b)) (c .before .before .before .args .text .now) (c .before .find-header .result) (c .before .find-header .ensures .0))
+ends : (c : tie.After-find) → c .find .result ≤ length (start c .args .text .now)
+ends c =
+    let found = c .before .find-header in
+    omega (arith, c .find .ensures, end-le (λ b. not (isLineFeed b)) (start c .args .text .now) (found .result) (found .ensures .0))
 
 find-header-requires : tie.Need-find-header-requires
 find-header-requires c κs = search needs
@@ -39,10 +45,12 @@ read-line-requires c κs = search needs
 
 returns : tie.Need-returns
 returns c =
-    let found = c .before .before .before .find-header in
-    said _ _
-    (ap (λ (x : Sizes). record { sizes = x; end = c .before .before .find .result }) (c .read-line .ensures)
-    ∙ sym (header-at _ (found .result) (c .before .before .find .result) (c .before .before .find .ensures) (found .ensures .0)) ∙ found .ensures .1)
+    let at-find = c .before .before in
+    let found = at-find .before .find-header in
+    let least = start at-find .args .least in
+    said least _ _
+    (ap (λ (x : Sizes). record { sizes = x; end = at-find .find .result }) (c .read-line .ensures)
+    ∙ sym (header-at _ (found .result) least (at-find .find .result) (at-find .find .ensures) (found .ensures .0)) ∙ found .ensures .1 least)
 
 pub read-header-spec : {M : Type 1} → statement M
 read-header-spec =

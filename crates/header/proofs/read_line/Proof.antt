@@ -25,9 +25,10 @@ read-parts-requires c κs = search needs
 
 returns : tie.Need-returns
 returns c =
+    let start = c .before .before .before .before .args in
     c .read-parts .ensures
-    ∙ ap (λ (l : List ℕ). headerParts (partsFrom isBlank l 0))
-    (ap (λ (i : ℕ). take i (c .before .before .before .before .args .line .now)) (c .before .before .trim .ensures) ∙ trimmed-take isTail (c .before .before .before .before .args .line .now))
+    ∙ ap (λ (l : List ℕ). headerParts (start .least) (partsFrom isBlank l 0))
+    (ap (λ (i : ℕ). take i (start .line .now)) (c .before .before .trim .ensures) ∙ trimmed-take isTail (start .line .now))
 
 pub read-line-spec : {M : Type 1} → statement M
 read-line-spec =

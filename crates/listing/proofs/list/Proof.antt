@@ -39,7 +39,9 @@ returns c =
     let new = c .before .before .before .before .before in
     let size = new .before .before in
     let call = size .before .before in
-    put-within _ _ _ _ _ (sized-of (size .n .given .0 .0) (size .n .given .0 .1 .0) (size .n .given .0 .1 .1 .0) _ (sym (new .new .ensures .0) ∙ c .before .before .before .d .given .1)
+    let numbers = size .n .given .0 in
+    put-within _ _ _ _ _ (sized-of (numbers .0) (numbers .1 .0) (numbers .1 .1 .0) (numbers .1 .1 .1 .0) _
+    (sym (new .new .ensures .0) ∙ c .before .before .before .d .given .1)
     ∙ ap sizeText (sym (size .n .given .1) ∙ call .read-size .ensures .0)) (c .put-circuit .ensures)
 
 returns-2 : tie.Need-returns-2
@@ -47,7 +49,9 @@ returns-2 c =
     let new = c .before .before .before .before .before in
     let size = new .before .before in
     let call = size .before .before in
-    put-within _ _ _ _ _ (sized-refused (size .n .given .0 .0) (size .n .given .0 .1 .0) (size .n .given .0 .1 .1 .0) _ (sym (new .new .ensures .0) ∙ c .before .before .before .refusal .given .1)
+    let numbers = size .n .given .0 in
+    put-within _ _ _ _ _ (sized-refused (numbers .0) (numbers .1 .0) (numbers .1 .1 .0) (numbers .1 .1 .1 .0) _
+    (sym (new .new .ensures .0) ∙ c .before .before .before .refusal .given .1)
     ∙ ap sizeText (sym (size .n .given .1) ∙ call .read-size .ensures .0)) (c .put-refusal .ensures)
 
 returns-3 : tie.Need-returns-3

@@ -76,7 +76,8 @@ loop-less c = search needs
 
 loop-again : tie.Need-loop-again Inv-loop μ-loop
 loop-again c =
-    let read = c .before .before .before .before .before .before in
+    let count = c .before in
+    let read = count .before .before .before .before .before in
     (search needs, search needs, search needs, kept _ _ _ _ _ (read .before .before .before .loop .inv))
 
 same-length-3 : tie.Need-same-length-3 Inv-loop μ-loop

@@ -12,10 +12,10 @@ reply-requires : tie.Need-reply-requires
 reply-requires c κs = search needs
 
 array-share-prefix-bytes : tie.Need-array-share-prefix-bytes
-array-share-prefix-bytes c = text-within _ (replyText _ _ _) (c .before .reply .ensures)
+array-share-prefix-bytes c = text-within _ (replyText _ _ _ _) (c .before .reply .ensures)
 
 slice-aggregate-write-all : tie.Need-slice-aggregate-write-all
-slice-aggregate-write-all c = simp length-take (omega (arith, text-within _ (replyText _ _ _) (c .before .before .reply .ensures)))
+slice-aggregate-write-all c = simp length-take (omega (arith, text-within _ (replyText _ _ _ _) (c .before .before .reply .ensures)))
 
 write-all-requires : tie.Need-write-all-requires
 write-all-requires c κs = search needs

@@ -6,6 +6,10 @@ use borrow.Author.Needs.{needs}
 use Rattle.reply.proofs.answer.Statement.{statement}
 use Rattle.reply.proofs.answer.Tie as tie
 
+-- where the code starts, from the tables at hand
+abbrev start : tie.After-public → tie.Start
+start c = c .before .before .before
+
 enum-known-budget : tie.Need-enum-known-budget
 enum-known-budget c = search needs
 
@@ -18,16 +22,21 @@ slice-aggregate-solve c = search needs
 slice-aggregate-solve-2 : tie.Need-slice-aggregate-solve-2
 slice-aggregate-solve-2 c = search needs
 
+slice-aggregate-solve-3 : tie.Need-slice-aggregate-solve-3
+slice-aggregate-solve-3 c = search needs
+
 solve-requires : tie.Need-solve-requires
 solve-requires c κs = search needs
 
 returns : tie.Need-returns
-returns c = sym (ap (answered (c .before .before .before .before .before .args .pair)) (c .before .budget .given .1))
+returns c =
+    let refused = c .before in
+    sym (ap (answered (start (refused .before .before) .args .tables)) (refused .budget .given .1))
 
 returns-2 : tie.Need-returns-2
 returns-2 c =
-    c .solve .ensures .0
-    ∙ sym (ap (answered (c .before .before .before .before .before .before .before .before .args .pair)) (c .before .before .before .before .budget2 .given .1))
+    let taken = c .before .before .before .before .before in
+    c .solve .ensures .0 ∙ sym (ap (answered (start (taken .before .before) .args .tables)) (taken .budget2 .given .1))
 
 pub answer-spec : {M : Type 1} → statement M
 answer-spec =
@@ -37,6 +46,7 @@ answer-spec =
     enum-known-budget-2
     slice-aggregate-solve
     slice-aggregate-solve-2
+    slice-aggregate-solve-3
     solve-requires
     returns
     returns-2)

@@ -1,4 +1,4 @@
--- `judge` meets its contract: each case of the pair's outcome is the definition's.
+-- `judge` meets its contract: each case of the texts' outcome is the definition's.
 -- Assumes nothing.
 use mathlib.Core.Path.{sym, ap, _∙_}
 use Rattle.refusals.specs.Checks.{given}
@@ -25,13 +25,13 @@ answer-requires c κs = search needs
 returns : tie.Need-returns
 returns c =
     let start = c .before .before .before .before .args in
-    sym (ap (λ (o : Outcome). given o (answered (start .pair) (budgetOf (start .line .now))) Refused) (c .before .outcome .given .1))
+    sym (ap (λ (o : Outcome). given o (answered (start .tables) (budgetOf (start .line .now))) Refused) (c .before .outcome .given .1))
 
 returns-2 : tie.Need-returns-2
 returns-2 c =
     let start = c .before .before .before .before .before .args in
-    c .answer .ensures ∙ ap (answered (start .pair)) (c .before .read-budget .ensures .0)
-    ∙ sym (ap (λ (o : Outcome). given o (answered (start .pair) (budgetOf (start .line .now))) Refused) (c .before .before .enum-told .given .1))
+    c .answer .ensures ∙ ap (answered (start .tables)) (c .before .read-budget .ensures .0)
+    ∙ sym (ap (λ (o : Outcome). given o (answered (start .tables) (budgetOf (start .line .now))) Refused) (c .before .before .enum-told .given .1))
 
 pub judge-spec : {M : Type 1} → statement M
 judge-spec =
