@@ -1,4 +1,4 @@
--- Demand 3 of two texts that were read: their tables are accepted, so it holds of them, and a host that repeats the circuit over them to the end sees the very
+-- Demand 3 of three texts that were read: their tables are accepted, so it holds of them, and a host that repeats the circuit over them to the end sees the very
 -- bytes that the pair program prints for the texts and a budget. From what the reply's proofs say of texts that were read, and from what follows from the demand.
 -- Assumes nothing.
 use mathlib.Core.Path.{_≡_, refl, sym, ap, _∙_}
@@ -7,32 +7,33 @@ use Prim.Native.Nat.{ℕ, _≤_, min}
 use native.Mathlib.Omega.{arith}
 use Rattle.refusals.specs.declared.Outcome.the-variants.{Taken}
 use Rattle.dimensions.specs.declared.Dimensions.{Dimensions}
-use Rattle.tables.specs.Tables.{Tables, allTables}
-use Rattle.dimacs.specs.declared.Pair.{Pair}
-use Rattle.dimacs.proofs.Accepted.{accepted-pair}
+use Rattle.tables.specs.Tables.{Tables}
+use Rattle.dimacs.specs.declared.TextTables.{TextTables}
+use Rattle.dimacs.specs.ThreeTexts.{textTables}
+use Rattle.dimacs.proofs.Accepted.{accepted-texts}
 use Rattle.lines.specs.Numbers.{budgetOf}
 use Rattle.lines.specs.declared.Budget.the-variants as budget
 use Rattle.answers.specs.Printed.{answerText, solvedText}
-use Rattle.reply.specs.Reply.{dimensionsOf, replyText}
-use Rattle.reply.proofs.Accepted.{readOf, n-high, tables-taken, reply-answers}
+use Rattle.reply.specs.Reply.{dimensionsOf, tablesIn, replyText}
+use Rattle.reply.proofs.Accepted.{n-high, tables-taken, reply-answers}
 use Rattle.repeats.specs.Repeats.{Attempt, longOnes}
 use Rattle.repeats.specs.Demand3.{historyOf, answerFor, Follows, seen, AllAccepts}
 use Rattle.repeats.proofs.Demand3.{demand3}
 use Rattle.repeats.proofs.Consequences.{answer-is}
 
-module _ (left right : List ℕ) (taken : readOf left right .outcome ≡ Taken) where
-  abbrev pub read : Pair
-  read = readOf left right
+module _ (left right public : List ℕ) (taken : textTables left right public .outcome ≡ Taken) where
+  abbrev pub read : TextTables
+  read = textTables left right public
 
   abbrev pub sizes : Dimensions
   sizes = dimensionsOf read
 
   -- the tables that were read, at every repeat
   abbrev pub tables : ℕ → Tables
-  tables = λ i. allTables (read .left) (read .right)
+  tables = λ i. tablesIn read
 
   pub read-accepted : AllAccepts sizes tables
-  read-accepted i = tables-taken read (accepted-pair left right read refl taken)
+  read-accepted i = tables-taken read (accepted-texts left right public taken)
 
   -- after every repeat, the plain run over the rows that were read
   pub reply-history : (budget : ℕ) (attempts : List Attempt) → Follows sizes tables budget (historyOf sizes tables budget attempts)
@@ -40,10 +41,10 @@ module _ (left right : List ℕ) (taken : readOf left right .outcome ≡ Taken) 
 
   -- at the end the composed answer is the pair program's
   pub reply-demand3 : (line : List ℕ) (steps : ℕ) → budgetOf line ≡ budget.Of steps → (attempts : List Attempt)
-      → answerFor sizes tables steps .count ≤ longOnes sizes attempts → seen sizes tables steps attempts .3 ≡ replyText left right line
+      → answerFor sizes tables steps .count ≤ longOnes sizes attempts → seen sizes tables steps attempts .3 ≡ replyText left right public line
   unfolding replyText
   reply-demand3 line steps e attempts long =
-      let low : min (read .n) 32 ≡ read .n = omega (arith, n-high left right) in
+      let low : min (read .n) 32 ≡ read .n = omega (arith, n-high left right public) in
       ap (answerText (min (read .n) 32)) (answer-is sizes (demand3 sizes) tables read-accepted steps attempts (answerFor sizes tables steps) refl long)
       ∙ ap (λ (k : ℕ). answerText k (answerFor sizes tables steps)) low
-      ∙ sym (ap (solvedText (read .n)) (reply-answers left right line steps taken e))
+      ∙ sym (ap (solvedText (read .n)) (reply-answers left right public line steps taken e))

@@ -132,7 +132,8 @@ module _ (d : Dimensions) (tables : Tables) (acc : Accepts d tables) (run : Run)
           let short : length (take handed outputs) < stateWires (d .n) = omega (arith, length-take handed outputs) in
           by-reading handed
           ∙ ap (λ (x : Read). given (x .outcome) (record { outcome = Taken; run = x .run; mark = eqb (getD outputs (stateWires (d .n)) 0) 1 }) (turnedBack run))
-          (sym (no-room (d .n) (take handed outputs) (rw (le-ltb (d .n) 1 (held .allowed .n-least), le-ltb 32 (d .n) (held .allowed .n-most))) short))
+          (let z = held .allowed .size in
+          sym (no-room (d .n) (take handed outputs) (rw (le-ltb (d .n) 1 (z .n-least), le-ltb 32 (d .n) (z .n-most))) short))
 
       -- enough are
       pub next-is : (handed : ℕ) → stateWires (d .n) ≤ handed
@@ -141,8 +142,9 @@ module _ (d : Dimensions) (tables : Tables) (acc : Accepts d tables) (run : Run)
       next-is handed h =
           let whole : bytesOf (stateBits (d .n) next) ≡ take (stateWires (d .n)) (take handed outputs) =
           sym (take-take (stateWires (d .n)) handed outputs h ∙ take-at (bytesOf (stateBits (d .n) next)) _ (stateWires (d .n)) front-length) in
+          let z = held .allowed .size in
           let r =
-          read-front (d .n) next (take handed outputs) (step-well-formed (d .n) (rowsOf d tables) (stateOf run) formed) (held .allowed .n-least) (held .allowed .n-most) whole in
+          read-front (d .n) next (take handed outputs) (step-well-formed (d .n) (rowsOf d tables) (stateOf run) formed) (z .n-least) (z .n-most) whole in
           let m : eqb (getD outputs (stateWires (d .n)) 0) 1 ≡ closed next =
           ap (λ (x : ℕ). eqb x 1) (getD-at (bytesOf (stateBits (d .n) next)) (digit (closed next)) [] 0 (stateWires (d .n)) front-length) ∙ digit-bit (closed next) in
           by-reading handed
@@ -160,7 +162,7 @@ module _ (d : Dimensions) (tables : Tables) (acc : Accepts d tables) (s : State)
 
   pub fine : outcome (stateChecks d run) ≡ Taken
   unfolding runOf
-  fine = let k = accepted d tables acc in sym (take-state d run (run-of-formed (d .n) s (k .n-least) (k .n-most) formed) refl)
+  fine = let k = accepted d tables acc in sym (take-state d run (run-of-formed (d .n) s (k .size .n-least) (k .size .n-most) formed) refl)
 
   module _ (again further : Run → List Repeat) where
     -- what comes of it, by whether the attempt is long enough

@@ -35,7 +35,7 @@ use Rattle.netlist.specs.Outputs.{closed, outputBits, outputsIn}
 use Rattle.bristol.specs.declared.Written.the-variants.{Past}
 use Rattle.bristol.specs.Writing.{lineAt, written, requested}
 use Rattle.repeats.specs.Repeats.{Attempt, Lent, Repeat, circuitWords, marks, lastRun, ended, longEnough, longOnes}
-use Rattle.repeats.specs.Demand3.{rowsIn, historyOf, answerFor, answerIn, textOf, seen, AllAccepts, Demand3}
+use Rattle.repeats.specs.Demand3.{rowsIn, historyOf, answerFor, answerIn, textOf, publicIn, Seen, seen, AllAccepts, SamePublic, Demand3}
 
 -- ---- steps, runs and attempts
 
@@ -77,12 +77,19 @@ module _ (d : Dimensions) where
   roomy-ones [] (suc k) = rw roomy-long (omega (arith, roomy-ones [] k))
   roomy-ones (a ∷ more) k = on (longEnough d a) (λ e. rw e (omega (arith, roomy-ones more k))) (λ e. rw e (roomy-ones more k))
 
+-- ---- public rows
+
+-- what is seen tells the public rows, so that without the premise of the same ones secrecy would not hold
+pub seen-public : (d : Dimensions) (tables tables′ : ℕ → Tables) (budget : ℕ) (attempts attempts′ : List Attempt)
+    → seen d tables budget attempts ≡ seen d tables′ budget attempts′ → SamePublic d tables tables′
+seen-public d tables tables′ budget attempts attempts′ e i = ap (λ (s : Seen). s .4 i) e
+
 -- ---- hosts
 
 module _ (d : Dimensions) where
   -- what a host sees that asks the writer for k lines, with lent bytes for each
-  abbrev pub hosted : (ℕ → Tables) → ℕ → List Attempt → (ℕ → List ℕ) → ℕ → List ℕ × ℕ × List Bool × List ℕ
-  hosted tables budget attempts lent k = let s = seen d tables budget attempts in (requested d (circuitWords d) lent 0 k, s .1, s .2, s .3)
+  abbrev pub hosted : (ℕ → Tables) → ℕ → List Attempt → (ℕ → List ℕ) → ℕ → Seen
+  hosted tables budget attempts lent k = let s = seen d tables budget attempts in (requested d (circuitWords d) lent 0 k, s .1, s .2, s .3, s .4)
 
   -- room for each line
   abbrev pub Room : (ℕ → List ℕ) → Type 0
@@ -150,10 +157,10 @@ module _ (d : Dimensions) (x : Demand3 d) where
           ext-getD false (marks whole) l k
           (λ i b. mark-after i (omega (arith, length-map whole (λ (r : Repeat). r .mark))) ∙ h i (omega (arith, k)))
 
-      pub seen-is : (l : List Bool) → marks whole ≡ l → seen d tables budget attempts ≡ (textOf d, a .count, l, answerText (min (d .n) 32) a)
+      pub seen-is : (l : List Bool) → marks whole ≡ l → seen d tables budget attempts ≡ (textOf d, a .count, l, answerText (min (d .n) 32) a, publicIn d tables)
       seen-is l e =
-          ap₂ (λ (k : ℕ) (y : Answer). (textOf d, k, marks whole, answerText (min (d .n) 32) y)) number-is answer-is
-          ∙ ap (λ (m : List Bool). (textOf d, a .count, m, answerText (min (d .n) 32) a)) e
+          ap₂ (λ (k : ℕ) (y : Answer). (textOf d, k, marks whole, answerText (min (d .n) 32) y, publicIn d tables)) number-is answer-is
+          ∙ ap (λ (m : List Bool). (textOf d, a .count, m, answerText (min (d .n) 32) a, publicIn d tables)) e
 
     -- a host can always go on to the end
     pub can-end : (k : ℕ) → answerFor d tables budget .count ≤ k → ended budget (historyOf d tables budget (attempts ++ replicate k (roomy d))) ≡ true
@@ -163,22 +170,23 @@ module _ (d : Dimensions) (x : Demand3 d) where
 
   -- ---- two hosts
 
-  module _ (sizes : outcome (sizeChecks (d .n) (d .left) (d .right)) ≡ Taken) where
+  module _ (sizes : outcome (sizeChecks d) ≡ Taken) where
     -- it sees the circuit's text, whatever it lends, and is told that there is no more line
     pub host-sees : (tables : ℕ → Tables) (budget : ℕ) (attempts : List Attempt) (lent : ℕ → List ℕ) → Room d lent → (k : ℕ) → 4 + length (gatesOn d) ≤ k
         → (hosted d tables budget attempts lent k ≡ seen d tables budget attempts) × (written d (circuitWords d) k (lent k) ≡ Past)
     host-sees tables budget attempts lent room k h =
         let s = seen d tables budget attempts in
         let t = x .text sizes lent room k h in
-        (ap (λ (l : List ℕ). (l, s .1, s .2, s .3)) (t .0), t .1)
+        (ap (λ (l : List ℕ). (l, s .1, s .2, s .3, s .4)) (t .0), t .1)
 
-    -- hosts of two pairs of tables with one answer see the same
-    pub hosts-agree : (tables tables′ : ℕ → Tables) → AllAccepts d tables → AllAccepts d tables′ → (budget : ℕ) (attempts attempts′ : List Attempt)
+    -- hosts of two pairs of tables with the same public rows and one answer see the same
+    pub hosts-agree : (tables tables′ : ℕ → Tables) → AllAccepts d tables → AllAccepts d tables′ → SamePublic d tables tables′
+        → (budget : ℕ) (attempts attempts′ : List Attempt)
         → (a : Answer) → answerFor d tables budget ≡ a → answerFor d tables′ budget ≡ a → a .count ≤ longOnes d attempts → a .count ≤ longOnes d attempts′
         → (lent lent′ : ℕ → List ℕ) → Room d lent → Room d lent′ → (k k′ : ℕ) → 4 + length (gatesOn d) ≤ k → 4 + length (gatesOn d) ≤ k′
         → hosted d tables budget attempts lent k ≡ hosted d tables′ budget attempts′ lent′ k′
-    hosts-agree tables tables′ acc acc′ budget attempts attempts′ a is is′ long long′ lent lent′ room room′ k k′ h h′ =
+    hosts-agree tables tables′ acc acc′ same budget attempts attempts′ a is is′ long long′ lent lent′ room room′ k k′ h h′ =
         host-sees tables budget attempts lent room k h .0
-        ∙ x .secrecy tables tables′ acc acc′ budget attempts attempts′ (is ∙ sym is′)
+        ∙ x .secrecy tables tables′ acc acc′ same budget attempts attempts′ (is ∙ sym is′)
         (reached tables acc budget attempts a is long) (reached tables′ acc′ budget attempts′ a is′ long′)
         ∙ sym (host-sees tables′ budget attempts′ lent′ room′ k′ h′ .0)

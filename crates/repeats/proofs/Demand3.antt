@@ -1,6 +1,6 @@
 -- Demand 3: the repeats are a number of giant steps with their marks, which `Histories` gives as one equation; each part is read off it.
 -- Assumes nothing.
-use mathlib.Core.Path.{_≡_, refl, sym, ap, ap₂, _∙_}
+use mathlib.Core.Path.{_≡_, refl, sym, ap, ap₂, _∙_, fun-ext}
 use mathlib.Core.Bool.{Bool, true, false, not, cond, true≢false, or-true}
 use mathlib.Core.List.{List, [], _∷_}
 use Prim.Native.Nat.{ℕ, zero, suc, min, _≤_, _<_}
@@ -41,7 +41,7 @@ use Rattle.answers.specs.Printed.{answerText}
 use Rattle.bristol.specs.Writing.{circuitChecks}
 use Rattle.bristol.proofs.Joining.{requests-join, requests-end}
 use Rattle.repeats.specs.Repeats.{Attempt, Repeat, circuitWords, marks, lastRun, ended, longOnes}
-use Rattle.repeats.specs.Demand3.{rowsIn, AllAccepts, historyOf, Follows, answerFor, answerIn, textOf, seen, Demand3}
+use Rattle.repeats.specs.Demand3.{rowsIn, AllAccepts, SamePublic, historyOf, Follows, answerFor, answerIn, textOf, publicIn, Seen, seen, Demand3}
 use Rattle.repeats.proofs.Applying.{words-third, words-accepted}
 use Rattle.repeats.proofs.Histories.{closed-open, open-closed, repeated, repeated-length, repeated-at, repeated-marks, repeated-last, number, repeats-are}
 
@@ -69,6 +69,10 @@ known-closed Refuted t = refl
 
 abbrev markBy : Answer → ℕ → Bool
 markBy a i = cond (ltb (suc i) (a .count)) false (known (a .verdict))
+
+-- what is seen, by the answer and the public rows
+abbrev seenBy : Dimensions → Answer → (ℕ → List Row) → Seen
+seenBy d a public = (textOf d, a .count, upto (markBy a) (a .count), answerText (min (d .n) 32) a, public)
 
 module _ (d : Dimensions) (tables : ℕ → Tables) (acc : AllAccepts d tables) (budget : ℕ) where
   abbrev rows : ℕ → List Row
@@ -169,31 +173,29 @@ module _ (d : Dimensions) (tables : ℕ → Tables) (acc : AllAccepts d tables) 
         (λ q. early i (ltb-true _ _ q) ∙ rw q)
         (λ q. last-mark i (omega (arith, ltb-false (suc i) (final .steps) q)) ∙ known-closed (final .final .standing) (final .final .t) ∙ rw q))
 
-    -- what is seen goes by the answer alone
-    shown : ended budget whole ≡ true → let a = answerFor d tables budget in
-        seen d tables budget attempts ≡ (textOf d, a .count, upto (markBy a) (a .count), answerText (min (d .n) 32) a)
+    -- what is seen goes by the answer and the public rows alone
+    shown : ended budget whole ≡ true → seen d tables budget attempts ≡ seenBy d (answerFor d tables budget) (publicIn d tables)
     shown e =
         let a = answerFor d tables budget in
-        ap (λ (j : ℕ). (textOf d, j, marks whole, answerText (min (d .n) 32) (answerIn (d .n) whole)))
+        ap (λ (j : ℕ). (textOf d, j, marks whole, answerText (min (d .n) 32) (answerIn (d .n) whole), publicIn d tables))
         (sym (length-map whole (λ (r : Repeat). r .mark)) ∙ ap (λ (x : Answer). x .count) (ends e))
-        ∙ ap₂ (λ (l : List Bool) (x : Answer). (textOf d, a .count, l, answerText (min (d .n) 32) x)) (marks-by e) (ends e)
+        ∙ ap₂ (λ (l : List Bool) (x : Answer). (textOf d, a .count, l, answerText (min (d .n) 32) x, publicIn d tables)) (marks-by e) (ends e)
 
-same-seen : (d : Dimensions) (tables tables′ : ℕ → Tables) → AllAccepts d tables → AllAccepts d tables′
-    → (budget : ℕ) (attempts attempts′ : List Attempt)
-    → answerFor d tables budget ≡ answerFor d tables′ budget
+same-seen : (d : Dimensions) (tables tables′ : ℕ → Tables) → AllAccepts d tables → AllAccepts d tables′ → SamePublic d tables tables′
+    → (budget : ℕ) (attempts attempts′ : List Attempt) → answerFor d tables budget ≡ answerFor d tables′ budget
     → ended budget (historyOf d tables budget attempts) ≡ true → ended budget (historyOf d tables′ budget attempts′) ≡ true
     → seen d tables budget attempts ≡ seen d tables′ budget attempts′
-same-seen d tables tables′ acc acc′ budget attempts attempts′ q e e′ =
+same-seen d tables tables′ acc acc′ same budget attempts attempts′ q e e′ =
     shown d tables acc budget attempts e
-    ∙ ap (λ (a : Answer). (textOf d, a .count, upto (markBy a) (a .count), answerText (min (d .n) 32) a)) q
+    ∙ ap₂ (seenBy d) q (fun-ext same)
     ∙ sym (shown d tables′ acc′ budget attempts′ e′)
 
 -- ---- the text
 
 -- the writer takes the circuit's words
-writer-takes : (d : Dimensions) → outcome (sizeChecks (d .n) (d .left) (d .right)) ≡ Taken → outcome (circuitChecks d (circuitWords d)) ≡ Taken
+writer-takes : (d : Dimensions) → outcome (sizeChecks d) ≡ Taken → outcome (circuitChecks d (circuitWords d)) ≡ Taken
 writer-takes d e =
-    outcome-taken (sizeChecks (d .n) (d .left) (d .right)) (check (not (accepted (inputWires d) (circuitWords d))) Gates ∷ []) e ∙ rw (words-accepted d)
+    outcome-taken (sizeChecks d) (check (not (accepted (inputWires d) (circuitWords d))) Gates ∷ []) e ∙ rw (words-accepted d)
 
 pub demand3 : (d : Dimensions) → Demand3 d
 unfolding circuitWords
@@ -205,5 +207,5 @@ demand3 d = record {
     requests-join d (circuitWords d) (writer-takes d e) lent room k (omega (arith, words-third d)),
     requests-end d (circuitWords d) (writer-takes d e) lent room k (omega (arith, words-third d)) .0,
   );
-  secrecy = λ tables tables′ acc acc′ budget attempts attempts′. same-seen d tables tables′ acc acc′ budget attempts attempts′;
+  secrecy = λ tables tables′ acc acc′ same budget attempts attempts′. same-seen d tables tables′ acc acc′ same budget attempts attempts′;
 }

@@ -1,5 +1,6 @@
 -- Demand 3 on small tables of two variables and a row each: the marks of a marked instance of document 01, two pairs of tables that are seen alike, and two that
--- differ in one mark. What the plain run does is computed, the rest is what follows from the demand's statement.
+-- differ in one mark; then two pairs with one public row that are seen alike, and a pair with another that is not. What the plain run does is computed, the rest
+-- is what follows from the demand's statement.
 -- Assumes nothing.
 use mathlib.Core.Path.{_≡_, refl, sym, ap, _∙_}
 use mathlib.Core.Bool.{Bool, true, false, true≢false}
@@ -10,6 +11,8 @@ use lib.ListN.{length, getD, replicate}
 use Rattle.refusals.specs.declared.Refusal.the-variants.{State}
 use Rattle.words.specs.Sets.{bit, put, any, count, lowest}
 use Rattle.dimensions.specs.declared.Dimensions.{Dimensions}
+use Rattle.dimensions.specs.Sizes.{dimensions}
+use Rattle.tables.specs.declared.Row.{Row}
 use Rattle.tables.specs.Tables.{Tables, allTables}
 use Rattle.tables.specs.Rows.{padding, satisfied, freeLiterals}
 use Rattle.tables.specs.Acceptance.{allBelow}
@@ -22,26 +25,26 @@ use Rattle.solver.specs.Entries.{answerOf}
 use Rattle.answers.specs.Printed.{answerText}
 use Rattle.netlist.specs.Netlist.{gatesOn}
 use Rattle.netlist.specs.Outputs.{closed}
-use Rattle.repeats.specs.Repeats.{Attempt, Lent, Otherwise, repeats, lastRun, longOnes}
-use Rattle.repeats.specs.Demand3.{rowsIn, answerFor, textOf, seen, AllAccepts, Demand3}
-use Rattle.repeats.proofs.Consequences.{roomy, roomy-ones, marks-are, reached, seen-is, Room, hosted, hosts-agree}
+use Rattle.repeats.specs.Repeats.{Attempt, Lent, Otherwise, repeats, lastRun, ended, longOnes}
+use Rattle.repeats.specs.Demand3.{rowsIn, historyOf, answerFor, textOf, Seen, seen, AllAccepts, Demand3}
+use Rattle.repeats.proofs.Consequences.{roomy, roomy-ones, marks-are, reached, seen-is, seen-public, Room, hosted, hosts-agree}
 
 abbrev small : Dimensions
-small = record { n = 2; left = 1; right = 1 }
+small = dimensions 2 1 1 0
 
--- the words of two rows, the same at every repeat
-abbrev rows : ℕ → ℕ → ℕ → ℕ → ℕ → Tables
-rows a b c e = λ i. allTables (a ∷ b ∷ []) (c ∷ e ∷ [])
+-- the words of two rows and of the public ones, the same at every repeat
+abbrev rows : ℕ → ℕ → ℕ → ℕ → List ℕ → ℕ → Tables
+rows a b c e public = λ i. allTables (a ∷ b ∷ []) (c ∷ e ∷ []) public
 
 -- (1 2) | (−1), as marked in document 01; (2) | (−1); (1 2) | padding
 abbrev marked : ℕ → Tables
-marked = rows 3 0 0 1
+marked = rows 3 0 0 1 []
 
 abbrev alike : ℕ → Tables
-alike = rows 2 0 0 1
+alike = rows 2 0 0 1 []
 
 abbrev unlike : ℕ → Tables
-unlike = rows 3 0 1 1
+unlike = rows 3 0 1 1 []
 
 abbrev answer : ℕ → Verdict → Answer
 answer steps verdict = record { count = steps; verdict = verdict }
@@ -94,28 +97,28 @@ unlike-closes (suc (suc i)) h = absurd (omega arith)
 -- ---- the repeats
 
 -- before the first attempt the printed answer is that of no repeat, and not the plain run's
-pub nothing-seen : seen small marked 9 [] ≡ (textOf small, 0, [], answerText 2 (answer 0 Unknown))
+pub nothing-seen : seen small marked 9 [] ≡ (textOf small, 0, [], answerText 2 (answer 0 Unknown), λ i. [])
 unfolding repeats lastRun runOf
 nothing-seen = refl
 
 module _ (x : Demand3 small) where
   -- three attempts that are long enough, whatever others there are
   pub marked-seen : (attempts : List Attempt) → 3 ≤ longOnes small attempts
-      → seen small marked 9 attempts ≡ (textOf small, 3, false ∷ false ∷ true ∷ [], answerText 2 (answer 3 (Satisfiable 2)))
+      → seen small marked 9 attempts ≡ (textOf small, 3, false ∷ false ∷ true ∷ [], answerText 2 (answer 3 (Satisfiable 2)), λ i. [])
   marked-seen attempts long =
       seen-is small x marked marked-accepted 9 attempts (answer 3 (Satisfiable 2)) marked-answer long (false ∷ false ∷ true ∷ [])
       (marks-are small x marked marked-accepted 9 attempts (answer 3 (Satisfiable 2)) marked-answer long (false ∷ false ∷ true ∷ []) refl marked-closes)
 
   -- so of three behind one with nothing lent and one that is refused for another cause
   pub turned-back-seen : seen small marked 9 (Lent [] [] 0 ∷ Otherwise State ∷ replicate 3 (roomy small))
-      ≡ (textOf small, 3, false ∷ false ∷ true ∷ [], answerText 2 (answer 3 (Satisfiable 2)))
+      ≡ (textOf small, 3, false ∷ false ∷ true ∷ [], answerText 2 (answer 3 (Satisfiable 2)), λ i. [])
   turned-back-seen = marked-seen _ (roomy-ones small (Lent [] [] 0 ∷ Otherwise State ∷ []) 3)
 
   module _ (attempts attempts′ : List Attempt) where
     -- tables with the same answer
     pub alike-seen : 3 ≤ longOnes small attempts → 3 ≤ longOnes small attempts′ → seen small marked 9 attempts ≡ seen small alike 9 attempts′
     alike-seen long long′ =
-        x .secrecy marked alike marked-accepted alike-accepted 9 attempts attempts′ (marked-answer ∙ sym alike-answer)
+        x .secrecy marked alike marked-accepted alike-accepted (λ i. refl) 9 attempts attempts′ (marked-answer ∙ sym alike-answer)
         (reached small x marked marked-accepted 9 attempts (answer 3 (Satisfiable 2)) marked-answer long)
         (reached small x alike alike-accepted 9 attempts′ (answer 3 (Satisfiable 2)) alike-answer long′)
 
@@ -124,16 +127,77 @@ module _ (x : Demand3 small) where
         → (k k′ : ℕ) → 4 + length (gatesOn small) ≤ k → 4 + length (gatesOn small) ≤ k′
         → hosted small marked 9 attempts lent k ≡ hosted small alike 9 attempts′ lent′ k′
     alike-hosted =
-        hosts-agree small x refl marked alike marked-accepted alike-accepted 9 attempts attempts′ (answer 3 (Satisfiable 2)) marked-answer alike-answer
+        hosts-agree small x refl marked alike marked-accepted alike-accepted (λ i. refl) 9 attempts attempts′
+        (answer 3 (Satisfiable 2)) marked-answer alike-answer
 
     -- under a budget of two, tables whose marks differ in the second
     pub unlike-seen : 2 ≤ longOnes small attempts → 2 ≤ longOnes small attempts′ → seen small marked 2 attempts ≡ seen small unlike 2 attempts′ → ⊥
     unlike-seen long long′ e =
         let l = marks-are small x marked marked-accepted 2 attempts (answer 2 Unknown) marked-cut long (false ∷ false ∷ []) refl (λ i h. marked-closes i (omega arith) ∙ cut i h) in
         let r = marks-are small x unlike unlike-accepted 2 attempts′ (answer 2 (Satisfiable 1)) unlike-answer long′ (false ∷ true ∷ []) refl unlike-closes in
-        true≢false (sym (ap (λ (m : List Bool). getD m 1 false) (sym l ∙ ap (λ (s : List ℕ × ℕ × List Bool × List ℕ). s .2) e ∙ r)))
+        true≢false (sym (ap (λ (m : List Bool). getD m 1 false) (sym l ∙ ap (λ (s : Seen). s .2) e ∙ r)))
       where
         cut : (i : ℕ) → i < 2 → getD (false ∷ false ∷ true ∷ []) i false ≡ getD (false ∷ false ∷ []) i false
         cut zero h = refl
         cut (suc zero) h = refl
         cut (suc (suc i)) h = absurd (omega arith)
+
+-- ---- a public row
+
+abbrev three : Dimensions
+three = dimensions 2 1 1 1
+
+-- (1 2) | (−1) and (2) | (−1), both with (−1 2); (1 2) | (−1) with (1 2)
+abbrev with-rule : ℕ → Tables
+with-rule = rows 3 0 0 1 (2 ∷ 1 ∷ [])
+
+abbrev rule-alike : ℕ → Tables
+rule-alike = rows 2 0 0 1 (2 ∷ 1 ∷ [])
+
+abbrev other-rule : ℕ → Tables
+other-rule = rows 3 0 0 1 (3 ∷ 0 ∷ [])
+
+with-accepted : AllAccepts three with-rule
+unfolding allBelow
+with-accepted i = refl
+
+rule-accepted : AllAccepts three rule-alike
+unfolding allBelow
+rule-accepted i = refl
+
+other-accepted : AllAccepts three other-rule
+unfolding allBelow
+other-accepted i = refl
+
+-- one answer of all three
+with-answer : answerFor three with-rule 9 ≡ answer 3 (Satisfiable 2)
+unfolding answerOf freeLiterals padding satisfied bit put any count lowest
+with-answer = refl
+
+rule-answer : answerFor three rule-alike 9 ≡ answer 3 (Satisfiable 2)
+unfolding answerOf freeLiterals padding satisfied bit put any count lowest
+rule-answer = refl
+
+other-answer : answerFor three other-rule 9 ≡ answer 3 (Satisfiable 2)
+unfolding answerOf freeLiterals padding satisfied bit put any count lowest
+other-answer = refl
+
+module _ (x : Demand3 three) (attempts attempts′ : List Attempt) (long : 3 ≤ longOnes three attempts) (long′ : 3 ≤ longOnes three attempts′) where
+  pub rule-seen : seen three with-rule 9 attempts ≡ seen three rule-alike 9 attempts′
+  rule-seen =
+      x .secrecy with-rule rule-alike with-accepted rule-accepted (λ i. refl) 9 attempts attempts′ (with-answer ∙ sym rule-answer)
+      (reached three x with-rule with-accepted 9 attempts (answer 3 (Satisfiable 2)) with-answer long)
+      (reached three x rule-alike rule-accepted 9 attempts′ (answer 3 (Satisfiable 2)) rule-answer long′)
+
+  -- a pair with another public row has all else that secrecy asks, and is not seen alike
+  pub other-seen : (answerFor three with-rule 9 ≡ answerFor three other-rule 9)
+      × (ended 9 (historyOf three with-rule 9 attempts) ≡ true) × (ended 9 (historyOf three other-rule 9 attempts′) ≡ true)
+      × (seen three with-rule 9 attempts ≡ seen three other-rule 9 attempts′ → ⊥)
+  other-seen = (
+    with-answer ∙ sym other-answer,
+    reached three x with-rule with-accepted 9 attempts (answer 3 (Satisfiable 2)) with-answer long,
+    reached three x other-rule other-accepted 9 attempts′ (answer 3 (Satisfiable 2)) other-answer long′,
+    λ e.
+        let same = seen-public three with-rule other-rule 9 attempts attempts′ e 0 in
+        omega (arith, ap (λ (l : List Row). getD l 0 (record { positive = 0; negative = 0 }) .positive) same),
+  )

@@ -39,7 +39,8 @@ use Rattle.repeats.specs.Application.{Applied, turnedBack, nextRun, inpu
 -- behind a state's wires there is room for the closing one: a row of each station has two wires at least
 pub outputs-fit : (d : Dimensions) (tables : Tables) → Accepted d tables → stateWires (d .n) + 4 ≤ inputWires d
 outputs-fit d tables a =
-    omega (arith, mul-le-mul {n₁ = 2} {m₁ = 2} {n₂ = 2 * d .n} {m₂ = rowCount d} (omega (arith, a .n-least)) (omega (arith, a .left-least, a .right-least)))
+    let z = a .size in
+    omega (arith, mul-le-mul {n₁ = 2} {m₁ = 2} {n₂ = 2 * d .n} {m₂ = rowCount d} (omega (arith, z .n-least)) (omega (arith, z .left-least, z .right-least)))
 
 module _ (d : Dimensions) (tables : Tables) (gates : List ℕ) (run : Run) (bytes wires : List ℕ) where
   -- ---- refused

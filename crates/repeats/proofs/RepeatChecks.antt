@@ -15,13 +15,13 @@ use Rattle.refusals.specs.declared.Outcome.{Outcome}
 use Rattle.refusals.specs.declared.Outcome.the-variants.{Taken, Refused}
 use Rattle.refusals.specs.declared.Refusal.{Refusal}
 use Rattle.refusals.specs.declared.Refusal.the-variants.{GateBuffer, Wires}
-use Rattle.refusals.proofs.Outcomes.{outcome-taken, outcome-refused, check-passed, checks-taken, refused-taken}
+use Rattle.refusals.proofs.Outcomes.{outcome-taken, outcome-refused, outcome-parts, check-passed, checks-taken}
 use Rattle.words.proofs.Truth.{or-l, or-r}
 use Rattle.dimensions.specs.declared.Dimensions.{Dimensions}
 use Rattle.dimensions.specs.Sizes.{sizeChecks, rowCount, ceiling, inputWires}
+use Rattle.dimensions.proofs.Limits.{within}
 use Rattle.tables.specs.Tables.{Tables}
-use Rattle.tables.specs.Acceptance.{tableChecks}
-use Rattle.tables.proofs.Accepted.{refuse-size}
+use Rattle.tables.specs.Acceptance.{wordChecks, tableChecks}
 use Rattle.state.specs.declared.Run.{Run}
 use Rattle.state.specs.WellFormed.{stateChecks}
 use Rattle.gates.specs.Memory.{wordsOf, over}
@@ -31,7 +31,6 @@ use Rattle.sections.specs.Addressing.{addressesOn}
 use Rattle.netlist.specs.Netlist.{gatesFor, gatesOn}
 use Rattle.netlist.proofs.Counts.{circuit-length}
 use Rattle.generator.specs.Generation.{generatorChecks, written}
-use Rattle.generator.proofs.Generating.{small}
 use Rattle.generator.proofs.Room.{wires-few}
 use Rattle.repeats.specs.declared.Repeated.{Repeated}
 use Rattle.repeats.specs.Repeats.{circuitWords}
@@ -43,16 +42,13 @@ unfolding gatesFor
 all-wires d = omega (arith, circuit-length (addressesOn d))
 
 -- dimensions that the tables' checks passed
-pub sizes-taken : (d : Dimensions) (tables : Tables) → outcome (tableChecks d tables) ≡ Taken → outcome (sizeChecks (d .n) (d .left) (d .right)) ≡ Taken
-sizes-taken d tables e = go (outcome (sizeChecks (d .n) (d .left) (d .right))) refl
-  where
-    go : (o : Outcome) → outcome (sizeChecks (d .n) (d .left) (d .right)) ≡ o → o ≡ Taken
-    go Taken q = refl
-    go (Refused r) q = absurd (refused-taken (refuse-size d tables r q ∙ e))
+pub sizes-taken : (d : Dimensions) (tables : Tables) → outcome (tableChecks d tables) ≡ Taken → outcome (sizeChecks d) ≡ Taken
+sizes-taken d tables e = outcome-parts (sizeChecks d) (wordChecks d tables) e .0
 
 -- their wires are few
-pub wires-small : (d : Dimensions) (tables : Tables) → outcome (tableChecks d tables) ≡ Taken → (a : Addresses) → a ≡ addressesOn d → (a .inputs ≤ a .wires) × (a .wires ≤ 262144)
-wires-small d tables e = let h = small (d .n) (d .left) (d .right) (sizes-taken d tables e) in wires-few (d .n) (rowCount d) (h .0) (h .1)
+pub wires-small : (d : Dimensions) (tables : Tables) → outcome (tableChecks d tables) ≡ Taken → (a : Addresses) → a ≡ addressesOn d
+    → (a .inputs ≤ a .wires) × (a .wires ≤ 286306)
+wires-small d tables e = let h = within d (sizes-taken d tables e) in wires-few (d .n) (rowCount d) (h .n-most) (h .rows-most)
 
 -- ---- what the checks say
 
@@ -93,22 +89,18 @@ pub record Passed (d : Dimensions) (tables : Tables) (gates bytes wires : ℕ) (
 
 pub passed : (d : Dimensions) (tables : Tables) (gates bytes wires : ℕ) (run : Run) → outcome (repeatChecks d tables gates bytes wires run) ≡ Taken
     → Passed d tables gates bytes wires run
-passed d tables gates bytes wires run e = go (outcome (tableChecks d tables)) refl
-  where
-    go : (o : Outcome) → outcome (tableChecks d tables) ≡ o → Passed d tables gates bytes wires run
-    go (Refused r) q = absurd (refused-taken (refuse-tables d tables gates bytes wires run r q ∙ e))
-    go Taken q =
-        let short = ltb gates (3 * ceiling d) in
-        let no-room = ltb bytes (inputWires d) || ltb wires (inputWires d + length (gatesOn d)) in
-        let k = sym (rest d tables gates bytes wires run q) ∙ e in
-        let s = checks-taken short GateBuffer _ k in
-        let r = check-passed no-room Wires _ s in record {
-          tables-taken = q;
-          words-enough = ltb-false gates (3 * ceiling d) (check-passed short GateBuffer _ k);
-          bytes-enough = ltb-false bytes (inputWires d) (or-l (ltb bytes (inputWires d)) _ r);
-          wires-enough = ltb-false wires (inputWires d + length (gatesOn d)) (or-r (ltb bytes (inputWires d)) _ r);
-          state-taken = checks-taken no-room Wires _ s;
-        }
+passed d tables gates bytes wires run e =
+    let parts = outcome-parts (tableChecks d tables) (later d tables gates bytes wires run) e in
+    let short = ltb gates (3 * ceiling d) in
+    let no-room = ltb bytes (inputWires d) || ltb wires (inputWires d + length (gatesOn d)) in
+    let s = checks-taken short GateBuffer _ (parts .1) in
+    let r = check-passed no-room Wires _ s in record {
+      tables-taken = parts .0;
+      words-enough = ltb-false gates (3 * ceiling d) (check-passed short GateBuffer _ (parts .1));
+      bytes-enough = ltb-false bytes (inputWires d) (or-l (ltb bytes (inputWires d)) _ r);
+      wires-enough = ltb-false wires (inputWires d + length (gatesOn d)) (or-r (ltb bytes (inputWires d)) _ r);
+      state-taken = checks-taken no-room Wires _ s;
+    }
 
 -- ---- the circuit's words
 
@@ -123,7 +115,7 @@ unfolding circuitWords
 words-generated d tables gates e h =
     let k = 3 * (addressesOn d .wires - addressesOn d .inputs) in
     let generates : outcome (generatorChecks d gates) ≡ Taken =
-    outcome-taken (sizeChecks (d .n) (d .left) (d .right)) (check (ltb (length gates) (3 * ceiling d)) GateBuffer ∷ []) (sizes-taken d tables e) ∙ rw (le-ltb (length gates) (3 * ceiling d) h) in
+    outcome-taken (sizeChecks d) (check (ltb (length gates) (3 * ceiling d)) GateBuffer ∷ []) (sizes-taken d tables e) ∙ rw (le-ltb (length gates) (3 * ceiling d) h) in
     ap (λ (o : Outcome). take k (given o (over (wordsOf (gatesOn d)) gates) (λ r. gates))) generates
     ∙ take-at (wordsOf (gatesOn d)) _ k (omega (arith, words-length (gatesOn d), all-wires d))
 

@@ -10,7 +10,7 @@ use Rattle.dimensions.specs.declared.Dimensions.{Dimensions}
 use Rattle.dimensions.specs.Sizes.{sizeChecks}
 use Rattle.tables.specs.declared.Row.{Row}
 use Rattle.tables.specs.Tables.{Tables}
-use Rattle.tables.specs.Rows.{rowsOf}
+use Rattle.tables.specs.Rows.{publicRows, rowsOf}
 use Rattle.tables.specs.Acceptance.{tableChecks}
 use Rattle.solver.specs.declared.Answer.{Answer}
 use Rattle.state.specs.State.{State, fresh, runOf}
@@ -61,10 +61,18 @@ answerIn n h = let last = lastRun (runOf n fresh) h in record { count = length (
 abbrev pub textOf : Dimensions → List ℕ
 textOf d = circuitText d (gatesOf (circuitWords d))
 
--- what is seen of the repeats over two tables: circuit text, number of repeats, marks and the printed answer that they give
-abbrev pub seen : Dimensions → (ℕ → Tables) → ℕ → List Attempt → List ℕ × ℕ × List Bool × List ℕ
+-- the public rows at each step
+abbrev pub publicIn : Dimensions → (ℕ → Tables) → ℕ → List Row
+publicIn d tables = λ i. publicRows d (tables i)
+
+-- circuit text, number of repeats, marks, printed answer, public rows at each step
+abbrev pub Seen : Type 0
+Seen = List ℕ × ℕ × List Bool × List ℕ × (ℕ → List Row)
+
+-- what is seen of the repeats, the answer being the one that they give; the public rows too, since everybody knows them
+abbrev pub seen : Dimensions → (ℕ → Tables) → ℕ → List Attempt → Seen
 seen d tables budget attempts =
-    let h = historyOf d tables budget attempts in (textOf d, length h, marks h, answerText (min (d .n) 32) (answerIn (d .n) h))
+    let h = historyOf d tables budget attempts in (textOf d, length h, marks h, answerText (min (d .n) 32) (answerIn (d .n) h), publicIn d tables)
 
 -- ---- the demand
 
@@ -75,6 +83,10 @@ Accepts d tables = outcome (tableChecks d tables) ≡ Taken
 -- at every step
 abbrev pub AllAccepts : Dimensions → (ℕ → Tables) → Type 0
 AllAccepts d tables = (i : ℕ) → Accepts d (tables i)
+
+-- the same public rows at every step
+abbrev pub SamePublic : Dimensions → (ℕ → Tables) → (ℕ → Tables) → Type 0
+SamePublic d tables tables′ = (i : ℕ) → publicRows d (tables i) ≡ publicRows d (tables′ i)
 
 -- demand 3, for circuits of these dimensions
 pub record Demand3 (d : Dimensions) : Type 0 where
@@ -88,11 +100,12 @@ pub record Demand3 (d : Dimensions) : Type 0 where
       → (ended budget (historyOf d tables budget attempts) ≡ true → answerIn (d .n) (historyOf d tables budget attempts) ≡ answerFor d tables budget)
       × (answerFor d tables budget .count ≤ longOnes d attempts → ended budget (historyOf d tables budget attempts) ≡ true)
   -- the writer, asked for line 0, 1, 2, … with room for each, puts lines that joined are the text, and says then that it has no more
-  pub text : outcome (sizeChecks (d .n) (d .left) (d .right)) ≡ Taken
+  pub text : outcome (sizeChecks d) ≡ Taken
       → (lent : ℕ → List ℕ) → ((i : ℕ) → length (lineAt d (circuitWords d) i) ≤ length (lent i)) → (k : ℕ) → 4 + length (gatesOn d) ≤ k
       → (requested d (circuitWords d) lent 0 k ≡ textOf d) × (written d (circuitWords d) k (lent k) ≡ Past)
-  -- two pairs of tables, wherever their replacements fell, under one budget that agree in verdict, model and count, each with attempts of its own
-  pub secrecy : (tables tables′ : ℕ → Tables) → AllAccepts d tables → AllAccepts d tables′ → (budget : ℕ) (attempts attempts′ : List Attempt)
-      → answerFor d tables budget ≡ answerFor d tables′ budget
+  -- two pairs of tables with the same public rows, wherever their replacements fell, under one budget that agree in verdict, model and count,
+  -- each with attempts of its own
+  pub secrecy : (tables tables′ : ℕ → Tables) → AllAccepts d tables → AllAccepts d tables′ → SamePublic d tables tables′
+      → (budget : ℕ) (attempts attempts′ : List Attempt) → answerFor d tables budget ≡ answerFor d tables′ budget
       → ended budget (historyOf d tables budget attempts) ≡ true → ended budget (historyOf d tables′ budget attempts′) ≡ true
       → seen d tables budget attempts ≡ seen d tables′ budget attempts′

@@ -1,4 +1,4 @@
--- The repeats of a circuit over two tables: document 01, "Circuit", second paragraph; each reads the rows as they stand when it begins (document 02, Req 06).
+-- The repeats of a circuit over three tables: document 01, "Circuit", second paragraph; each reads the rows as they stand when it begins (document 02, Req 06).
 use Prim.Native.Nat.{ℕ, zero, suc, _+_}
 use mathlib.Core.Bool.{Bool, false, _||_, _&&_, cond}
 use mathlib.Core.List.{List, [], _∷_, map}

@@ -37,14 +37,15 @@ fn check(
     d: Dimensions,
     left: &[u32],
     right: &[u32],
+    public: &[u32],
     gates: usize,
     bytes: usize,
     wires: usize,
     run: Run,
 ) -> Outcome
-    ensures { λ r. ⌜ r ≡ outcome (repeatChecks d (allTables (now (left .entry)) (now (right .entry))) gates bytes wires run) ⌝ }
+    ensures { λ r. ⌜ r ≡ outcome (repeatChecks d (allTables (now (left .entry)) (now (right .entry)) (now (public .entry))) gates bytes wires run) ⌝ }
 {
-    match tables::accept(d, left, right) {
+    match tables::accept(d, left, right, public) {
         Outcome::Taken => {}
         Outcome::Refused(refusal) => return Outcome::Refused(refusal),
     }
@@ -63,18 +64,19 @@ fn apply(
     d: Dimensions,
     left: &[u32],
     right: &[u32],
+    public: &[u32],
     gates: &[u32],
     bytes: &mut [u8],
     wires: &mut [u8],
     run: Run,
 ) -> Run
-    requires { ⌜ applied d (allTables (now left) (now right)) (now gates) run (now bytes) (now wires) (stateWires (d .n) + 1) .outcome ≡ Taken ⌝ }
-    ensures { λ r. ⌜ r ≡ applied d (allTables (now (left .entry)) (now (right .entry))) (now (gates .entry)) run (now (bytes .entry)) (now (wires .entry)) (stateWires (d .n) + 1) .run ⌝ }
-    ensures { λ _. ⌜ now (bytes .exit) ≡ packed d (allTables (now (left .entry)) (now (right .entry))) run (now (bytes .entry)) ⌝ }
-    ensures { λ _. ⌜ now (wires .exit) ≡ Application.wiresAfter d (allTables (now (left .entry)) (now (right .entry))) (now (gates .entry)) run (now (bytes .entry)) (now (wires .entry)) ⌝ }
+    requires { ⌜ applied d (allTables (now left) (now right) (now public)) (now gates) run (now bytes) (now wires) (stateWires (d .n) + 1) .outcome ≡ Taken ⌝ }
+    ensures { λ r. ⌜ r ≡ applied d (allTables (now (left .entry)) (now (right .entry)) (now (public .entry))) (now (gates .entry)) run (now (bytes .entry)) (now (wires .entry)) (stateWires (d .n) + 1) .run ⌝ }
+    ensures { λ _. ⌜ now (bytes .exit) ≡ packed d (allTables (now (left .entry)) (now (right .entry)) (now (public .entry))) run (now (bytes .entry)) ⌝ }
+    ensures { λ _. ⌜ now (wires .exit) ≡ Application.wiresAfter d (allTables (now (left .entry)) (now (right .entry)) (now (public .entry))) (now (gates .entry)) run (now (bytes .entry)) (now (wires .entry)) ⌝ }
 {
     let inputs = d.input_wires();
-    wires::pack(d, left, right, run, bytes);
+    wires::pack(d, left, right, public, run, bytes);
     evaluator::evaluate(gates, &bytes[..inputs], wires);
     let end = inputs + gates.len() / 3;
     let start = end - (d.state_wires() + 1);
@@ -99,6 +101,7 @@ fn repeat_circuit(
     d: Dimensions,
     left: &[u32],
     right: &[u32],
+    public: &[u32],
     times: u64,
     gates: &[u32],
     bytes: &mut [u8],
@@ -106,17 +109,17 @@ fn repeat_circuit(
     run: Run,
 ) -> Repeated
     requires { ⌜ now gates ≡ circuitWords d ⌝ }
-    requires { ⌜ outcome (tableChecks d (allTables (now left) (now right))) ≡ Taken ⌝ }
+    requires { ⌜ outcome (tableChecks d (allTables (now left) (now right) (now public))) ≡ Taken ⌝ }
     requires { ⌜ (inputWires d ≤ length (now bytes)) × (inputWires d + length (gatesOn d) ≤ length (now wires)) ⌝ }
     requires { ⌜ outcome (stateChecks d run) ≡ Taken ⌝ }
-    ensures { λ r. ⌜ r ≡ repeatedBy run (made d (allTables (now (left .entry)) (now (right .entry))) times (now (bytes .entry)) (now (wires .entry)) run) ⌝ }
-    ensures { λ _. ⌜ now (bytes .exit) ≡ bytesLeft d (allTables (now (left .entry)) (now (right .entry))) (now (bytes .entry)) run (made d (allTables (now (left .entry)) (now (right .entry))) times (now (bytes .entry)) (now (wires .entry)) run) ⌝ }
-    ensures { λ _. ⌜ now (wires .exit) ≡ wiresLeft d (allTables (now (left .entry)) (now (right .entry))) (now (bytes .entry)) (now (wires .entry)) run (made d (allTables (now (left .entry)) (now (right .entry))) times (now (bytes .entry)) (now (wires .entry)) run) ⌝ }
+    ensures { λ r. ⌜ r ≡ repeatedBy run (made d (allTables (now (left .entry)) (now (right .entry)) (now (public .entry))) times (now (bytes .entry)) (now (wires .entry)) run) ⌝ }
+    ensures { λ _. ⌜ now (bytes .exit) ≡ bytesLeft d (allTables (now (left .entry)) (now (right .entry)) (now (public .entry))) (now (bytes .entry)) run (made d (allTables (now (left .entry)) (now (right .entry)) (now (public .entry))) times (now (bytes .entry)) (now (wires .entry)) run) ⌝ }
+    ensures { λ _. ⌜ now (wires .exit) ≡ wiresLeft d (allTables (now (left .entry)) (now (right .entry)) (now (public .entry))) (now (bytes .entry)) (now (wires .entry)) run (made d (allTables (now (left .entry)) (now (right .entry)) (now (public .entry))) times (now (bytes .entry)) (now (wires .entry)) run) ⌝ }
 {
     let mut last = run;
     let mut repeats = 0;
     while verdicts::goes_on(last, repeats, times) {
-        last = apply(d, left, right, gates, bytes, wires, last);
+        last = apply(d, left, right, public, gates, bytes, wires, last);
         repeats += 1;
     }
     Repeated {
@@ -133,18 +136,20 @@ pub fn repeat(
     d: Dimensions,
     left: &[u32],
     right: &[u32],
+    public: &[u32],
     times: u64,
     gates: &mut [u32],
     bytes: &mut [u8],
     wires: &mut [u8],
     run: Run,
 ) -> Repeated
-    ensures { λ r. ⌜ r ≡ repeated d (allTables (now (left .entry)) (now (right .entry))) times (now (gates .entry)) (now (bytes .entry)) (now (wires .entry)) run ⌝ }
-    ensures { λ _. ⌜ now (gates .exit) ≡ gatesAfter d (allTables (now (left .entry)) (now (right .entry))) times (now (gates .entry)) (now (bytes .entry)) (now (wires .entry)) run ⌝ }
-    ensures { λ _. ⌜ now (bytes .exit) ≡ bytesAfter d (allTables (now (left .entry)) (now (right .entry))) times (now (gates .entry)) (now (bytes .entry)) (now (wires .entry)) run ⌝ }
-    ensures { λ _. ⌜ now (wires .exit) ≡ Repeating.wiresAfter d (allTables (now (left .entry)) (now (right .entry))) times (now (gates .entry)) (now (bytes .entry)) (now (wires .entry)) run ⌝ }
+    ensures { λ r. ⌜ r ≡ repeated d (allTables (now (left .entry)) (now (right .entry)) (now (public .entry))) times (now (gates .entry)) (now (bytes .entry)) (now (wires .entry)) run ⌝ }
+    ensures { λ _. ⌜ now (gates .exit) ≡ gatesAfter d (allTables (now (left .entry)) (now (right .entry)) (now (public .entry))) times (now (gates .entry)) (now (bytes .entry)) (now (wires .entry)) run ⌝ }
+    ensures { λ _. ⌜ now (bytes .exit) ≡ bytesAfter d (allTables (now (left .entry)) (now (right .entry)) (now (public .entry))) times (now (gates .entry)) (now (bytes .entry)) (now (wires .entry)) run ⌝ }
+    ensures { λ _. ⌜ now (wires .exit) ≡ Repeating.wiresAfter d (allTables (now (left .entry)) (now (right .entry)) (now (public .entry))) times (now (gates .entry)) (now (bytes .entry)) (now (wires .entry)) run ⌝ }
 {
-    match check(d, left, right, gates.len(), bytes.len(), wires.len(), run) {
+    let lent = gates.len();
+    match check(d, left, right, public, lent, bytes.len(), wires.len(), run) {
         Outcome::Taken => {}
         Outcome::Refused(refusal) => {
             return Repeated {
@@ -158,5 +163,6 @@ pub fn repeat(
     generator::generate(d, gates);
     let a = Addresses::of(d);
     let words = 3 * (a.wires - a.inputs) as usize;
-    repeat_circuit(d, left, right, times, &gates[..words], bytes, wires, run)
+    let circuit = &gates[..words];
+    repeat_circuit(d, left, right, public, times, circuit, bytes, wires, run)
 }

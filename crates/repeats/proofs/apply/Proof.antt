@@ -20,8 +20,11 @@ use Rattle.repeats.proofs.apply.Tie as tie
 
 -- ---- places
 
+abbrev entered : tie.After-shared-slice-known4 → tie.Start
+entered c = c .before .before .before .before
+
 abbrev start : tie.After-input-wires → tie.Start
-start c = c .before .before .before .before .before .before
+start c = entered (c .before .before .before)
 
 abbrev counted : tie.After-pack → tie.After-input-wires
 counted c = c .before .before
@@ -35,7 +38,7 @@ reading c = c .before .before .before
 -- ---- what is known there
 
 abbrev tables : tie.Start → Tables
-tables s = allTables (s .args .left .now) (s .args .right .now)
+tables s = allTables (s .args .left .now) (s .args .right .now) (s .args .public .now)
 
 -- the application is not turned back
 known : (s : tie.Start) → Taking (s .args .d) (tables s) (s .args .gates .now) (s .args .run) (s .args .bytes .now) (s .args .wires .now) (stateWires (s .args .d .n) + 1)
@@ -45,10 +48,13 @@ fit : (s : tie.Start) → stateWires (s .args .d .n) + 4 ≤ inputWires (s .args
 fit s = outputs-fit (s .args .d) (tables s) (known s .packs .allowed)
 
 -- the packed bytes have room for the inputs
-front : (c : tie.After-pack) → counted c .input-wires .result ≤ length (c .pack .last .1 .1 .1 .1 .0)
+abbrev packed : tie.After-pack → List ℕ
+packed c = c .pack .last .1 .1 .1 .1 .1 .0
+
+front : (c : tie.After-pack) → counted c .input-wires .result ≤ length (packed c)
 front c =
     let s = start (counted c) in
-    let l : length (c .pack .last .1 .1 .1 .1 .0) ≡ length (s .args .bytes .now) = c .pack .kept .1 .1 .1 .1 .0 in
+    let l : length (packed c) ≡ length (s .args .bytes .now) = c .pack .kept .1 .1 .1 .1 .1 .0 in
     omega (arith, known s .packs .enough, counted c .input-wires .ensures)
 
 input-wires-requires : tie.Need-input-wires-requires
@@ -70,7 +76,8 @@ add-end : tie.Need-add-end
 add-end c =
     let p = filling (c .before .before) in
     let s = start (counted p) in
-    omega (arith, known s .room, counted p .input-wires .ensures, s .good .1 .1 .1 .1 .1 .0 .1, s .good .1 .1 .1 .0 .1)
+    let lent = s .good .1 .1 .1 .1 in
+    omega (arith, known s .room, counted p .input-wires .ensures, lent .1 .1 .0 .1, lent .0 .1)
 
 state-wires-requires : tie.Need-state-wires-requires
 state-wires-requires c κs = search needs
@@ -79,7 +86,8 @@ add-start : tie.Need-add-start
 add-start c =
     let p = filling (reading c) in
     let s = start (counted p) in
-    omega (arith, fit s, known s .packs .enough, s .good .1 .1 .1 .1 .0 .1, c .state-wires .ensures)
+    let lent = s .good .1 .1 .1 .1 in
+    omega (arith, fit s, known s .packs .enough, lent .1 .0 .1, c .state-wires .ensures)
 
 sub-start : tie.Need-sub-start
 sub-start c =

@@ -10,6 +10,7 @@ use Rattle.refusals.specs.Checks.{outcome}
 use Rattle.refusals.specs.declared.Outcome.the-variants.{Taken}
 use Rattle.sections.specs.declared.Addresses.{Addresses}
 use Rattle.dimensions.specs.Sizes.{inputWires}
+use Rattle.dimensions.proofs.Limits.{within}
 use Rattle.tables.specs.Tables.{Tables, allTables}
 use Rattle.tables.specs.Acceptance.{tableChecks}
 use Rattle.netlist.specs.Netlist.{gatesOn}
@@ -21,8 +22,11 @@ use Rattle.repeats.proofs.check.Tie as tie
 
 -- ---- places
 
+abbrev calling : tie.After-accept → tie.Start
+calling c = c .before .before .before .before
+
 abbrev start : tie.After-enum-told → tie.Start
-start c = c .before .before .before .before .before
+start c = calling (c .before .before)
 
 abbrev accepting : tie.After-ceiling → tie.After-enum-told
 accepting c = c .before
@@ -33,7 +37,7 @@ measuring c = c .before .before .before .before
 -- ---- what is known there
 
 abbrev tables : tie.Start → Tables
-tables s = allTables (s .args .left .now) (s .args .right .now)
+tables s = allTables (s .args .left .now) (s .args .right .now) (s .args .public .now)
 
 taken : (c : tie.After-enum-told) → outcome (tableChecks (start c .args .d) (tables (start c))) ≡ Taken
 taken c = sym (c .before .before .accept .ensures) ∙ c .enum-told .given .1
@@ -58,8 +62,10 @@ enum-known-refusal c = search needs
 
 returns : tie.Need-returns
 returns c =
-    let s = c .before .before .before .before .before .before in
-    refuse-tables (s .args .d) (tables s) (s .args .gates) (s .args .bytes) (s .args .wires) (s .args .run) _ (sym (c .before .before .before .accept .ensures) ∙ c .before .refusal .given .1)
+    let a = c .before .before .before in
+    let s = calling a in
+    refuse-tables (s .args .d) (tables s) (s .args .gates) (s .args .bytes) (s .args .wires) (s .args .run) _
+    (sym (a .accept .ensures) ∙ c .before .refusal .given .1)
 
 ceiling-requires : tie.Need-ceiling-requires
 ceiling-requires c κs = search needs
@@ -67,7 +73,7 @@ ceiling-requires c κs = search needs
 mul-if1 : tie.Need-mul-if1
 mul-if1 c =
     let s = start (accepting c) in
-    omega (arith, c .ceiling .ensures, ceiling-small (s .args .d .n) (s .args .d .left) (s .args .d .right) (sizes-taken (s .args .d) (tables s) (taken (accepting c))))
+    omega (arith, c .ceiling .ensures, ceiling-small (s .args .d) (within (s .args .d) (sizes-taken (s .args .d) (tables s) (taken (accepting c)))))
 
 returns-2 : tie.Need-returns-2
 returns-2 c =

@@ -19,8 +19,11 @@ use Rattle.repeats.proofs.repeat.Tie as tie
 
 -- ---- places
 
+abbrev entered : tie.After-shared-slice-known3 → tie.Start
+entered c = c .before .before .before
+
 abbrev calling : tie.After-check → tie.Start
-calling c = c .before .before .before .before .before .before
+calling c = entered (c .before .before .before .before)
 
 abbrev start : tie.After-enum-told → tie.Start
 start c = calling (c .before .before)
@@ -34,7 +37,7 @@ generating c = c .before .before .before .before
 -- ---- what is known there
 
 abbrev tables : tie.Start → Tables
-tables s = allTables (s .args .left .now) (s .args .right .now)
+tables s = allTables (s .args .left .now) (s .args .right .now) (s .args .public .now)
 
 taken : (c : tie.After-enum-told) → let s = start c in
     outcome (repeatChecks (s .args .d) (tables s) (length (s .args .gates .now)) (length (s .args .bytes .now)) (length (s .args .wires .now)) (s .args .run)) ≡ Taken
@@ -51,7 +54,7 @@ counted : (c : tie.After-struct-known) → let a = c .before .of .result in
     3 * (a .wires - a .inputs) ≡ 3 * (addressesOn (start (checked (generating c)) .args .d) .wires - addressesOn (start (checked (generating c)) .args .d) .inputs)
 counted c = ap (λ (a : Addresses). 3 * (a .wires - a .inputs)) (c .before .of .ensures)
 
-few : (c : tie.After-struct-known) → let a = c .before .of .result in (a .inputs ≤ a .wires) × (a .wires ≤ 262144)
+few : (c : tie.After-struct-known) → let a = c .before .of .result in (a .inputs ≤ a .wires) × (a .wires ≤ 286306)
 few c =
     let s = start (checked (generating c)) in
     wires-small (s .args .d) (tables s) (known (checked (generating c)) .tables-taken) (c .before .of .result) (c .before .of .ensures)
@@ -94,11 +97,11 @@ cast-words c = omega (arith, few c)
 mul-words : tie.Need-mul-words
 mul-words c = omega (arith, few c)
 
-slice-reshare-prefix-repeat-circuit : tie.Need-slice-reshare-prefix-repeat-circuit
-slice-reshare-prefix-repeat-circuit c = fit c
+slice-reshare-prefix-circuit : tie.Need-slice-reshare-prefix-circuit
+slice-reshare-prefix-circuit c = fit c
 
-slice-aggregate-repeat-circuit : tie.Need-slice-aggregate-repeat-circuit
-slice-aggregate-repeat-circuit c = sym (length-take-le _ _ (fit (c .before)))
+slice-aggregate-circuit : tie.Need-slice-aggregate-circuit
+slice-aggregate-circuit c = sym (length-take-le _ _ (fit (c .before)))
 
 repeat-circuit-requires : tie.Need-repeat-circuit-requires
 repeat-circuit-requires c κs =
@@ -140,8 +143,8 @@ repeat-spec =
     sub-words
     cast-words
     mul-words
-    slice-reshare-prefix-repeat-circuit
-    slice-aggregate-repeat-circuit
+    slice-reshare-prefix-circuit
+    slice-aggregate-circuit
     repeat-circuit-requires
     same-length
     same-length-2

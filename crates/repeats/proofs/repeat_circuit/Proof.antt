@@ -17,18 +17,28 @@ use Rattle.repeats.proofs.repeat_circuit.Statement.{statement}
 use Rattle.repeats.proofs.repeat_circuit.Tie as tie
 
 abbrev Inv-loop : tie.InvT-loop
-Inv-loop d left right times gates bytes₀ wires₀ run repeats₀ bytes wires last repeats =
-    Repeating d (allTables left right) times bytes₀ wires₀ run bytes wires last repeats
+Inv-loop d left right public times gates bytes₀ wires₀ run repeats₀ bytes wires last repeats =
+    Repeating d (allTables left right public) times bytes₀ wires₀ run bytes wires last repeats
 
 abbrev μ-loop : tie.MeasureT-loop
-μ-loop d left right times gates bytes₀ wires₀ run repeats₀ bytes wires last repeats = times - repeats
+μ-loop d left right public times gates bytes₀ wires₀ run repeats₀ bytes wires last repeats = times - repeats
 
 -- the function's start
+abbrev entered : tie.After-shared-slice-known4 Inv-loop μ-loop → tie.Start Inv-loop μ-loop
+entered c = c .before .before .before .before
+
 abbrev start : tie.At-loop Inv-loop μ-loop → tie.Start Inv-loop μ-loop
-start c = c .before .before .before .before .before .before
+start c = entered (c .before .before .before)
 
 abbrev tables : tie.Start Inv-loop μ-loop → Tables
-tables s = allTables (s .args .left .now) (s .args .right .now)
+tables s = allTables (s .args .left .now) (s .args .right .now) (s .args .public .now)
+
+-- the application of a turn, and where the turn begins
+abbrev applying : tie.After-slice-known4 Inv-loop μ-loop → tie.After-apply Inv-loop μ-loop
+applying c = c .before .before .before .before
+
+abbrev turn : tie.After-slice-known4 Inv-loop μ-loop → tie.Then1 Inv-loop μ-loop
+turn c = applying c .before .before .before
 
 ready : (s : tie.Start Inv-loop μ-loop) → Ready (s .args .d) (tables s) (s .args .bytes .now) (s .args .wires .now)
 ready s = record { accepts = s .pre .1 .0; room = s .pre .1 .1 .0 .0; space = s .pre .1 .1 .0 .1 }
@@ -39,7 +49,7 @@ on c = sym (c .before .goes-on .ensures) ∙ c .if1 .taken
 
 loop-holds : tie.Need-loop-holds Inv-loop μ-loop
 loop-holds c =
-    let s = c .before .before .before .before .before in
+    let s = entered (c .before .before) in
     repeating-start (s .args .d) (tables s) (s .args .times) (s .args .bytes .now) (s .args .wires .now) (ready s) (s .args .run) (s .pre .1 .1 .1)
 
 goes-on-requires : tie.Need-goes-on-requires Inv-loop μ-loop
@@ -54,22 +64,22 @@ apply-requires c κs =
 
 add-repeats : tie.Need-add-repeats Inv-loop μ-loop
 add-repeats c =
-    let t = c .before .before .before .before .before .before .before in
+    let t = turn c in
     let l = t .before .before in
     let s = start l in
     omega (arith, repeating-less (s .args .d) (tables s) (s .args .times) (s .args .bytes .now) (s .args .wires .now) (ready s) (s .args .run) _ _ _ _ (l .loop .inv) (on t))
 
 loop-less : tie.Need-loop-less Inv-loop μ-loop
 loop-less c =
-    let t = c .before .before .before .before .before .before .before in
+    let t = turn c in
     let l = t .before .before in
     let s = start l in
     omega (arith, repeating-less (s .args .d) (tables s) (s .args .times) (s .args .bytes .now) (s .args .wires .now) (ready s) (s .args .run) _ _ _ _ (l .loop .inv) (on t))
 
 loop-again : tie.Need-loop-again Inv-loop μ-loop
 loop-again c =
-    let a = c .before .before .before .before in
-    let t = a .before .before .before in
+    let a = applying c in
+    let t = turn c in
     let l = t .before .before in
     let s = start l in
     let k = stateWires (s .args .d .n) + 1 in
