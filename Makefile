@@ -42,8 +42,8 @@ target/examples/host-rust: examples/host/host.rs target/lib/libforkhemit.a
 
 examples: target/examples/host-c target/examples/host-rust
 	cd examples/harbour && for host in $(notdir $^); do \
-	  echo "$$host left.cnf right.cnf $$(cat budget)"; \
-	  ../../target/examples/$$host left.cnf right.cnf $$(cat budget) | tee ../../target/examples/$$host.out && cmp ../../target/examples/$$host.out answer || exit 1; \
+	  echo "$$host left.cnf right.cnf public.cnf $$(cat budget)"; \
+	  ../../target/examples/$$host left.cnf right.cnf public.cnf $$(cat budget) | tee ../../target/examples/$$host.out && cmp ../../target/examples/$$host.out answer || exit 1; \
 	done
 
 bench: target/static/pair target/lib/libforkhemit.a

@@ -1,5 +1,5 @@
 /*
- * Forkhemit for hosts in C and C++: two stations' clause tables, the giant step, its circuit and the texts.
+ * Forkhemit for hosts in C and C++: two stations' clause tables and the public one, the giant step, its circuit and the texts.
  * Every function is proved to meet its contract, which stands in crates/host_runs, host_circuits and host_texts. `make lib` writes the
  * archive to link, target/lib/libforkhemit.a, for x86-64 Linux; it needs C's memcpy and memset and nothing else. docs/GUIDE.md has the
  * calls in the order in which a host makes them, examples/host a host in C and one in Rust.
@@ -11,13 +11,14 @@
  * - The function returns 0 where the call was taken, else one number of forkhemit_refusal_number. On a refusal nothing is written.
  * - A taken call fills an array of numbers whole (a text its front), and the front of a buffer with a length; the rest stays as it was.
  * - No function keeps a pointer, allocates memory or has a state of its own: calls in several threads over different buffers are safe.
- *   forkhemit_evaluate and forkhemit_repeat want about 210 KiB of the caller's stack.
+ *   forkhemit_evaluate and forkhemit_repeat want about 290 KiB of the caller's stack.
  *
  * How to read the comments: `sizes: ..` says what the buffer of that name holds after the call. The numbers at the end are the refusals
  * that the function may return, in the order in which they are judged.
  *
- * Tables: n variables, 1 to 32; each station has 1 to 128 rows. A row is two words, the variables that it holds positive and those that
- * it holds negative; bit i - 1 stands for variable i. A table of r rows is 2 * r words; words past them are not looked at.
+ * Tables: n variables, 1 to 32; each station has 1 to 128 rows. The public table, known to both stations, has 0 to 128 rows; it stands and
+ * is judged behind the right one, so there are at most 384 rows in all. A row is two words, the variables that it holds positive and those
+ * that it holds negative; bit i - 1 stands for variable i. A table of r rows is 2 * r words; words past them are not looked at.
  */
 #ifndef FORKHEMIT_H
 #define FORKHEMIT_H
@@ -29,16 +30,16 @@
 extern "C" {
 #endif
 
-/* Why a call was turned back. The lowest that applies is returned, except that 4 comes before 3; of two texts whatever refuses the left
- * one, then whatever refuses the right one. In a text, a header's 1 or 2 comes before 5, and an overlong text is 5 before all else. */
+/* Why a call was turned back. The lowest that applies is returned, except that 4 comes before 3; of three texts whatever refuses the left
+ * one, then the right one, then the public one. In a text, a header's 1 or 2 comes before 5, and an overlong text is 5 before all else. */
 enum forkhemit_refusal_number {
     FORKHEMIT_TAKEN = 0,            /* not turned back */
     FORKHEMIT_VARIABLES = 1,        /* n outside 1 to 32 */
-    FORKHEMIT_ROW_COUNT = 2,        /* a station's row count outside 1 to 128 */
+    FORKHEMIT_ROW_COUNT = 2,        /* a station's row count outside 1 to 128, or a public one above 128 */
     FORKHEMIT_ROW_BIT = 3,          /* a row bit at or above n */
     FORKHEMIT_ROW_BUFFER = 4,       /* a row buffer shorter than 2 * rows words */
     FORKHEMIT_TEXT = 5,             /* malformed or overlong DIMACS text */
-    FORKHEMIT_TEXTS_DIFFER = 6,     /* the two texts differ in n */
+    FORKHEMIT_TEXTS_DIFFER = 6,     /* two of the texts differ in n */
     FORKHEMIT_GATE_BUFFER = 7,      /* gate buffer below three words for each gate of the ceiling */
     FORKHEMIT_NUMBER_LINE = 8,      /* malformed budget line */
     FORKHEMIT_GATES = 9,            /* words that are no gates */
@@ -75,17 +76,20 @@ enum forkhemit_verdict {
 /* ---- tables */
 
 /* sizes: the gate ceiling, which no circuit of this size exceeds; the words that forkhemit_generate wants, three a gate of the ceiling;
- * input wires; state wires. 1, 2. */
-uint8_t forkhemit_sizes(uint64_t n, uint64_t left_rows, uint64_t right_rows, uint64_t sizes[4]);
+ * input wires; state wires. The largest, for n = 32 and 384 rows: 880704, 2642112, 27747, 3171. 1, 2. */
+uint8_t forkhemit_sizes(uint64_t n, uint64_t left_rows, uint64_t right_rows, uint64_t public_rows, uint64_t sizes[4]);
 
-/* Reads two DIMACS texts into tables. sizes: n, left rows, right rows. 512 words, 256 for each table, are enough for any texts.
- * The left text's 1, 2 or 5, then the right's, then 4 where a table has too few words for its rows, then 6. */
-uint8_t forkhemit_read_pair(const uint8_t *left_text, size_t left_text_length, const uint8_t *right_text, size_t right_text_length,
-                            uint32_t *left, size_t left_length, uint32_t *right, size_t right_length, uint64_t sizes[3]);
+/* Reads three DIMACS texts into tables. sizes: n, left rows, right rows, public rows; a public text may have none. 256 words for each
+ * table are enough for any texts. The left text's 1, 2 or 5, then the right's, then the public one's, then 4 where a table has too few
+ * words for its rows, then 6. */
+uint8_t forkhemit_read_tables(const uint8_t *left_text, size_t left_text_length, const uint8_t *right_text, size_t right_text_length,
+                              const uint8_t *public_text, size_t public_text_length, uint32_t *left, size_t left_length,
+                              uint32_t *right, size_t right_length, uint32_t *public_table, size_t public_length, uint64_t sizes[4]);
 
-/* Whether the two tables are accepted: 1, 2, 4, 3. */
-uint8_t forkhemit_accept(uint64_t n, uint64_t left_rows, uint64_t right_rows,
-                         const uint32_t *left, size_t left_length, const uint32_t *right, size_t right_length);
+/* Whether the three tables are accepted: 1, 2, 4, 3. */
+uint8_t forkhemit_accept(uint64_t n, uint64_t left_rows, uint64_t right_rows, uint64_t public_rows,
+                         const uint32_t *left, size_t left_length, const uint32_t *right, size_t right_length,
+                         const uint32_t *public_table, size_t public_length);
 
 /* ---- runs */
 
@@ -93,15 +97,15 @@ uint8_t forkhemit_accept(uint64_t n, uint64_t left_rows, uint64_t right_rows,
 uint8_t forkhemit_fresh(uint64_t n, uint32_t run[FORKHEMIT_RUN_WORDS]);
 
 /* run: after one giant step, in place. 1, 2, 4, 3, 12, 13. */
-uint8_t forkhemit_step(uint64_t n, uint64_t left_rows, uint64_t right_rows,
+uint8_t forkhemit_step(uint64_t n, uint64_t left_rows, uint64_t right_rows, uint64_t public_rows,
                        const uint32_t *left, size_t left_length, const uint32_t *right, size_t right_length,
-                       uint32_t run[FORKHEMIT_RUN_WORDS]);
+                       const uint32_t *public_table, size_t public_length, uint32_t run[FORKHEMIT_RUN_WORDS]);
 
 /* A fresh run until it closes or the budget of steps is spent; 2^(n+1) - 1 steps are always enough.
  * answer: steps taken, verdict (forkhemit_verdict), model as a word, 0 without one. 1, 2, 4, 3. */
-uint8_t forkhemit_solve(uint64_t n, uint64_t left_rows, uint64_t right_rows,
+uint8_t forkhemit_solve(uint64_t n, uint64_t left_rows, uint64_t right_rows, uint64_t public_rows,
                         const uint32_t *left, size_t left_length, const uint32_t *right, size_t right_length,
-                        uint64_t budget, uint64_t answer[3]);
+                        const uint32_t *public_table, size_t public_length, uint64_t budget, uint64_t answer[3]);
 
 /* model: the variables that a satisfied run makes true, as a word. 12, 14. */
 uint8_t forkhemit_model(const uint32_t run[FORKHEMIT_RUN_WORDS], uint64_t model[1]);
@@ -110,12 +114,14 @@ uint8_t forkhemit_model(const uint32_t run[FORKHEMIT_RUN_WORDS], uint64_t model[
 
 /* gates: the giant step's circuit, three words a gate: kind (0 XOR, 1 AND, 2 INV), first wire, second wire (0 for INV).
  * count: how many gates. forkhemit_evaluate and the line writers take 3 * count as gates_length, not the whole buffer's. 1, 2, 7. */
-uint8_t forkhemit_generate(uint64_t n, uint64_t left_rows, uint64_t right_rows,
+uint8_t forkhemit_generate(uint64_t n, uint64_t left_rows, uint64_t right_rows, uint64_t public_rows,
                            uint32_t *gates, size_t gates_length, uint64_t count[1]);
 
-/* bytes: left rows, right rows and run, a byte a wire: the circuit's inputs, as many as forkhemit_sizes says. 1, 2, 4, 3, 10, 12, 13. */
-uint8_t forkhemit_pack(uint64_t n, uint64_t left_rows, uint64_t right_rows,
+/* bytes: left rows, right rows, public rows and run, a byte a wire: the circuit's inputs, as many as forkhemit_sizes says.
+ * 1, 2, 4, 3, 10, 12, 13. */
+uint8_t forkhemit_pack(uint64_t n, uint64_t left_rows, uint64_t right_rows, uint64_t public_rows,
                        const uint32_t *left, size_t left_length, const uint32_t *right, size_t right_length,
+                       const uint32_t *public_table, size_t public_length,
                        const uint32_t run[FORKHEMIT_RUN_WORDS], uint8_t *bytes, size_t bytes_length);
 
 /* wires: the inputs, then each gate's value, a byte each. All of inputs are inputs, and wires has room for inputs and gates. 9, 10. */
@@ -130,22 +136,23 @@ uint8_t forkhemit_read_back(uint64_t n, const uint8_t *bytes, size_t bytes_lengt
  * there is a repeat. bytes, wires: inputs and all wires of the last repeat; as they were without one.
  * repeated: how many repeats were made, the last mark: 1 if the run is closed, else 0.
  * 1, 2, 4, 3, 7, 10 (bytes for the inputs, wires for inputs and gates), 12, 13. */
-uint8_t forkhemit_repeat(uint64_t n, uint64_t left_rows, uint64_t right_rows,
+uint8_t forkhemit_repeat(uint64_t n, uint64_t left_rows, uint64_t right_rows, uint64_t public_rows,
                          const uint32_t *left, size_t left_length, const uint32_t *right, size_t right_length,
-                         uint64_t times, uint32_t *gates, size_t gates_length, uint8_t *bytes, size_t bytes_length,
+                         const uint32_t *public_table, size_t public_length, uint64_t times,
+                         uint32_t *gates, size_t gates_length, uint8_t *bytes, size_t bytes_length,
                          uint8_t *wires, size_t wires_length, uint32_t run[FORKHEMIT_RUN_WORDS], uint64_t repeated[2]);
 
 /* ---- texts */
 
 /* bytes: the circuit text's line of a number, from 0, with its LF: four lines, then one a gate. length: its bytes; 0 past the last line.
  * 1, 2, 9, 11. */
-uint8_t forkhemit_write_line(uint64_t n, uint64_t left_rows, uint64_t right_rows,
+uint8_t forkhemit_write_line(uint64_t n, uint64_t left_rows, uint64_t right_rows, uint64_t public_rows,
                              const uint32_t *gates, size_t gates_length, uint64_t line,
                              uint8_t *bytes, size_t bytes_length, uint64_t length[1]);
 
 /* bytes: as many whole lines as fit, from that line on. written: lines, then bytes; 0 and 0 past the last line.
  * 1, 2, 9, 11 where not even one line fits. */
-uint8_t forkhemit_write_lines(uint64_t n, uint64_t left_rows, uint64_t right_rows,
+uint8_t forkhemit_write_lines(uint64_t n, uint64_t left_rows, uint64_t right_rows, uint64_t public_rows,
                               const uint32_t *gates, size_t gates_length, uint64_t line,
                               uint8_t *bytes, size_t bytes_length, uint64_t written[2]);
 

@@ -1,7 +1,7 @@
 /*
- * A host in C. It reads two stations' texts, repeats the giant step's circuit from the fresh state until the closing mark or the
- * budget, and prints the answer as the pair program does. It then steps a plain run as often, solves at once, and compares.
- * Use: host-c LEFT RIGHT BUDGET. `make examples` builds it.
+ * A host in C. It reads two stations' texts and the public one, repeats the giant step's circuit from the fresh state until the closing
+ * mark or the budget, and prints the answer as the pair program does. It then steps a plain run as often, solves at once, and compares.
+ * Use: host-c LEFT RIGHT PUBLIC BUDGET. `make examples` builds it.
  */
 #include "forkhemit.h"
 #include <stdio.h>
@@ -51,25 +51,27 @@ static size_t read_text(const char *path, uint8_t *text)
 
 int main(int count, char **arguments)
 {
-    if (count != 4) {
-        fputs("use: host-c LEFT RIGHT BUDGET\n", stderr);
+    if (count != 5) {
+        fputs("use: host-c LEFT RIGHT PUBLIC BUDGET\n", stderr);
         return 1;
     }
     /* A host that is given the budget as a line would have forkhemit_read_budget judge it. */
-    uint64_t budget = strtoull(arguments[3], NULL, 10);
+    uint64_t budget = strtoull(arguments[4], NULL, 10);
 
     /* The texts become tables: two words a row, positive then negative. */
-    uint8_t *left_text = room(TEXT_LIMIT + 1, 1), *right_text = room(TEXT_LIMIT + 1, 1);
+    uint8_t *left_text = room(TEXT_LIMIT + 1, 1), *right_text = room(TEXT_LIMIT + 1, 1), *public_text = room(TEXT_LIMIT + 1, 1);
     size_t left_length = read_text(arguments[1], left_text), right_length = read_text(arguments[2], right_text);
-    uint32_t left[ROW_WORDS] = {0}, right[ROW_WORDS] = {0};
-    uint64_t d[3] = {0}; /* n, left rows, right rows */
-    uint8_t refusal = forkhemit_read_pair(left_text, left_length, right_text, right_length, left, ROW_WORDS, right, ROW_WORDS, d);
+    size_t public_length = read_text(arguments[3], public_text);
+    uint32_t left[ROW_WORDS] = {0}, right[ROW_WORDS] = {0}, public_table[ROW_WORDS] = {0};
+    uint64_t d[4] = {0}; /* n, left rows, right rows, public rows */
+    uint8_t refusal = forkhemit_read_tables(left_text, left_length, right_text, right_length, public_text, public_length,
+                                            left, ROW_WORDS, right, ROW_WORDS, public_table, ROW_WORDS, d);
     if (refusal != 0)
         return refused(refusal);
 
     /* Room for the circuit, for the packed inputs and for all wires: what n and the row counts alone tell. */
     uint64_t sizes[4] = {0}; /* gate ceiling, words for its gates, input wires, state wires */
-    refusal = forkhemit_sizes(d[0], d[1], d[2], sizes);
+    refusal = forkhemit_sizes(d[0], d[1], d[2], d[3], sizes);
     if (refusal != 0)
         return refused(refusal);
     size_t gate_words = sizes[1], inputs = sizes[2], wire_count = inputs + sizes[0];
@@ -83,14 +85,14 @@ int main(int count, char **arguments)
         return refused(refusal);
     memcpy(plain, run, sizeof run);
     uint64_t repeated[2] = {0}; /* repeats, last mark */
-    refusal = forkhemit_repeat(d[0], d[1], d[2], left, ROW_WORDS, right, ROW_WORDS, budget,
+    refusal = forkhemit_repeat(d[0], d[1], d[2], d[3], left, ROW_WORDS, right, ROW_WORDS, public_table, ROW_WORDS, budget,
                                gates, gate_words, bytes, inputs, wires, wire_count, run, repeated);
     if (refusal != 0)
         return refused(refusal);
 
     /* As many giant steps without a circuit end in the same state. */
     for (uint64_t step = 0; step < repeated[0]; step++) {
-        refusal = forkhemit_step(d[0], d[1], d[2], left, ROW_WORDS, right, ROW_WORDS, plain);
+        refusal = forkhemit_step(d[0], d[1], d[2], d[3], left, ROW_WORDS, right, ROW_WORDS, public_table, ROW_WORDS, plain);
         if (refusal != 0)
             return refused(refusal);
     }
@@ -107,7 +109,7 @@ int main(int count, char **arguments)
 
     /* The budgeted run gives the same. */
     uint64_t answer[3] = {0};
-    refusal = forkhemit_solve(d[0], d[1], d[2], left, ROW_WORDS, right, ROW_WORDS, budget, answer);
+    refusal = forkhemit_solve(d[0], d[1], d[2], d[3], left, ROW_WORDS, right, ROW_WORDS, public_table, ROW_WORDS, budget, answer);
     if (refusal != 0)
         return refused(refusal);
     if (answer[0] != repeated[0] || answer[1] != verdict || answer[2] != model[0])
@@ -123,6 +125,7 @@ int main(int count, char **arguments)
     free(wires);
     free(bytes);
     free(gates);
+    free(public_text);
     free(right_text);
     free(left_text);
     return 0;

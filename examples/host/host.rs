@@ -1,6 +1,6 @@
-//! A host in Rust. It reads two stations' texts, repeats the giant step's circuit from the fresh state until the closing mark or
-//! the budget, and prints the answer as the pair program does. It then steps a plain run as often, solves at once, and compares.
-//! Use: host-rust LEFT RIGHT BUDGET. `make examples` builds it.
+//! A host in Rust. It reads two stations' texts and the public one, repeats the giant step's circuit from the fresh state until the
+//! closing mark or the budget, and prints the answer as the pair program does. It then steps a plain run as often, solves at once, and
+//! compares. Use: host-rust LEFT RIGHT PUBLIC BUDGET. `make examples` builds it.
 
 use std::io::Write;
 
@@ -9,18 +9,21 @@ use std::io::Write;
 mod library {
     #[link(name = "forkhemit", kind = "static")]
     extern "C" {
-        pub fn forkhemit_sizes(n: u64, left_rows: u64, right_rows: u64, sizes: &mut [u64; 4]) -> u8;
-        pub fn forkhemit_read_pair(left_text: *const u8, left_text_length: usize, right_text: *const u8, right_text_length: usize,
-            left: *mut u32, left_length: usize, right: *mut u32, right_length: usize, sizes: &mut [u64; 3]) -> u8;
+        pub fn forkhemit_sizes(n: u64, left_rows: u64, right_rows: u64, public_rows: u64, sizes: &mut [u64; 4]) -> u8;
+        pub fn forkhemit_read_tables(left_text: *const u8, left_text_length: usize, right_text: *const u8, right_text_length: usize,
+            public_text: *const u8, public_text_length: usize, left: *mut u32, left_length: usize, right: *mut u32, right_length: usize,
+            public_table: *mut u32, public_length: usize, sizes: &mut [u64; 4]) -> u8;
         pub fn forkhemit_fresh(n: u64, run: &mut [u32; 101]) -> u8;
-        pub fn forkhemit_step(n: u64, left_rows: u64, right_rows: u64, left: *const u32, left_length: usize,
-            right: *const u32, right_length: usize, run: &mut [u32; 101]) -> u8;
-        pub fn forkhemit_solve(n: u64, left_rows: u64, right_rows: u64, left: *const u32, left_length: usize,
-            right: *const u32, right_length: usize, budget: u64, answer: &mut [u64; 3]) -> u8;
+        pub fn forkhemit_step(n: u64, left_rows: u64, right_rows: u64, public_rows: u64, left: *const u32, left_length: usize,
+            right: *const u32, right_length: usize, public_table: *const u32, public_length: usize, run: &mut [u32; 101]) -> u8;
+        pub fn forkhemit_solve(n: u64, left_rows: u64, right_rows: u64, public_rows: u64, left: *const u32, left_length: usize,
+            right: *const u32, right_length: usize, public_table: *const u32, public_length: usize,
+            budget: u64, answer: &mut [u64; 3]) -> u8;
         pub fn forkhemit_model(run: &[u32; 101], model: &mut [u64; 1]) -> u8;
-        pub fn forkhemit_repeat(n: u64, left_rows: u64, right_rows: u64, left: *const u32, left_length: usize,
-            right: *const u32, right_length: usize, times: u64, gates: *mut u32, gates_length: usize, bytes: *mut u8, bytes_length: usize,
-            wires: *mut u8, wires_length: usize, run: &mut [u32; 101], repeated: &mut [u64; 2]) -> u8;
+        pub fn forkhemit_repeat(n: u64, left_rows: u64, right_rows: u64, public_rows: u64, left: *const u32, left_length: usize,
+            right: *const u32, right_length: usize, public_table: *const u32, public_length: usize, times: u64,
+            gates: *mut u32, gates_length: usize, bytes: *mut u8, bytes_length: usize, wires: *mut u8, wires_length: usize,
+            run: &mut [u32; 101], repeated: &mut [u64; 2]) -> u8;
         pub fn forkhemit_answer(n: u64, count: u64, verdict: u64, model: u64, text: &mut [u8; 256], length: &mut [u64; 1]) -> u8;
     }
 }
@@ -41,22 +44,24 @@ fn taken(number: u8) -> Result<(), Fault> {
     (number == 0).then_some(()).ok_or(Fault::Refused(number))
 }
 
-/// Both stations' tables, two words a row, with n and the row counts. In each method the library reads and writes what
-/// it is lent here and nothing else, so the calls are safe.
+/// Both stations' tables and the public one, two words a row, with n and the row counts. In each method the library reads and
+/// writes what it is lent here and nothing else, so the calls are safe.
 struct Tables {
-    d: [u64; 3], // n, left rows, right rows
+    d: [u64; 4], // n, left rows, right rows, public rows
     left: [u32; 256],
     right: [u32; 256],
+    public: [u32; 256],
 }
 
 #[rustfmt::skip]
 impl Tables {
-    /// The tables of two texts.
-    fn read(left: &[u8], right: &[u8]) -> Result<Tables, Fault> {
-        let mut read = Tables { d: [0; 3], left: [0; 256], right: [0; 256] };
-        let (l, r, d) = (&mut read.left, &mut read.right, &mut read.d);
+    /// The tables of three texts.
+    fn read([left, right, public]: [&[u8]; 3]) -> Result<Tables, Fault> {
+        let mut read = Tables { d: [0; 4], left: [0; 256], right: [0; 256], public: [0; 256] };
+        let (l, r, p, d) = (&mut read.left, &mut read.right, &mut read.public, &mut read.d);
         taken(unsafe {
-            forkhemit_read_pair(left.as_ptr(), left.len(), right.as_ptr(), right.len(), l.as_mut_ptr(), 256, r.as_mut_ptr(), 256, d)
+            forkhemit_read_tables(left.as_ptr(), left.len(), right.as_ptr(), right.len(), public.as_ptr(), public.len(),
+                l.as_mut_ptr(), 256, r.as_mut_ptr(), 256, p.as_mut_ptr(), 256, d)
         })?;
         Ok(read)
     }
@@ -69,20 +74,20 @@ impl Tables {
 
     /// One giant step of the plain run.
     fn step(&self, run: &mut Run) -> Result<(), Fault> {
-        let ([n, l, r], left, right) = (self.d, &self.left, &self.right);
-        taken(unsafe { forkhemit_step(n, l, r, left.as_ptr(), 256, right.as_ptr(), 256, run) })
+        let ([n, l, r, p], left, right, public) = (self.d, &self.left, &self.right, &self.public);
+        taken(unsafe { forkhemit_step(n, l, r, p, left.as_ptr(), 256, right.as_ptr(), 256, public.as_ptr(), 256, run) })
     }
 
     /// The circuit repeated on the run: how many times it was, until the run was closed or the budget spent.
     fn repeat(&self, budget: u64, run: &mut Run) -> Result<u64, Fault> {
-        let ([n, l, r], left, right) = (self.d, &self.left, &self.right);
+        let ([n, l, r, p], left, right, public) = (self.d, &self.left, &self.right, &self.public);
         let mut sizes = [0; 4]; // gate ceiling, words for its gates, input wires, state wires
-        taken(unsafe { forkhemit_sizes(n, l, r, &mut sizes) })?;
+        taken(unsafe { forkhemit_sizes(n, l, r, p, &mut sizes) })?;
         let [ceiling, words, inputs, _] = sizes.map(|size| size as usize);
         let (mut gates, mut bytes, mut wires) = (vec![0; words], vec![0; inputs], vec![0; inputs + ceiling]);
         let mut repeated = [0; 2]; // repeats, last mark
         taken(unsafe {
-            forkhemit_repeat(n, l, r, left.as_ptr(), 256, right.as_ptr(), 256, budget, gates.as_mut_ptr(), words,
+            forkhemit_repeat(n, l, r, p, left.as_ptr(), 256, right.as_ptr(), 256, public.as_ptr(), 256, budget, gates.as_mut_ptr(), words,
                 bytes.as_mut_ptr(), bytes.len(), wires.as_mut_ptr(), wires.len(), run, &mut repeated)
         })?;
         Ok(repeated[0])
@@ -90,15 +95,15 @@ impl Tables {
 
     /// The budgeted run's count, verdict and model.
     fn solve(&self, budget: u64) -> Result<[u64; 3], Fault> {
-        let ([n, l, r], left, right, mut answer) = (self.d, &self.left, &self.right, [0; 3]);
-        taken(unsafe { forkhemit_solve(n, l, r, left.as_ptr(), 256, right.as_ptr(), 256, budget, &mut answer) })?;
+        let ([n, l, r, p], left, right, public, mut answer) = (self.d, &self.left, &self.right, &self.public, [0; 3]);
+        taken(unsafe { forkhemit_solve(n, l, r, p, left.as_ptr(), 256, right.as_ptr(), 256, public.as_ptr(), 256, budget, &mut answer) })?;
         Ok(answer)
     }
 }
 
 /// The printed answer: repeats of the circuit, as many plain steps beside them, and the budgeted run to compare with.
-fn answer_of(left: &[u8], right: &[u8], budget: u64) -> Result<Vec<u8>, Fault> {
-    let tables = Tables::read(left, right)?;
+fn answer_of(texts: [&[u8]; 3], budget: u64) -> Result<Vec<u8>, Fault> {
+    let tables = Tables::read(texts)?;
     let (mut run, mut plain) = (tables.fresh()?, tables.fresh()?);
     let repeats = tables.repeat(budget, &mut run)?;
     for _ in 0..repeats {
@@ -121,10 +126,12 @@ fn answer_of(left: &[u8], right: &[u8], budget: u64) -> Result<Vec<u8>, Fault> {
 
 fn main() {
     let arguments: Vec<String> = std::env::args().collect();
-    let budget = arguments.get(3).and_then(|budget| budget.parse().ok()).expect("use: host-rust LEFT RIGHT BUDGET");
+    let budget =
+        arguments.get(4).and_then(|budget| budget.parse().ok()).expect("use: host-rust LEFT RIGHT PUBLIC BUDGET");
     // a file that cannot be read counts as one byte more than a text may have, which the library refuses with 5
     let text = |path: &String| std::fs::read(path).unwrap_or_else(|_| vec![0; TEXT_LIMIT + 1]);
-    let printed = match answer_of(&text(&arguments[1]), &text(&arguments[2]), budget) {
+    let (left, right, public) = (text(&arguments[1]), text(&arguments[2]), text(&arguments[3]));
+    let printed = match answer_of([&left, &right, &public], budget) {
         Ok(text) => text,
         Err(Fault::Refused(number)) => format!("c refused {number}\ns UNKNOWN\n").into_bytes(),
         Err(Fault::Wrong(what)) => panic!("{what}"),

@@ -1,4 +1,4 @@
--- Dimensions and a verdict from numbers.
+-- The limits on n, and a verdict from numbers.
 use Prim.Native.Nat.{ℕ, _%_, _^_}
 use mathlib.Core.Bool.{cond}
 use mathlib.Core.List.{List, [], _∷_}
@@ -6,17 +6,12 @@ use lib.Dec.{eqb}
 use Rattle.refusals.specs.Checks.{Check, check}
 use Rattle.refusals.specs.declared.Refusal.the-variants.{Variables}
 use Rattle.dimensions.specs.Sizes.{mostVariables, outside}
-use Rattle.dimensions.specs.declared.Dimensions.{Dimensions}
 use Rattle.verdicts.specs.declared.Verdict.{Verdict}
 use Rattle.verdicts.specs.declared.Verdict.the-variants.{Satisfiable, Unsatisfiable, Unknown}
 
 -- 1: n outside 1 to 32
 abbrev pub variableChecks : ℕ → List Check
 variableChecks n = check (outside mostVariables n) Variables ∷ []
-
--- three numbers as dimensions, whatever they are: every entry judges them first
-abbrev pub dimensions : ℕ → ℕ → ℕ → Dimensions
-dimensions n left right = record { n = n; left = left; right = right }
 
 -- the verdict of a number: any other than 1 and 2 is unknown; a model has 32 variables
 abbrev pub verdictFrom : ℕ → ℕ → Verdict

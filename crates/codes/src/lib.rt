@@ -5,9 +5,9 @@ use refusals::Refusal;
 use verdicts::Verdict;
 ghost use mathlib.Core.Path.{_≡_};
 ghost use Prim.Native.Nat.{min};
-ghost use Rattle.codes.specs.Codes as Codes;
 ghost use Rattle.refusals.specs.Checks.{outcome};
 ghost use Rattle.refusals.specs.Numbers.{codeOf};
+ghost use Rattle.dimensions.specs.Sizes as Sizes;
 ghost use Rattle.verdicts.specs.Verdicts.{verdictNumber, modelWord};
 ghost use Rattle.codes.specs.Codes.{variableChecks, verdictFrom};
 
@@ -31,14 +31,15 @@ pub fn check_variables(n: u8) -> Outcome
     Outcome::Taken
 }
 
-// Three numbers as dimensions.
-pub fn dimensions(n: u64, left: u64, right: u64) -> Dimensions
-    ensures { λ r. ⌜ r ≡ Codes.dimensions (min n 255) (min left 255) (min right 255) ⌝ }
+// Four numbers as dimensions, whatever they are: every entry judges them first.
+pub fn dimensions(n: u64, left: u64, right: u64, public: u64) -> Dimensions
+    ensures { λ r. ⌜ r ≡ Sizes.dimensions (min n 255) (min left 255) (min right 255) (min public 255) ⌝ }
 {
     Dimensions {
         n: byte(n),
         left: byte(left),
         right: byte(right),
+        public: byte(public),
     }
 }
 

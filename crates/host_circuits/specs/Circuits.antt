@@ -18,7 +18,7 @@ sizeNumbers d = ceiling d ∷ (3 * ceiling d ∷ (inputWires d ∷ (stateWires (
 
 -- the lent sizes of dimensions within the limits; of others what stood there
 abbrev pub sizesGiven : Dimensions → List ℕ → List ℕ
-sizesGiven d lent = given (outcome (sizeChecks (d .n) (d .left) (d .right))) (sizeNumbers d) (λ r. lent)
+sizesGiven d lent = given (outcome (sizeChecks d)) (sizeNumbers d) (λ r. lent)
 
 -- the lent run after reading back
 abbrev pub readStored : Read → List ℕ → List ℕ

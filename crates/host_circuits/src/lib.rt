@@ -6,7 +6,7 @@ use refusals::Outcome;
 ghost use mathlib.Core.Path.{_≡_};
 ghost use lib.ListN.{length};
 ghost use Rattle.refusals.specs.Checks.{outcome};
-ghost use Rattle.dimensions.specs.Sizes.{sizeChecks};
+ghost use Rattle.dimensions.specs.Sizes.{dimensions, sizeChecks};
 ghost use Rattle.two_pass.specs.Evaluation.{checks, filled};
 ghost use Rattle.generator.specs.Generation as Generation;
 ghost use Rattle.generator.specs.Generation.{generatedCode, generatedNumbers};
@@ -17,7 +17,6 @@ ghost use Rattle.stored.specs.Words.{runIn};
 ghost use Rattle.refusals.specs.Numbers.{codeOf};
 ghost use Rattle.tables.specs.Tables.{allTables};
 ghost use Rattle.lent.specs.Lent.{numbersOr};
-ghost use Rattle.codes.specs.Codes.{dimensions};
 ghost use Rattle.host_circuits.specs.Circuits.{sizesGiven, readStored, repeatIn, repeatStored, repeatNumbers};
 
 // The gate ceiling, the words that the generator wants, input wires and state wires; 1 or 2 where it is turned back.
@@ -26,20 +25,22 @@ pub extern "C" fn forkhemit_sizes(
     n: u64,
     left_rows: u64,
     right_rows: u64,
+    public_rows: u64,
     sizes: &mut [u64; 4],
 ) -> u8
-    ensures { λ r. ⌜ r ≡ codeOf (outcome (sizeChecks n «left_rows» «right_rows»)) ⌝ }
-    ensures { λ _. ⌜ now (sizes .exit) ≡ sizesGiven (dimensions n «left_rows» «right_rows») (now (sizes .entry)) ⌝ }
+    ensures { λ r. ⌜ r ≡ codeOf (outcome (sizeChecks (dimensions n «left_rows» «right_rows» «public_rows»))) ⌝ }
+    ensures { λ _. ⌜ now (sizes .exit) ≡ sizesGiven (dimensions n «left_rows» «right_rows» «public_rows») (now (sizes .entry)) ⌝ }
 {
-    let d = codes::dimensions(n, left_rows, right_rows);
+    let d = codes::dimensions(n, left_rows, right_rows, public_rows);
     match d.check() {
         Outcome::Taken => {}
         Outcome::Refused(refusal) => return refusals::number(refusal),
     }
     let ceiling = d.ceiling() as u64;
+    let words = 3 * ceiling;
     *sizes = [
         ceiling,
-        3 * ceiling,
+        words,
         d.input_wires() as u64,
         d.state_wires() as u64,
     ];
@@ -52,15 +53,16 @@ pub extern "C" fn forkhemit_generate(
     n: u64,
     left_rows: u64,
     right_rows: u64,
+    public_rows: u64,
     gates: &mut [u32],
     count: &mut [u64; 1],
 ) -> u8
-    ensures { λ r. ⌜ r ≡ generatedCode (Generation.generated (dimensions n «left_rows» «right_rows») (now (gates .entry))) ⌝ }
-    ensures { λ _. ⌜ now (gates .exit) ≡ Generation.written (dimensions n «left_rows» «right_rows») (now (gates .entry)) ⌝ }
-    ensures { λ _. ⌜ now (count .exit) ≡ numbersOr (generatedNumbers (Generation.generated (dimensions n «left_rows» «right_rows») (now (gates .entry)))) (now (count .entry)) ⌝ }
-    ensures { λ _. ⌜ Generation.Carried (dimensions n «left_rows» «right_rows») (Generation.generated (dimensions n «left_rows» «right_rows») (now (gates .entry))) (now (gates .exit)) ⌝ }
+    ensures { λ r. ⌜ r ≡ generatedCode (Generation.generated (dimensions n «left_rows» «right_rows» «public_rows») (now (gates .entry))) ⌝ }
+    ensures { λ _. ⌜ now (gates .exit) ≡ Generation.written (dimensions n «left_rows» «right_rows» «public_rows») (now (gates .entry)) ⌝ }
+    ensures { λ _. ⌜ now (count .exit) ≡ numbersOr (generatedNumbers (Generation.generated (dimensions n «left_rows» «right_rows» «public_rows») (now (gates .entry)))) (now (count .entry)) ⌝ }
+    ensures { λ _. ⌜ Generation.Carried (dimensions n «left_rows» «right_rows» «public_rows») (Generation.generated (dimensions n «left_rows» «right_rows» «public_rows») (now (gates .entry))) (now (gates .exit)) ⌝ }
 {
-    let d = codes::dimensions(n, left_rows, right_rows);
+    let d = codes::dimensions(n, left_rows, right_rows, public_rows);
     match generator::generate(d, gates) {
         Generated::Of(k) => {
             *count = [k as u64];
@@ -70,22 +72,24 @@ pub extern "C" fn forkhemit_generate(
     }
 }
 
-// Packs left rows, right rows and run over the front of the bytes; 1, 2, 4, 3, 10, 12 or 13 where it is turned back, and then no byte changes.
+// Packs left rows, right rows, public rows and run over the front of the bytes; 1, 2, 4, 3, 10, 12 or 13 where it is turned back, and then no byte changes.
 #[no_mangle]
 pub extern "C" fn forkhemit_pack(
     n: u64,
     left_rows: u64,
     right_rows: u64,
+    public_rows: u64,
     left: &[u32],
     right: &[u32],
+    public: &[u32],
     run: &[u32; 101],
     bytes: &mut [u8],
 ) -> u8
-    ensures { λ r. ⌜ r ≡ codeOf (outcome (packChecks (dimensions n «left_rows» «right_rows») (allTables (now (left .entry)) (now (right .entry))) (runIn (now (run .entry))) (length (now (bytes .entry))))) ⌝ }
-    ensures { λ _. ⌜ now (bytes .exit) ≡ packed (dimensions n «left_rows» «right_rows») (allTables (now (left .entry)) (now (right .entry))) (runIn (now (run .entry))) (now (bytes .entry)) ⌝ }
+    ensures { λ r. ⌜ r ≡ codeOf (outcome (packChecks (dimensions n «left_rows» «right_rows» «public_rows») (allTables (now (left .entry)) (now (right .entry)) (now (public .entry))) (runIn (now (run .entry))) (length (now (bytes .entry))))) ⌝ }
+    ensures { λ _. ⌜ now (bytes .exit) ≡ packed (dimensions n «left_rows» «right_rows» «public_rows») (allTables (now (left .entry)) (now (right .entry)) (now (public .entry))) (runIn (now (run .entry))) (now (bytes .entry)) ⌝ }
 {
-    let d = codes::dimensions(n, left_rows, right_rows);
-    codes::code(wires::pack(d, left, right, stored::load(*run), bytes))
+    let d = codes::dimensions(n, left_rows, right_rows, public_rows);
+    codes::code(wires::pack(d, left, right, public, stored::load(*run), bytes))
 }
 
 // Fills the front of the wires with the inputs and then each gate's value; 9 or 10 where it is turned back, and then no byte changes.
@@ -118,8 +122,10 @@ pub extern "C" fn forkhemit_repeat(
     n: u64,
     left_rows: u64,
     right_rows: u64,
+    public_rows: u64,
     left: &[u32],
     right: &[u32],
+    public: &[u32],
     times: u64,
     gates: &mut [u32],
     bytes: &mut [u8],
@@ -127,23 +133,24 @@ pub extern "C" fn forkhemit_repeat(
     run: &mut [u32; 101],
     repeated: &mut [u64; 2],
 ) -> u8
-    ensures { λ r. ⌜ r ≡ codeOf (repeatIn (dimensions n «left_rows» «right_rows») (allTables (now (left .entry)) (now (right .entry))) times (now (gates .entry)) (now (bytes .entry)) (now (wires .entry)) (now (run .entry)) .outcome) ⌝ }
-    ensures { λ _. ⌜ now (gates .exit) ≡ gatesAfter (dimensions n «left_rows» «right_rows») (allTables (now (left .entry)) (now (right .entry))) times (now (gates .entry)) (now (bytes .entry)) (now (wires .entry)) (runIn (now (run .entry))) ⌝ }
-    ensures { λ _. ⌜ now (bytes .exit) ≡ bytesAfter (dimensions n «left_rows» «right_rows») (allTables (now (left .entry)) (now (right .entry))) times (now (gates .entry)) (now (bytes .entry)) (now (wires .entry)) (runIn (now (run .entry))) ⌝ }
-    ensures { λ _. ⌜ now (wires .exit) ≡ wiresAfter (dimensions n «left_rows» «right_rows») (allTables (now (left .entry)) (now (right .entry))) times (now (gates .entry)) (now (bytes .entry)) (now (wires .entry)) (runIn (now (run .entry))) ⌝ }
-    ensures { λ _. ⌜ now (run .exit) ≡ repeatStored (repeatIn (dimensions n «left_rows» «right_rows») (allTables (now (left .entry)) (now (right .entry))) times (now (gates .entry)) (now (bytes .entry)) (now (wires .entry)) (now (run .entry))) (now (run .entry)) ⌝ }
-    ensures { λ _. ⌜ now (repeated .exit) ≡ repeatNumbers (repeatIn (dimensions n «left_rows» «right_rows») (allTables (now (left .entry)) (now (right .entry))) times (now (gates .entry)) (now (bytes .entry)) (now (wires .entry)) (now (run .entry))) (now (repeated .entry)) ⌝ }
+    ensures { λ r. ⌜ r ≡ codeOf (repeatIn (dimensions n «left_rows» «right_rows» «public_rows») (allTables (now (left .entry)) (now (right .entry)) (now (public .entry))) times (now (gates .entry)) (now (bytes .entry)) (now (wires .entry)) (now (run .entry)) .outcome) ⌝ }
+    ensures { λ _. ⌜ now (gates .exit) ≡ gatesAfter (dimensions n «left_rows» «right_rows» «public_rows») (allTables (now (left .entry)) (now (right .entry)) (now (public .entry))) times (now (gates .entry)) (now (bytes .entry)) (now (wires .entry)) (runIn (now (run .entry))) ⌝ }
+    ensures { λ _. ⌜ now (bytes .exit) ≡ bytesAfter (dimensions n «left_rows» «right_rows» «public_rows») (allTables (now (left .entry)) (now (right .entry)) (now (public .entry))) times (now (gates .entry)) (now (bytes .entry)) (now (wires .entry)) (runIn (now (run .entry))) ⌝ }
+    ensures { λ _. ⌜ now (wires .exit) ≡ wiresAfter (dimensions n «left_rows» «right_rows» «public_rows») (allTables (now (left .entry)) (now (right .entry)) (now (public .entry))) times (now (gates .entry)) (now (bytes .entry)) (now (wires .entry)) (runIn (now (run .entry))) ⌝ }
+    ensures { λ _. ⌜ now (run .exit) ≡ repeatStored (repeatIn (dimensions n «left_rows» «right_rows» «public_rows») (allTables (now (left .entry)) (now (right .entry)) (now (public .entry))) times (now (gates .entry)) (now (bytes .entry)) (now (wires .entry)) (now (run .entry))) (now (run .entry)) ⌝ }
+    ensures { λ _. ⌜ now (repeated .exit) ≡ repeatNumbers (repeatIn (dimensions n «left_rows» «right_rows» «public_rows») (allTables (now (left .entry)) (now (right .entry)) (now (public .entry))) times (now (gates .entry)) (now (bytes .entry)) (now (wires .entry)) (now (run .entry))) (now (repeated .entry)) ⌝ }
 {
-    let d = codes::dimensions(n, left_rows, right_rows);
+    let d = codes::dimensions(n, left_rows, right_rows, public_rows);
     let start = stored::load(*run);
-    let done = repeats::repeat(d, left, right, times, gates, bytes, wires, start);
+    let done = repeats::repeat(d, left, right, public, times, gates, bytes, wires, start);
     let outcome = done.outcome;
     let last = done.run;
     match outcome {
         Outcome::Taken => {}
         Outcome::Refused(refusal) => return refusals::number(refusal),
     }
+    let mark = done.mark as u64;
     *run = stored::words(last);
-    *repeated = [done.repeats, done.mark as u64];
+    *repeated = [done.repeats, mark];
     0
 }

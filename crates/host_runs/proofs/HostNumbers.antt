@@ -1,4 +1,5 @@
--- What the fresh run, acceptance, step and budgeted run give on a host's numbers as bytes is what they give on the numbers: refused sizes are refused alike, since the checks begin with those.
+-- What the fresh run, acceptance, step and budgeted run give on a host's numbers as bytes is what they give on the numbers: refused sizes are
+-- refused alike, since the checks begin with those.
 -- Assumes nothing.
 use mathlib.Core.Path.{_≡_, ap, _∙_}
 use mathlib.Core.List.{List}
@@ -21,15 +22,15 @@ use Rattle.solver.specs.declared.Solved.the-variants as solved′
 use Rattle.solver.specs.Entries.{stepped, solved}
 use Rattle.stored.specs.Words.{runIn}
 use Rattle.lent.specs.Lent.{storedIf}
-use Rattle.codes.specs.Codes.{variableChecks, dimensions}
+use Rattle.codes.specs.Codes.{variableChecks}
 use Rattle.codes.proofs.AsBytes.{asBytes, on-number, on-numbers}
 use Rattle.host_runs.specs.Runs.{stepIn}
 
 -- ---- refused sizes
 
-module _ (tables : Tables) (d : Dimensions) (q : Refusal) (h : outcome (sizeChecks (d .n) (d .left) (d .right)) ≡ Refused q) where
+module _ (tables : Tables) (d : Dimensions) (q : Refusal) (h : outcome (sizeChecks d) ≡ Refused q) where
   accept-refused : outcome (tableChecks d tables) ≡ Refused q
-  accept-refused = outcome-refused (sizeChecks (d .n) (d .left) (d .right)) (wordChecks d tables) q h
+  accept-refused = outcome-refused (sizeChecks d) (wordChecks d tables) q h
 
   step-refused : (run : Run) → stepped d tables run ≡ record { outcome = Refused q; run = run }
   unfolding stepped
@@ -47,17 +48,14 @@ fresh-is n k e words = on-number (λ x. storedIf (outcome (variableChecks x)) (r
 
 -- ---- any sizes
 
-module _ (n left-rows right-rows : ℕ) (d : Dimensions) (e : d ≡ asBytes n left-rows right-rows) (tables : Tables) where
-  abbrev asked : Dimensions
-  asked = dimensions n left-rows right-rows
-
+module _ (asked d : Dimensions) (e : d ≡ asBytes asked) (tables : Tables) where
   pub accept-is : (o : Outcome) → o ≡ outcome (tableChecks d tables) → o ≡ outcome (tableChecks asked tables)
-  accept-is = on-numbers n left-rows right-rows (λ x. outcome (tableChecks x tables)) Refused (accept-refused tables) d e
+  accept-is = on-numbers asked (λ x. outcome (tableChecks x tables)) Refused (accept-refused tables) d e
 
   pub solve-is : (budget : ℕ) (s : Solved) → s ≡ solved d tables budget → s ≡ solved asked tables budget
-  solve-is budget = on-numbers n left-rows right-rows (λ x. solved x tables budget) solved′.Refused (λ x q h. solve-refused tables x q h budget) d e
+  solve-is budget = on-numbers asked (λ x. solved x tables budget) solved′.Refused (λ x q h. solve-refused tables x q h budget) d e
 
   pub step-is : (words : List ℕ) (run : Run) → run ≡ runIn words → (s : Stepped) → s ≡ stepped d tables run → s ≡ stepIn asked tables words
   step-is words run held s r =
-      on-numbers n left-rows right-rows (λ x. stepped x tables run) (λ q. record { outcome = Refused q; run = run }) (λ x q h. step-refused tables x q h run) d e s r
+      on-numbers asked (λ x. stepped x tables run) (λ q. record { outcome = Refused q; run = run }) (λ x q h. step-refused tables x q h run) d e s r
       ∙ ap (λ (x : Run). stepped asked tables x) held

@@ -6,6 +6,7 @@ use state::Run;
 use verdicts::Modelled;
 ghost use mathlib.Core.Path.{_≡_};
 ghost use Rattle.refusals.specs.Checks.{outcome};
+ghost use Rattle.dimensions.specs.Sizes.{dimensions};
 ghost use Rattle.tables.specs.Tables.{allTables};
 ghost use Rattle.tables.specs.Acceptance.{tableChecks};
 ghost use Rattle.solver.specs.Entries.{solved, solvedCode, solvedNumbers};
@@ -14,22 +15,24 @@ ghost use Rattle.state.specs.State.{fresh, runOf};
 ghost use Rattle.stored.specs.Words.{runIn};
 ghost use Rattle.refusals.specs.Numbers.{codeOf};
 ghost use Rattle.lent.specs.Lent.{numbersOr, storedIf};
-ghost use Rattle.codes.specs.Codes.{dimensions, variableChecks};
+ghost use Rattle.codes.specs.Codes.{variableChecks};
 ghost use Rattle.host_runs.specs.Runs.{stepIn, stepStored};
 
-// Whether two tables are accepted: 1, 2, 4 or 3 if not.
+// Whether three tables are accepted: 1, 2, 4 or 3 if not.
 #[no_mangle]
 pub extern "C" fn forkhemit_accept(
     n: u64,
     left_rows: u64,
     right_rows: u64,
+    public_rows: u64,
     left: &[u32],
     right: &[u32],
+    public: &[u32],
 ) -> u8
-    ensures { λ r. ⌜ r ≡ codeOf (outcome (tableChecks (dimensions n «left_rows» «right_rows») (allTables (now (left .entry)) (now (right .entry))))) ⌝ }
+    ensures { λ r. ⌜ r ≡ codeOf (outcome (tableChecks (dimensions n «left_rows» «right_rows» «public_rows») (allTables (now (left .entry)) (now (right .entry)) (now (public .entry))))) ⌝ }
 {
-    let d = codes::dimensions(n, left_rows, right_rows);
-    codes::code(tables::accept(d, left, right))
+    let d = codes::dimensions(n, left_rows, right_rows, public_rows);
+    codes::code(tables::accept(d, left, right, public))
 }
 
 // The fresh run of n variables; 1 where it is turned back, and then no word changes.
@@ -50,15 +53,17 @@ pub extern "C" fn forkhemit_step(
     n: u64,
     left_rows: u64,
     right_rows: u64,
+    public_rows: u64,
     left: &[u32],
     right: &[u32],
+    public: &[u32],
     run: &mut [u32; 101],
 ) -> u8
-    ensures { λ r. ⌜ r ≡ codeOf (stepIn (dimensions n «left_rows» «right_rows») (allTables (now (left .entry)) (now (right .entry))) (now (run .entry)) .outcome) ⌝ }
-    ensures { λ _. ⌜ now (run .exit) ≡ stepStored (stepIn (dimensions n «left_rows» «right_rows») (allTables (now (left .entry)) (now (right .entry))) (now (run .entry))) (now (run .entry)) ⌝ }
+    ensures { λ r. ⌜ r ≡ codeOf (stepIn (dimensions n «left_rows» «right_rows» «public_rows») (allTables (now (left .entry)) (now (right .entry)) (now (public .entry))) (now (run .entry)) .outcome) ⌝ }
+    ensures { λ _. ⌜ now (run .exit) ≡ stepStored (stepIn (dimensions n «left_rows» «right_rows» «public_rows») (allTables (now (left .entry)) (now (right .entry)) (now (public .entry))) (now (run .entry))) (now (run .entry)) ⌝ }
 {
-    let d = codes::dimensions(n, left_rows, right_rows);
-    let stepped = solver::step_lent(d, left, right, stored::load(*run));
+    let d = codes::dimensions(n, left_rows, right_rows, public_rows);
+    let stepped = solver::step_lent(d, left, right, public, stored::load(*run));
     let outcome = stepped.outcome;
     let next = stepped.run;
     lent::store_if(outcome, next, run);
@@ -71,16 +76,18 @@ pub extern "C" fn forkhemit_solve(
     n: u64,
     left_rows: u64,
     right_rows: u64,
+    public_rows: u64,
     left: &[u32],
     right: &[u32],
+    public: &[u32],
     budget: u64,
     answer: &mut [u64; 3],
 ) -> u8
-    ensures { λ r. ⌜ r ≡ solvedCode (solved (dimensions n «left_rows» «right_rows») (allTables (now (left .entry)) (now (right .entry))) budget) ⌝ }
-    ensures { λ _. ⌜ now (answer .exit) ≡ numbersOr (solvedNumbers (solved (dimensions n «left_rows» «right_rows») (allTables (now (left .entry)) (now (right .entry))) budget)) (now (answer .entry)) ⌝ }
+    ensures { λ r. ⌜ r ≡ solvedCode (solved (dimensions n «left_rows» «right_rows» «public_rows») (allTables (now (left .entry)) (now (right .entry)) (now (public .entry))) budget) ⌝ }
+    ensures { λ _. ⌜ now (answer .exit) ≡ numbersOr (solvedNumbers (solved (dimensions n «left_rows» «right_rows» «public_rows») (allTables (now (left .entry)) (now (right .entry)) (now (public .entry))) budget)) (now (answer .entry)) ⌝ }
 {
-    let d = codes::dimensions(n, left_rows, right_rows);
-    match solver::solve(d, left, right, budget) {
+    let d = codes::dimensions(n, left_rows, right_rows, public_rows);
+    match solver::solve(d, left, right, public, budget) {
         Solved::Of(given) => {
             let verdict = given.verdict;
             *answer = [

@@ -19,16 +19,15 @@ use Rattle.bristol.specs.declared.Written.the-variants as written′
 use Rattle.bristol.specs.declared.WrittenLines.{WrittenLines}
 use Rattle.bristol.specs.declared.WrittenLines.the-variants as lines′
 use Rattle.bristol.specs.Writing.{checks, lineAt, written, filled, writtenLines, filledLines}
-use Rattle.codes.specs.Codes.{dimensions}
 use Rattle.codes.proofs.AsBytes.{asBytes, on-numbers}
 
 module _ (words : List ℕ) (line : ℕ) (lent : List ℕ) where
   -- ---- refused sizes
 
-  module _ (d : Dimensions) (q : Refusal) (h : outcome (sizeChecks (d .n) (d .left) (d .right)) ≡ Refused q) where
+  module _ (d : Dimensions) (q : Refusal) (h : outcome (sizeChecks d) ≡ Refused q) where
     line-checked : outcome (checks d words line lent) ≡ Refused q
     line-checked =
-        outcome-refused (sizeChecks (d .n) (d .left) (d .right))
+        outcome-refused (sizeChecks d)
         (check (not (accepted (inputWires d) words)) Gates ∷ (check (ltb (length lent) (length (lineAt d words line))) LineBuffer ∷ [])) q h
 
     line-refused : written d words line lent ≡ written′.Refused q
@@ -45,18 +44,15 @@ module _ (words : List ℕ) (line : ℕ) (lent : List ℕ) where
 
   -- ---- any sizes
 
-  module _ (n left-rows right-rows : ℕ) (d : Dimensions) (e : d ≡ asBytes n left-rows right-rows) where
-    abbrev asked : Dimensions
-    asked = dimensions n left-rows right-rows
-
+  module _ (asked d : Dimensions) (e : d ≡ asBytes asked) where
     pub line-is : (w : Written) → w ≡ written d words line lent → w ≡ written asked words line lent
-    line-is = on-numbers n left-rows right-rows (λ x. written x words line lent) written′.Refused line-refused d e
+    line-is = on-numbers asked (λ x. written x words line lent) written′.Refused line-refused d e
 
     pub line-bytes-are : (after : List ℕ) → after ≡ filled d words line lent → after ≡ filled asked words line lent
-    line-bytes-are = on-numbers n left-rows right-rows (λ x. filled x words line lent) (λ q. lent) line-kept d e
+    line-bytes-are = on-numbers asked (λ x. filled x words line lent) (λ q. lent) line-kept d e
 
     pub lines-are : (w : WrittenLines) → w ≡ writtenLines d words line lent → w ≡ writtenLines asked words line lent
-    lines-are = on-numbers n left-rows right-rows (λ x. writtenLines x words line lent) lines′.Refused lines-refused d e
+    lines-are = on-numbers asked (λ x. writtenLines x words line lent) lines′.Refused lines-refused d e
 
     pub lines-bytes-are : (after : List ℕ) → after ≡ filledLines d words line lent → after ≡ filledLines asked words line lent
-    lines-bytes-are = on-numbers n left-rows right-rows (λ x. filledLines x words line lent) (λ q. lent) lines-kept d e
+    lines-bytes-are = on-numbers asked (λ x. filledLines x words line lent) (λ q. lent) lines-kept d e

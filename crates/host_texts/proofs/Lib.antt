@@ -1,2 +1,2 @@
 pub mod HostNumbers
-pub mod Pairs
+pub mod ThreeTexts

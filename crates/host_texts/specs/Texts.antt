@@ -1,39 +1,71 @@
 -- What calls on texts return to hosts and leave in the buffers that they lend.
 use Prim.Native.Nat.{ℕ, _*_}
-use mathlib.Core.Bool.{not, _||_}
+use mathlib.Core.Bool.{Bool, _||_, cond}
 use mathlib.Core.List.{List, [], _∷_}
-use lib.Dec.{eqb, ltb}
+use lib.Dec.{ltb}
 use lib.ListN.{length, take}
-use Rattle.refusals.specs.Checks.{Check, check, outcome, given}
+use Rattle.refusals.specs.Checks.{outcome, given}
 use Rattle.refusals.specs.declared.Outcome.{Outcome}
 use Rattle.refusals.specs.declared.Outcome.the-variants.{Refused}
-use Rattle.refusals.specs.declared.Refusal.the-variants.{RowBuffer, TextsDiffer}
+use Rattle.refusals.specs.declared.Refusal.the-variants.{RowBuffer}
 use Rattle.dimacs.specs.declared.Table.{Table}
+use Rattle.dimacs.specs.Text.{tableOf}
+use Rattle.dimacs.specs.ThreeTexts.{sharedN}
+use Rattle.tables.specs.Tables.{Tables, allTables}
 use Rattle.solver.specs.declared.Answer.{Answer}
 use Rattle.codes.specs.Codes.{variableChecks, verdictFrom}
 use Rattle.lent.specs.Lent.{front}
 
--- ---- two texts
+-- ---- three texts
 
--- 4: too few words for the rows, left or right; 6: the two texts differ in n
-abbrev pub pairChecks : Table → Table → ℕ → ℕ → List Check
-pairChecks l r left right = check (ltb left (2 * l .rows) || ltb right (2 * r .rows)) RowBuffer ∷ (check (not (eqb (l .n) (r .n))) TextsDiffer ∷ [])
+-- what three texts are read as
+pub record Texts : Type 0 where
+  pub left : Table
+  pub right : Table
+  pub public : Table
 
--- what refuses the left text, then the right one, then 4 and 6
-abbrev pub pairOutcome : Table → Table → ℕ → ℕ → Outcome
-pairOutcome l r left right = given (l .outcome) (given (r .outcome) (outcome (pairChecks l r left right)) Refused) Refused
+-- these three
+abbrev pub allTexts : Table → Table → Table → Texts
+allTexts left right public = record { left = left; right = right; public = public }
 
--- the lent left table after reading
-abbrev pub leftRead : Table → Table → List ℕ → List ℕ → List ℕ
-leftRead l r left right = given (pairOutcome l r (length left) (length right)) (front (take (2 * l .rows) (l .words)) left) (λ q. left)
+-- a station's text has at least one row, the public one may have none
+abbrev pub textsOf : List ℕ → List ℕ → List ℕ → Texts
+textsOf left right public = allTexts (tableOf 1 left) (tableOf 1 right) (tableOf 0 public)
 
--- the lent right table after reading
-abbrev pub rightRead : Table → Table → List ℕ → List ℕ → List ℕ
-rightRead l r left right = given (pairOutcome l r (length left) (length right)) (front (take (2 * r .rows) (r .words)) right) (λ q. right)
+-- with so many words lent, too few for some table's rows
+abbrev pub noRoom : Texts → ℕ → ℕ → ℕ → Bool
+noRoom t left right public = ltb left (2 * t .left .rows) || ltb right (2 * t .right .rows) || ltb public (2 * t .public .rows)
 
--- the lent sizes after reading: n and the two row counts
-abbrev pub sizesRead : Table → Table → List ℕ → List ℕ → List ℕ → List ℕ
-sizesRead l r left right sizes = given (pairOutcome l r (length left) (length right)) (l .n ∷ (l .rows ∷ (r .rows ∷ []))) (λ q. sizes)
+-- 4, then 6
+abbrev pub roomOutcome : Texts → ℕ → ℕ → ℕ → Outcome
+roomOutcome t left right public = cond (noRoom t left right public) (Refused RowBuffer) (sharedN (t .left) (t .right) (t .public))
+
+-- what refuses the left text, then the right one, then the public one, then 4 and 6
+abbrev pub lentOutcome : Texts → ℕ → ℕ → ℕ → Outcome
+lentOutcome t left right public =
+    given (t .left .outcome) (given (t .right .outcome) (given (t .public .outcome) (roomOutcome t left right public) Refused) Refused) Refused
+
+-- the same with the lent tables
+abbrev pub readOutcome : Texts → Tables → Outcome
+readOutcome t lent = lentOutcome t (length (lent .left)) (length (lent .right)) (length (lent .public))
+
+-- a lent table after reading: the rows' words over its front; refused, as it was
+abbrev pub rowsGiven : Outcome → Table → List ℕ → List ℕ
+rowsGiven o t lent = given o (front (take (2 * t .rows) (t .words)) lent) (λ q. lent)
+
+-- the lent tables after reading
+abbrev pub tablesRead : Texts → Tables → Tables
+tablesRead t lent =
+    let o = readOutcome t lent in
+    allTables (rowsGiven o (t .left) (lent .left)) (rowsGiven o (t .right) (lent .right)) (rowsGiven o (t .public) (lent .public))
+
+-- n and the three row counts
+abbrev pub textSizes : Texts → List ℕ
+textSizes t = t .left .n ∷ (t .left .rows ∷ (t .right .rows ∷ (t .public .rows ∷ [])))
+
+-- the lent sizes after reading
+abbrev pub sizesRead : Texts → Tables → List ℕ → List ℕ
+sizesRead t lent sizes = given (readOutcome t lent) (textSizes t) (λ q. sizes)
 
 -- ---- the composed answer
 

@@ -1,4 +1,4 @@
-// For hosts in C and Rust: two texts and the budget line are read, the circuit's lines and the answer written.
+// For hosts in C and Rust: three texts and the budget line are read, the circuit's lines and the answer written.
 // Each function is a thin call of a proved entry. A slice passes as a pointer and then a length, an array as a pointer.
 // It returns 0 where the call is taken, else the refusal's number, and then it writes nothing.
 use bristol::Written;
@@ -9,21 +9,28 @@ use refusals::Outcome;
 use refusals::Refusal;
 use solver::Answer;
 ghost use mathlib.Core.Path.{_≡_};
-ghost use lib.ListN as ListN;
 ghost use Rattle.bristol.specs.Writing as Writing;
 ghost use Rattle.bristol.specs.Writing.{lineCode, lineNumbers, linesCode, linesNumbers};
 ghost use Rattle.answers.specs.Printed.{answerText};
-ghost use Rattle.dimacs.specs.Text.{tableOf};
+ghost use Rattle.tables.specs.Tables.{allTables};
 ghost use Rattle.refusals.specs.Checks.{outcome};
 ghost use Rattle.lines.specs.Numbers.{budgetOf, budgetCode, budgetNumbers};
 ghost use Rattle.refusals.specs.Numbers.{codeOf};
 ghost use Rattle.lent.specs.Lent.{numbersOr};
-ghost use Rattle.codes.specs.Codes.{dimensions, variableChecks};
-ghost use Rattle.host_texts.specs.Texts.{pairOutcome, leftRead, rightRead, sizesRead, answerFrom, textGiven, lengthGiven};
+ghost use Rattle.dimensions.specs.Sizes.{dimensions};
+ghost use Rattle.codes.specs.Codes.{variableChecks};
+ghost use Rattle.host_texts.specs.Texts.{allTexts, textsOf, lentOutcome, readOutcome, tablesRead, sizesRead, answerFrom, textGiven, lengthGiven};
 
-// What two texts are refused with, left before right; then 4 where their rows have no room in so many words; then 6.
-fn judge(left: Table, right: Table, left_words: usize, right_words: usize) -> Outcome
-    ensures { λ r. ⌜ r ≡ pairOutcome left right «left_words» «right_words» ⌝ }
+// What three texts are refused with, left before right before public; then 4 where their rows have no room in so many words; then 6.
+fn judge(
+    left: Table,
+    right: Table,
+    public: Table,
+    left_words: usize,
+    right_words: usize,
+    public_words: usize,
+) -> Outcome
+    ensures { λ r. ⌜ r ≡ lentOutcome (allTexts left right public) «left_words» «right_words» «public_words» ⌝ }
 {
     let left_outcome = left.outcome;
     if let Outcome::Refused(refusal) = left_outcome {
@@ -33,40 +40,53 @@ fn judge(left: Table, right: Table, left_words: usize, right_words: usize) -> Ou
     if let Outcome::Refused(refusal) = right_outcome {
         return Outcome::Refused(refusal);
     }
-    if (left_words < 2 * (left.rows as usize)) | (right_words < 2 * (right.rows as usize)) {
+    let public_outcome = public.outcome;
+    if let Outcome::Refused(refusal) = public_outcome {
+        return Outcome::Refused(refusal);
+    }
+    if (left_words < 2 * (left.rows as usize))
+        | (right_words < 2 * (right.rows as usize))
+        | (public_words < 2 * (public.rows as usize))
+    {
         return Outcome::Refused(Refusal::RowBuffer);
     }
-    if left.n != right.n {
+    if (left.n != right.n) | (left.n != public.n) {
         return Outcome::Refused(Refusal::TextsDiffer);
     }
     Outcome::Taken
 }
 
-// Reads two texts into tables, with n and the row counts; the left text's 1, 2 or 5, the right text's, then 4 or 6 where it is turned back.
+// Reads three texts into tables, with n and the row counts; the left text's 1, 2 or 5, the right text's, the public one's, then 4 or 6 where it is turned back.
 #[no_mangle]
-pub extern "C" fn forkhemit_read_pair(
+pub extern "C" fn forkhemit_read_tables(
     left_text: &[u8],
     right_text: &[u8],
+    public_text: &[u8],
     left: &mut [u32],
     right: &mut [u32],
-    sizes: &mut [u64; 3],
+    public: &mut [u32],
+    sizes: &mut [u64; 4],
 ) -> u8
-    ensures { λ r. ⌜ r ≡ codeOf (pairOutcome (tableOf (now («left_text» .entry))) (tableOf (now («right_text» .entry))) (ListN.length (now (left .entry))) (ListN.length (now (right .entry)))) ⌝ }
-    ensures { λ _. ⌜ now (left .exit) ≡ leftRead (tableOf (now («left_text» .entry))) (tableOf (now («right_text» .entry))) (now (left .entry)) (now (right .entry)) ⌝ }
-    ensures { λ _. ⌜ now (right .exit) ≡ rightRead (tableOf (now («left_text» .entry))) (tableOf (now («right_text» .entry))) (now (left .entry)) (now (right .entry)) ⌝ }
-    ensures { λ _. ⌜ now (sizes .exit) ≡ sizesRead (tableOf (now («left_text» .entry))) (tableOf (now («right_text» .entry))) (now (left .entry)) (now (right .entry)) (now (sizes .entry)) ⌝ }
+    ensures { λ r. ⌜ r ≡ codeOf (readOutcome (textsOf (now («left_text» .entry)) (now («right_text» .entry)) (now («public_text» .entry))) (allTables (now (left .entry)) (now (right .entry)) (now (public .entry)))) ⌝ }
+    ensures { λ _. ⌜ now (left .exit) ≡ tablesRead (textsOf (now («left_text» .entry)) (now («right_text» .entry)) (now («public_text» .entry))) (allTables (now (left .entry)) (now (right .entry)) (now (public .entry))) .left ⌝ }
+    ensures { λ _. ⌜ now (right .exit) ≡ tablesRead (textsOf (now («left_text» .entry)) (now («right_text» .entry)) (now («public_text» .entry))) (allTables (now (left .entry)) (now (right .entry)) (now (public .entry))) .right ⌝ }
+    ensures { λ _. ⌜ now (public .exit) ≡ tablesRead (textsOf (now («left_text» .entry)) (now («right_text» .entry)) (now («public_text» .entry))) (allTables (now (left .entry)) (now (right .entry)) (now (public .entry))) .public ⌝ }
+    ensures { λ _. ⌜ now (sizes .exit) ≡ sizesRead (textsOf (now («left_text» .entry)) (now («right_text» .entry)) (now («public_text» .entry))) (allTables (now (left .entry)) (now (right .entry)) (now (public .entry))) (now (sizes .entry)) ⌝ }
 {
-    let l = dimacs::read(left_text);
-    let r = dimacs::read(right_text);
-    match judge(l, r, left.len(), right.len()) {
+    let l = dimacs::read(left_text, 1);
+    let r = dimacs::read(right_text, 1);
+    let p = dimacs::read(public_text, 0);
+    match judge(l, r, p, left.len(), right.len(), public.len()) {
         Outcome::Taken => {}
         Outcome::Refused(refusal) => return refusals::number(refusal),
     }
     let left_words = l.words;
     let right_words = r.words;
+    let public_words = p.words;
     lent::put_rows(left_words, l.rows, left);
     lent::put_rows(right_words, r.rows, right);
-    *sizes = [l.n as u64, l.rows as u64, r.rows as u64];
+    lent::put_rows(public_words, p.rows, public);
+    *sizes = [l.n as u64, l.rows as u64, r.rows as u64, p.rows as u64];
     0
 }
 
@@ -91,16 +111,17 @@ pub extern "C" fn forkhemit_write_line(
     n: u64,
     left_rows: u64,
     right_rows: u64,
+    public_rows: u64,
     gates: &[u32],
     line: u64,
     bytes: &mut [u8],
     length: &mut [u64; 1],
 ) -> u8
-    ensures { λ r. ⌜ r ≡ lineCode (Writing.written (dimensions n «left_rows» «right_rows») (now (gates .entry)) line (now (bytes .entry))) ⌝ }
-    ensures { λ _. ⌜ now (bytes .exit) ≡ Writing.filled (dimensions n «left_rows» «right_rows») (now (gates .entry)) line (now (bytes .entry)) ⌝ }
-    ensures { λ _. ⌜ now (length .exit) ≡ numbersOr (lineNumbers (Writing.written (dimensions n «left_rows» «right_rows») (now (gates .entry)) line (now (bytes .entry)))) (now (length .entry)) ⌝ }
+    ensures { λ r. ⌜ r ≡ lineCode (Writing.written (dimensions n «left_rows» «right_rows» «public_rows») (now (gates .entry)) line (now (bytes .entry))) ⌝ }
+    ensures { λ _. ⌜ now (bytes .exit) ≡ Writing.filled (dimensions n «left_rows» «right_rows» «public_rows») (now (gates .entry)) line (now (bytes .entry)) ⌝ }
+    ensures { λ _. ⌜ now (length .exit) ≡ numbersOr (lineNumbers (Writing.written (dimensions n «left_rows» «right_rows» «public_rows») (now (gates .entry)) line (now (bytes .entry)))) (now (length .entry)) ⌝ }
 {
-    let d = codes::dimensions(n, left_rows, right_rows);
+    let d = codes::dimensions(n, left_rows, right_rows, public_rows);
     match bristol::write_line(d, gates, line as usize, bytes) {
         Written::Line(k) => {
             *length = [k as u64];
@@ -120,16 +141,17 @@ pub extern "C" fn forkhemit_write_lines(
     n: u64,
     left_rows: u64,
     right_rows: u64,
+    public_rows: u64,
     gates: &[u32],
     line: u64,
     bytes: &mut [u8],
     written: &mut [u64; 2],
 ) -> u8
-    ensures { λ r. ⌜ r ≡ linesCode (Writing.writtenLines (dimensions n «left_rows» «right_rows») (now (gates .entry)) line (now (bytes .entry))) ⌝ }
-    ensures { λ _. ⌜ now (bytes .exit) ≡ Writing.filledLines (dimensions n «left_rows» «right_rows») (now (gates .entry)) line (now (bytes .entry)) ⌝ }
-    ensures { λ _. ⌜ now (written .exit) ≡ numbersOr (linesNumbers (Writing.writtenLines (dimensions n «left_rows» «right_rows») (now (gates .entry)) line (now (bytes .entry)))) (now (written .entry)) ⌝ }
+    ensures { λ r. ⌜ r ≡ linesCode (Writing.writtenLines (dimensions n «left_rows» «right_rows» «public_rows») (now (gates .entry)) line (now (bytes .entry))) ⌝ }
+    ensures { λ _. ⌜ now (bytes .exit) ≡ Writing.filledLines (dimensions n «left_rows» «right_rows» «public_rows») (now (gates .entry)) line (now (bytes .entry)) ⌝ }
+    ensures { λ _. ⌜ now (written .exit) ≡ numbersOr (linesNumbers (Writing.writtenLines (dimensions n «left_rows» «right_rows» «public_rows») (now (gates .entry)) line (now (bytes .entry)))) (now (written .entry)) ⌝ }
 {
-    let d = codes::dimensions(n, left_rows, right_rows);
+    let d = codes::dimensions(n, left_rows, right_rows, public_rows);
     match bristol::write_lines(d, gates, line as usize, bytes) {
         WrittenLines::Lines(count, size) => {
             *written = [count as u64, size as u64];

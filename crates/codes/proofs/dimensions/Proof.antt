@@ -13,8 +13,15 @@ byte-requires-2 c κs = search needs
 byte-requires-3 : tie.Need-byte-requires-3
 byte-requires-3 c κs = search needs
 
+byte-requires-4 : tie.Need-byte-requires-4
+byte-requires-4 c κs = search needs
+
 returns : tie.Need-returns
-returns c = λ i. record { n = c .before .before .byte .ensures i; left = c .before .byte2 .ensures i; right = c .byte3 .ensures i }
+returns c =
+    let at-right = c .before in
+    let at-left = at-right .before in
+    let at-n = at-left .before in
+    λ i. record { n = at-n .byte .ensures i; left = at-left .byte2 .ensures i; right = at-right .byte3 .ensures i; public = c .byte4 .ensures i }
 
 pub dimensions-spec : {M : Type 1} → statement M
-dimensions-spec = tie.close (tie.spec byte-requires byte-requires-2 byte-requires-3 returns)
+dimensions-spec = tie.close (tie.spec byte-requires byte-requires-2 byte-requires-3 byte-requires-4 returns)

@@ -1,13 +1,31 @@
--- `forkhemit_generate` meets its contract: words and count by the numbers as bytes are those by the numbers, and the count is written where the generator gives one.
+-- `forkhemit_generate` meets its contract: words and count by the numbers as bytes are those by the numbers, and the count is written where
+-- the generator gives one.
 -- Assumes nothing.
-use mathlib.Core.Path.{sym, ap, _∙_}
+use mathlib.Core.Path.{_≡_, sym, ap, _∙_}
+use Rattle.dimensions.specs.declared.Dimensions.{Dimensions}
+use Rattle.dimensions.specs.Sizes.{dimensions}
 use Rattle.generator.specs.declared.Generated.{Generated}
-use Rattle.generator.specs.Generation.{generatedCode, generatedNumbers}
+use Rattle.generator.specs.Generation.{generated, generatedCode, generatedNumbers}
 use Rattle.lent.specs.Lent.{numbersOr}
 use Rattle.host_circuits.proofs.HostNumbers.{generate-is, gates-are, carried-is}
 use borrow.Author.Needs.{needs}
 use Rattle.host_circuits.proofs.forkhemit_generate.Statement.{statement}
 use Rattle.host_circuits.proofs.forkhemit_generate.Tie as tie
+
+-- where the code starts, from the first call
+abbrev start : tie.After-dimensions → tie.Start
+start c = c .before .before
+
+-- the dimensions that are asked for
+abbrev asked : tie.Start → Dimensions
+asked s = dimensions (s .args .n) (s .args .left-rows) (s .args .right-rows) (s .args .public-rows)
+
+-- what the generator gives is what it gives for those
+answered : (c : tie.After-generate) → let s = start (c .before .before) in c .generate .result ≡ generated (asked s) (s .args .gates .now)
+answered c =
+    let dims = c .before .before in
+    let s = start dims in
+    generate-is (asked s) _ (dims .dimensions .ensures) (s .args .gates .now) _ (c .generate .ensures .0)
 
 dimensions-requires : tie.Need-dimensions-requires
 dimensions-requires c κs = search needs
@@ -26,15 +44,16 @@ returns c =
     let told = c .before .before in
     let generate = told .before .before .before .before in
     let dims = generate .before .before in
-    let a = dims .before .before .args in
+    let s = start dims in
+    let words = s .args .gates .now in
     let g = generate .generate .ensures in
-    let is = sym (told .k .given .1) ∙ generate-is (a .n) (a .left-rows) (a .right-rows) _ (dims .dimensions .ensures) (a .gates .now) _ (g .0) in (
+    let is = sym (told .k .given .1) ∙ answered generate in (
       ap generatedCode is,
       (
-        gates-are (a .n) (a .left-rows) (a .right-rows) _ (dims .dimensions .ensures) (a .gates .now) _ (g .1 .0),
+        gates-are (asked s) _ (dims .dimensions .ensures) words _ (g .1 .0),
         (
-          ap (λ (x : Generated). numbersOr (generatedNumbers x) (a .count .now)) is,
-          carried-is (a .n) (a .left-rows) (a .right-rows) _ (dims .dimensions .ensures) (a .gates .now) _ _ (g .0) (g .1 .1 .0),
+          ap (λ (x : Generated). numbersOr (generatedNumbers x) (s .args .count .now)) is,
+          carried-is (asked s) _ (dims .dimensions .ensures) words _ _ (g .0) (g .1 .1 .0),
         ),
       ),
     )
@@ -53,15 +72,16 @@ returns-2 c =
     let told = c .before .before in
     let generate = told .before .before .before .before in
     let dims = generate .before .before in
-    let a = dims .before .before .args in
+    let s = start dims in
+    let words = s .args .gates .now in
     let g = generate .generate .ensures in
-    let is = sym (told .refusal .given .1) ∙ generate-is (a .n) (a .left-rows) (a .right-rows) _ (dims .dimensions .ensures) (a .gates .now) _ (g .0) in (
+    let is = sym (told .refusal .given .1) ∙ answered generate in (
       c .number .ensures ∙ ap generatedCode is,
       (
-        gates-are (a .n) (a .left-rows) (a .right-rows) _ (dims .dimensions .ensures) (a .gates .now) _ (g .1 .0),
+        gates-are (asked s) _ (dims .dimensions .ensures) words _ (g .1 .0),
         (
-          ap (λ (x : Generated). numbersOr (generatedNumbers x) (a .count .now)) is,
-          carried-is (a .n) (a .left-rows) (a .right-rows) _ (dims .dimensions .ensures) (a .gates .now) _ _ (g .0) (g .1 .1 .0),
+          ap (λ (x : Generated). numbersOr (generatedNumbers x) (s .args .count .now)) is,
+          carried-is (asked s) _ (dims .dimensions .ensures) words _ _ (g .0) (g .1 .1 .0),
         ),
       ),
     )

@@ -3,11 +3,25 @@
 use mathlib.Core.Path.{ap, _∙_}
 use lib.ListN.{length}
 use Rattle.refusals.specs.Numbers.{codeOf}
-use Rattle.tables.specs.Tables.{allTables}
+use Rattle.dimensions.specs.declared.Dimensions.{Dimensions}
+use Rattle.dimensions.specs.Sizes.{dimensions}
+use Rattle.tables.specs.Tables.{Tables, allTables}
 use Rattle.host_circuits.proofs.HostNumbers.{check-is, packed-is}
 use borrow.Author.Needs.{needs}
 use Rattle.host_circuits.proofs.forkhemit_pack.Statement.{statement}
 use Rattle.host_circuits.proofs.forkhemit_pack.Tie as tie
+
+-- where the code starts, from the first call
+abbrev start : tie.After-dimensions → tie.Start
+start c = c .before .before .before .before .before
+
+-- the dimensions that are asked for
+abbrev asked : tie.Start → Dimensions
+asked s = dimensions (s .args .n) (s .args .left-rows) (s .args .right-rows) (s .args .public-rows)
+
+-- the tables
+abbrev tables : tie.Start → Tables
+tables s = allTables (s .args .left .now) (s .args .right .now) (s .args .public .now)
 
 dimensions-requires : tie.Need-dimensions-requires
 dimensions-requires c κs = search needs
@@ -29,11 +43,12 @@ returns c =
     let pack = c .before .before .before in
     let load = pack .before .before in
     let dims = load .before .before in
-    let a = dims .before .before .before .before .args in
+    let s = start dims in
+    let bytes = s .args .bytes .now in
     let held = load .load .ensures in (
       c .code .ensures
-          ∙ ap codeOf (check-is (a .n) (a .left-rows) (a .right-rows) _ (dims .dimensions .ensures) (allTables (a .left .now) (a .right .now)) (a .run .now) _ held (length (a .bytes .now)) _ (pack .pack .ensures .0)),
-      packed-is (a .n) (a .left-rows) (a .right-rows) _ (dims .dimensions .ensures) _ (a .run .now) _ held (a .bytes .now) _ (pack .pack .ensures .1),
+          ∙ ap codeOf (check-is (asked s) _ (dims .dimensions .ensures) (tables s) (s .args .run .now) _ held (length bytes) _ (pack .pack .ensures .0)),
+      packed-is (asked s) _ (dims .dimensions .ensures) _ (s .args .run .now) _ held bytes _ (pack .pack .ensures .1),
     )
 
 pub forkhemit-pack-spec : {M : Type 1} → statement M

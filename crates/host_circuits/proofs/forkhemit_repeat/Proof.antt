@@ -1,4 +1,5 @@
--- `forkhemit_repeat` meets its contract: the repeats by the numbers as bytes are those by the numbers; they are of the run in the words, and last run, number and mark are written where they are taken.
+-- `forkhemit_repeat` meets its contract: the repeats by the numbers as bytes are those by the numbers; they are of the run in the words, and
+-- last run, number and mark are written where they are taken.
 -- Assumes nothing.
 use mathlib.Core.Path.{_≡_, refl, sym, ap, _∙_}
 use mathlib.Core.Bool.{Bool, true, false}
@@ -9,19 +10,61 @@ use Rattle.words.specs.Booleans.{digit}
 use Rattle.refusals.specs.Checks.{given}
 use Rattle.refusals.specs.Numbers.{codeOf}
 use Rattle.refusals.specs.declared.Outcome.{Outcome}
-use Rattle.tables.specs.Tables.{allTables}
-use Rattle.repeats.specs.declared.Repeated.{Repeated}
+use Rattle.dimensions.specs.declared.Dimensions.{Dimensions}
+use Rattle.dimensions.specs.Sizes.{dimensions}
+use Rattle.tables.specs.Tables.{Tables, allTables}
+use Rattle.stored.specs.Words.{runIn}
 use Rattle.lent.specs.Lent.{storedIf}
 use Rattle.host_circuits.specs.Circuits.{repeatStored, repeatNumbers}
-use Rattle.host_circuits.proofs.HostNumbers.{repeat-is, repeat-gates-are, repeat-bytes-are, repeat-wires-are}
+use Rattle.host_circuits.proofs.HostNumbers.{repeatAll, repeat-is}
 use borrow.Author.Needs.{needs}
 use Rattle.host_circuits.proofs.forkhemit_repeat.Statement.{statement}
 use Rattle.host_circuits.proofs.forkhemit_repeat.Tie as tie
+
+-- ---- the places of the code, each from the one behind it
+
+abbrev slices : tie.After-shared-slice-known3 → tie.Start
+slices c = c .before .before .before
+
+abbrev start : tie.After-dimensions → tie.Start
+start c = slices (c .before .before .before .before)
+
+abbrev loaded : tie.After-repeat → tie.After-load
+loaded c = c .before .before .before .before
+
+abbrev bytes-known : tie.After-last → tie.After-bytes
+bytes-known c = c .before .before .before .before
+
+abbrev repeat-at : tie.After-last → tie.After-repeat
+repeat-at c = bytes-known c .before .before .before
+
+-- the dimensions that are asked for
+abbrev asked : tie.Start → Dimensions
+asked s = dimensions (s .args .n) (s .args .left-rows) (s .args .right-rows) (s .args .public-rows)
+
+-- the tables
+abbrev tables : tie.Start → Tables
+tables s = allTables (s .args .left .now) (s .args .right .now) (s .args .public .now)
 
 -- the mark as a number
 bool-digit : (b : Bool) → boolByte b ≡ digit b
 bool-digit true = refl
 bool-digit false = refl
+
+-- what the repeats give, and leave in gate words, bytes and wires, is what they give for those
+by-numbers : (c : tie.After-repeat) →
+    let s = start (loaded c .before .before) in
+    let after = c .repeat .last .1 .1 .1 .1 .1 in
+    (c .repeat .result, (after .0, (after .1 .0, after .1 .1 .0)))
+    ≡ repeatAll (asked s) (tables s) (s .args .times) (s .args .gates .now) (s .args .bytes .now) (s .args .wires .now) (runIn (s .args .run .now))
+by-numbers c =
+    let load = loaded c in
+    let dims = load .before .before in
+    let s = start dims in
+    let e = c .repeat .ensures in
+    repeat-is (asked s) _ (dims .dimensions .ensures) (tables s) (s .args .run .now) _ (load .load .ensures)
+    (s .args .times) (s .args .gates .now) (s .args .bytes .now) (s .args .wires .now) _
+    (λ i. (e .0 i, (e .1 .0 i, (e .1 .1 .0 i, e .1 .1 .1 i))))
 
 dimensions-requires : tie.Need-dimensions-requires
 dimensions-requires c κs = search needs
@@ -53,40 +96,33 @@ same-length-3 c = search needs
 returns : tie.Need-returns
 returns c =
     let matched = c .before .before in
-    let wires = matched .before .before .before .before in
-    let repeat = wires .before .before .before .before .before in
-    let load = repeat .before .before .before .before in
-    let dims = load .before .before in
-    let known = dims .before .before .before in
-    let a = known .before .before .before .args in
-    let tables = allTables (a .left .now) (a .right .now) in
-    let held = load .load .ensures in
-    let e = repeat .repeat .ensures in
+    let repeat = repeat-at (matched .before .before) in
+    let s = start (loaded repeat .before .before) in
     let done = repeat .repeat .result in
-    let is = repeat-is (a .n) (a .left-rows) (a .right-rows) _ (dims .dimensions .ensures) tables (a .run .now) _ held (a .times) (a .gates .now) (a .bytes .now) (a .wires .now) _ (e .0) in
+    let all = by-numbers repeat in
     let told = sym (matched .outcome .given .1) in (
-      c .number .ensures ∙ ap codeOf told ∙ ap (λ (x : Repeated). codeOf (x .outcome)) is,
+      c .number .ensures ∙ ap codeOf told ∙ (λ i. codeOf (all i .0 .outcome)),
       (
-        repeat-gates-are (a .n) (a .left-rows) (a .right-rows) _ (dims .dimensions .ensures) tables (a .run .now) _ held (a .times) (a .gates .now) (a .bytes .now) (a .wires .now) _ (e .1 .0),
+        λ i. all i .1 .0,
         (
-          repeat-bytes-are (a .n) (a .left-rows) (a .right-rows) _ (dims .dimensions .ensures) tables (a .run .now) _ held (a .times) (a .gates .now) (a .bytes .now) (a .wires .now) _ (e .1 .1 .0),
+          λ i. all i .1 .1 .0,
           (
-            repeat-wires-are (a .n) (a .left-rows) (a .right-rows) _ (dims .dimensions .ensures) tables (a .run .now) _ held (a .times) (a .gates .now) (a .bytes .now) (a .wires .now) _ (e .1 .1 .1),
+            λ i. all i .1 .1 .1,
             (
-              ap (λ (o : Outcome). storedIf o (done .run) (a .run .now)) told ∙ ap (λ (x : Repeated). repeatStored x (a .run .now)) is,
-              ap (λ (o : Outcome). given o (done .repeats ∷ (digit (done .mark) ∷ [])) (λ q. a .repeated .now)) told
-                  ∙ ap (λ (x : Repeated). repeatNumbers x (a .repeated .now)) is,
+              ap (λ (o : Outcome). storedIf o (done .run) (s .args .run .now)) told ∙ (λ i. repeatStored (all i .0) (s .args .run .now)),
+              ap (λ (o : Outcome). given o (done .repeats ∷ (digit (done .mark) ∷ [])) (λ q. s .args .repeated .now)) told
+                  ∙ (λ i. repeatNumbers (all i .0) (s .args .repeated .now)),
             ),
           ),
         ),
       ),
     )
 
+cast-mark : tie.Need-cast-mark
+cast-mark c = search needs
+
 words-requires : tie.Need-words-requires
 words-requires c κs = search needs
-
-cast-t25 : tie.Need-cast-t25
-cast-t25 c = search needs
 
 same-length-4 : tie.Need-same-length-4
 same-length-4 c = search needs
@@ -99,32 +135,27 @@ same-length-6 c = search needs
 
 returns-2 : tie.Need-returns-2
 returns-2 c =
-    let words = c .before .before in
-    let matched = words .before in
-    let wires = matched .before .before .before .before in
-    let repeat = wires .before .before .before .before .before in
-    let load = repeat .before .before .before .before in
-    let dims = load .before .before in
-    let known = dims .before .before .before in
-    let a = known .before .before .before .args in
-    let tables = allTables (a .left .now) (a .right .now) in
-    let held = load .load .ensures in
-    let e = repeat .repeat .ensures in
+    let words = c .before in
+    let matched = words .before .before in
+    let repeat = repeat-at (matched .before .before) in
+    let s = start (loaded repeat .before .before) in
     let done = repeat .repeat .result in
-    let is = repeat-is (a .n) (a .left-rows) (a .right-rows) _ (dims .dimensions .ensures) tables (a .run .now) _ held (a .times) (a .gates .now) (a .bytes .now) (a .wires .now) _ (e .0) in
+    let all = by-numbers repeat in
     let told = sym (matched .enum-told .given .1) in (
-      ap codeOf told ∙ ap (λ (x : Repeated). codeOf (x .outcome)) is,
+      ap codeOf told ∙ (λ i. codeOf (all i .0 .outcome)),
       (
-        repeat-gates-are (a .n) (a .left-rows) (a .right-rows) _ (dims .dimensions .ensures) tables (a .run .now) _ held (a .times) (a .gates .now) (a .bytes .now) (a .wires .now) _ (e .1 .0),
+        λ i. all i .1 .0,
         (
-          repeat-bytes-are (a .n) (a .left-rows) (a .right-rows) _ (dims .dimensions .ensures) tables (a .run .now) _ held (a .times) (a .gates .now) (a .bytes .now) (a .wires .now) _ (e .1 .1 .0),
+          λ i. all i .1 .1 .0,
           (
-            repeat-wires-are (a .n) (a .left-rows) (a .right-rows) _ (dims .dimensions .ensures) tables (a .run .now) _ held (a .times) (a .gates .now) (a .bytes .now) (a .wires .now) _ (e .1 .1 .1),
+            λ i. all i .1 .1 .1,
             (
-              words .words .ensures ∙ ap (λ (o : Outcome). storedIf o (done .run) (a .run .now)) told ∙ ap (λ (x : Repeated). repeatStored x (a .run .now)) is,
+              words .words .ensures
+                  ∙ ap (λ (o : Outcome). storedIf o (done .run) (s .args .run .now)) told
+                  ∙ (λ i. repeatStored (all i .0) (s .args .run .now)),
               ap (λ (k : ℕ). done .repeats ∷ (k ∷ [])) (bool-digit (done .mark))
-                  ∙ ap (λ (o : Outcome). given o (done .repeats ∷ (digit (done .mark) ∷ [])) (λ q. a .repeated .now)) told
-                  ∙ ap (λ (x : Repeated). repeatNumbers x (a .repeated .now)) is,
+                  ∙ ap (λ (o : Outcome). given o (done .repeats ∷ (digit (done .mark) ∷ [])) (λ q. s .args .repeated .now)) told
+                  ∙ (λ i. repeatNumbers (all i .0) (s .args .repeated .now)),
             ),
           ),
         ),
@@ -145,8 +176,8 @@ forkhemit-repeat-spec =
     same-length-2
     same-length-3
     returns
+    cast-mark
     words-requires
-    cast-t25
     same-length-4
     same-length-5
     same-length-6

@@ -1,14 +1,25 @@
--- `forkhemit_sizes` meets its contract: the numbers as bytes give what the numbers give, written where they are within the limits; three times the ceiling is no overflow.
+-- `forkhemit_sizes` meets its contract: the numbers as bytes give what the numbers give, written where they are within the limits; three
+-- times the ceiling is no overflow.
 -- Assumes nothing.
 use mathlib.Core.Path.{sym, ap, _∙_}
 use mathlib.Core.List.{[], _∷_}
 use Prim.Native.Nat.{_*_}
 use native.Mathlib.Omega.{arith}
 use Rattle.refusals.specs.Numbers.{codeOf}
+use Rattle.dimensions.specs.declared.Dimensions.{Dimensions}
+use Rattle.dimensions.specs.Sizes.{dimensions}
 use Rattle.host_circuits.proofs.HostNumbers.{size-is, sizes-refused, sizes-taken, sizes-are, ceiling-low}
 use borrow.Author.Needs.{needs}
 use Rattle.host_circuits.proofs.forkhemit_sizes.Statement.{statement}
 use Rattle.host_circuits.proofs.forkhemit_sizes.Tie as tie
+
+-- where the code starts, from the first call
+abbrev start : tie.After-dimensions → tie.Start
+start c = c .before
+
+-- the dimensions that are asked for
+abbrev asked : tie.Start → Dimensions
+asked s = dimensions (s .args .n) (s .args .left-rows) (s .args .right-rows) (s .args .public-rows)
 
 dimensions-requires : tie.Need-dimensions-requires
 dimensions-requires c κs = search needs
@@ -30,20 +41,20 @@ returns c =
     let told = c .before .before in
     let check = told .before .before in
     let dims = check .before in
-    let a = dims .before .args in
+    let s = start dims in
     let is = sym (check .check .ensures) ∙ told .refusal .given .1 in (
-      c .number .ensures ∙ ap codeOf (size-is (a .n) (a .left-rows) (a .right-rows) _ (dims .dimensions .ensures) _ (sym is)),
-      sizes-are (a .n) (a .left-rows) (a .right-rows) _ (dims .dimensions .ensures) (a .sizes .now) _ (sizes-refused (dims .dimensions .result) _ is (a .sizes .now)),
+      c .number .ensures ∙ ap codeOf (size-is (asked s) _ (dims .dimensions .ensures) _ (sym is)),
+      sizes-are (asked s) _ (dims .dimensions .ensures) (s .args .sizes .now) _ (sizes-refused (dims .dimensions .result) _ is (s .args .sizes .now)),
     )
 
 ceiling-requires : tie.Need-ceiling-requires
 ceiling-requires c κs = search needs
 
-mul-t10 : tie.Need-mul-t10
-mul-t10 c =
+mul-words : tie.Need-mul-words
+mul-words c =
     let dims = c .before .before .before .before in
-    let a = dims .before .args in
-    record { fits = omega (arith, ceiling-low (a .n) (a .left-rows) (a .right-rows) _ (dims .dimensions .ensures) _ (c .ceiling .ensures)) }
+    let s = start dims in
+    record { fits = omega (arith, ceiling-low (asked s) _ (dims .dimensions .ensures) _ (c .ceiling .ensures)) }
 
 input-wires-requires : tie.Need-input-wires-requires
 input-wires-requires c κs = search needs
@@ -59,12 +70,12 @@ returns-2 c =
     let told = ceiling .before in
     let check = told .before .before in
     let dims = check .before in
-    let a = dims .before .args in
+    let s = start dims in
     let k = ceiling .ceiling .ensures in
     let is = sym (check .check .ensures) ∙ told .enum-told .given .1 in (
-      ap codeOf (size-is (a .n) (a .left-rows) (a .right-rows) _ (dims .dimensions .ensures) _ (sym is)),
+      ap codeOf (size-is (asked s) _ (dims .dimensions .ensures) _ (sym is)),
       (λ i. k i ∷ (3 * k i ∷ (inputs .input-wires .ensures i ∷ (state .state-wires .ensures i ∷ []))))
-          ∙ sizes-are (a .n) (a .left-rows) (a .right-rows) _ (dims .dimensions .ensures) (a .sizes .now) _ (sizes-taken (dims .dimensions .result) (a .sizes .now) is),
+          ∙ sizes-are (asked s) _ (dims .dimensions .ensures) (s .args .sizes .now) _ (sizes-taken (dims .dimensions .result) (s .args .sizes .now) is),
     )
 
 pub forkhemit-sizes-spec : {M : Type 1} → statement M
@@ -78,7 +89,7 @@ forkhemit-sizes-spec =
     number-requires
     returns
     ceiling-requires
-    mul-t10
+    mul-words
     input-wires-requires
     state-wires-requires
     returns-2)

@@ -1,14 +1,33 @@
 -- `forkhemit_solve` meets its contract: the run by the numbers as bytes is that by the numbers, and the answer's numbers are written where it gives one.
 -- Assumes nothing.
-use mathlib.Core.Path.{sym, ap, _∙_}
+use mathlib.Core.Path.{_≡_, sym, ap, _∙_}
 use mathlib.Core.List.{[], _∷_}
+use Rattle.dimensions.specs.declared.Dimensions.{Dimensions}
+use Rattle.dimensions.specs.Sizes.{dimensions}
+use Rattle.tables.specs.Tables.{Tables, allTables}
 use Rattle.solver.specs.declared.Solved.{Solved}
-use Rattle.solver.specs.Entries.{solvedCode, solvedNumbers}
+use Rattle.solver.specs.Entries.{solved, solvedCode, solvedNumbers}
 use Rattle.lent.specs.Lent.{numbersOr}
 use Rattle.host_runs.proofs.HostNumbers.{solve-is}
 use borrow.Author.Needs.{needs}
 use Rattle.host_runs.proofs.forkhemit_solve.Statement.{statement}
 use Rattle.host_runs.proofs.forkhemit_solve.Tie as tie
+
+-- where the code starts, from the first call
+abbrev start : tie.After-dimensions → tie.Start
+start c = c .before .before .before .before
+
+-- the dimensions that are asked for
+abbrev asked : tie.Start → Dimensions
+asked s = dimensions (s .args .n) (s .args .left-rows) (s .args .right-rows) (s .args .public-rows)
+
+-- the tables
+abbrev tables : tie.Start → Tables
+tables s = allTables (s .args .left .now) (s .args .right .now) (s .args .public .now)
+
+-- the answer is that of the dimensions asked for
+answered : (c : tie.After-solve) → let s = start (c .before) in c .solve .result ≡ solved (asked s) (tables s) (s .args .budget)
+answered c = let s = start (c .before) in solve-is (asked s) _ (c .before .dimensions .ensures) _ (s .args .budget) _ (c .solve .ensures .0)
 
 dimensions-requires : tie.Need-dimensions-requires
 dimensions-requires c κs = search needs
@@ -31,13 +50,11 @@ returns c =
     let number = word .before in
     let told = number .before .before in
     let solve = told .before .before in
-    let dims = solve .before in
-    let a = dims .before .before .before .args in
-    let e = solve-is (a .n) (a .left-rows) (a .right-rows) _ (dims .dimensions .ensures) _ (a .budget) _ (solve .solve .ensures .0) in
-    let is = sym (told .given .given .1) ∙ e in (
+    let lent = start (solve .before) .args .answer .now in
+    let is = sym (told .given .given .1) ∙ answered solve in (
       ap solvedCode is,
       (λ i. told .given .given .0 .0 .count ∷ (number .verdict-number .ensures i ∷ (word .model-word .ensures i ∷ [])))
-          ∙ ap (λ (s : Solved). numbersOr (solvedNumbers s) (a .answer .now)) is,
+          ∙ ap (λ (s : Solved). numbersOr (solvedNumbers s) lent) is,
     )
 
 enum-known-refusal : tie.Need-enum-known-refusal
@@ -50,11 +67,9 @@ returns-2 : tie.Need-returns-2
 returns-2 c =
     let told = c .before .before in
     let solve = told .before .before in
-    let dims = solve .before in
-    let a = dims .before .before .before .args in
-    let e = solve-is (a .n) (a .left-rows) (a .right-rows) _ (dims .dimensions .ensures) _ (a .budget) _ (solve .solve .ensures .0) in
-    let is = sym (told .refusal .given .1) ∙ e in
-    (c .number .ensures ∙ ap solvedCode is, ap (λ (s : Solved). numbersOr (solvedNumbers s) (a .answer .now)) is)
+    let lent = start (solve .before) .args .answer .now in
+    let is = sym (told .refusal .given .1) ∙ answered solve in
+    (c .number .ensures ∙ ap solvedCode is, ap (λ (s : Solved). numbersOr (solvedNumbers s) lent) is)
 
 pub forkhemit-solve-spec : {M : Type 1} → statement M
 forkhemit-solve-spec =

@@ -1,6 +1,8 @@
 -- `forkhemit_step` meets its contract: the step by the numbers as bytes is that by the numbers; it is of the run in the words, and stored where it is taken.
 -- Assumes nothing.
 use mathlib.Core.Path.{ap, _∙_}
+use Rattle.dimensions.specs.declared.Dimensions.{Dimensions}
+use Rattle.dimensions.specs.Sizes.{dimensions}
 use Rattle.solver.specs.declared.Stepped.{Stepped}
 use Rattle.refusals.specs.Numbers.{codeOf}
 use Rattle.host_runs.specs.Runs.{stepStored}
@@ -8,6 +10,14 @@ use Rattle.host_runs.proofs.HostNumbers.{step-is}
 use borrow.Author.Needs.{needs}
 use Rattle.host_runs.proofs.forkhemit_step.Statement.{statement}
 use Rattle.host_runs.proofs.forkhemit_step.Tie as tie
+
+-- where the code starts, from the first call
+abbrev start : tie.After-dimensions → tie.Start
+start c = c .before .before .before .before
+
+-- the dimensions that are asked for
+abbrev asked : tie.Start → Dimensions
+asked s = dimensions (s .args .n) (s .args .left-rows) (s .args .right-rows) (s .args .public-rows)
 
 dimensions-requires : tie.Need-dimensions-requires
 dimensions-requires c κs = search needs
@@ -30,9 +40,10 @@ returns c =
     let step = store .before .before .before in
     let load = step .before in
     let dims = load .before .before in
-    let a = dims .before .before .before .args in
-    let e = step-is (a .n) (a .left-rows) (a .right-rows) _ (dims .dimensions .ensures) _ (a .run .now) _ (load .load .ensures) _ (step .step-lent .ensures) in
-    (c .code .ensures ∙ ap (λ (x : Stepped). codeOf (x .outcome)) e, store .store-if .ensures ∙ ap (λ (x : Stepped). stepStored x (a .run .now)) e)
+    let s = start dims in
+    let words = s .args .run .now in
+    let e = step-is (asked s) _ (dims .dimensions .ensures) _ words _ (load .load .ensures) _ (step .step-lent .ensures) in
+    (c .code .ensures ∙ ap (λ (x : Stepped). codeOf (x .outcome)) e, store .store-if .ensures ∙ ap (λ (x : Stepped). stepStored x words) e)
 
 pub forkhemit-step-spec : {M : Type 1} → statement M
 forkhemit-step-spec =

@@ -1,13 +1,31 @@
 -- `forkhemit_write_line` meets its contract: the line by the numbers as bytes is that by the numbers, and its length is written where the writer gives one.
 -- Assumes nothing.
-use mathlib.Core.Path.{sym, ap, _∙_}
+use mathlib.Core.Path.{_≡_, sym, ap, _∙_}
+use Rattle.dimensions.specs.declared.Dimensions.{Dimensions}
+use Rattle.dimensions.specs.Sizes.{dimensions}
 use Rattle.bristol.specs.declared.Written.{Written}
-use Rattle.bristol.specs.Writing.{lineCode, lineNumbers}
+use Rattle.bristol.specs.Writing.{written, lineCode, lineNumbers}
 use Rattle.lent.specs.Lent.{numbersOr}
 use Rattle.host_texts.proofs.HostNumbers.{line-is, line-bytes-are}
 use borrow.Author.Needs.{needs}
 use Rattle.host_texts.proofs.forkhemit_write_line.Statement.{statement}
 use Rattle.host_texts.proofs.forkhemit_write_line.Tie as tie
+
+-- where the code starts, from the first call
+abbrev start : tie.After-dimensions → tie.Start
+start c = c .before .before .before
+
+-- the dimensions that are asked for
+abbrev asked : tie.Start → Dimensions
+asked s = dimensions (s .args .n) (s .args .left-rows) (s .args .right-rows) (s .args .public-rows)
+
+-- what the writer gives is what it gives for those
+answered : (c : tie.After-write-line) → let s = start (c .before .before) in
+    c .write-line .result ≡ written (asked s) (s .args .gates .now) (s .args .line) (s .args .bytes .now)
+answered c =
+    let dims = c .before .before in
+    let a = start dims .args in
+    line-is (a .gates .now) (a .line) (a .bytes .now) (asked (start dims)) _ (dims .dimensions .ensures) _ (c .write-line .ensures .0)
 
 dimensions-requires : tie.Need-dimensions-requires
 dimensions-requires c κs = search needs
@@ -26,12 +44,12 @@ returns c =
     let told = c .before .before in
     let write = told .before .before .before .before in
     let dims = write .before .before in
-    let a = dims .before .before .before .args in
-    let w = write .write-line .ensures in
-    let is = sym (told .k .given .1) ∙ line-is (a .gates .now) (a .line) (a .bytes .now) (a .n) (a .left-rows) (a .right-rows) _ (dims .dimensions .ensures) _ (w .0) in (
+    let s = start dims in
+    let a = s .args in
+    let is = sym (told .k .given .1) ∙ answered write in (
       ap lineCode is,
       (
-        line-bytes-are (a .gates .now) (a .line) (a .bytes .now) (a .n) (a .left-rows) (a .right-rows) _ (dims .dimensions .ensures) _ (w .1 .0),
+        line-bytes-are (a .gates .now) (a .line) (a .bytes .now) (asked s) _ (dims .dimensions .ensures) _ (write .write-line .ensures .1 .0),
         ap (λ (x : Written). numbersOr (lineNumbers x) (a .length .now)) is,
       ),
     )
@@ -47,12 +65,12 @@ returns-2 c =
     let told = c .before in
     let write = told .before .before .before .before in
     let dims = write .before .before in
-    let a = dims .before .before .before .args in
-    let w = write .write-line .ensures in
-    let is = sym (told .enum-told .given .1) ∙ line-is (a .gates .now) (a .line) (a .bytes .now) (a .n) (a .left-rows) (a .right-rows) _ (dims .dimensions .ensures) _ (w .0) in (
+    let s = start dims in
+    let a = s .args in
+    let is = sym (told .enum-told .given .1) ∙ answered write in (
       ap lineCode is,
       (
-        line-bytes-are (a .gates .now) (a .line) (a .bytes .now) (a .n) (a .left-rows) (a .right-rows) _ (dims .dimensions .ensures) _ (w .1 .0),
+        line-bytes-are (a .gates .now) (a .line) (a .bytes .now) (asked s) _ (dims .dimensions .ensures) _ (write .write-line .ensures .1 .0),
         ap (λ (x : Written). numbersOr (lineNumbers x) (a .length .now)) is,
       ),
     )
@@ -71,12 +89,12 @@ returns-3 c =
     let told = c .before .before in
     let write = told .before .before .before .before in
     let dims = write .before .before in
-    let a = dims .before .before .before .args in
-    let w = write .write-line .ensures in
-    let is = sym (told .refusal .given .1) ∙ line-is (a .gates .now) (a .line) (a .bytes .now) (a .n) (a .left-rows) (a .right-rows) _ (dims .dimensions .ensures) _ (w .0) in (
+    let s = start dims in
+    let a = s .args in
+    let is = sym (told .refusal .given .1) ∙ answered write in (
       c .number .ensures ∙ ap lineCode is,
       (
-        line-bytes-are (a .gates .now) (a .line) (a .bytes .now) (a .n) (a .left-rows) (a .right-rows) _ (dims .dimensions .ensures) _ (w .1 .0),
+        line-bytes-are (a .gates .now) (a .line) (a .bytes .now) (asked s) _ (dims .dimensions .ensures) _ (write .write-line .ensures .1 .0),
         ap (λ (x : Written). numbersOr (lineNumbers x) (a .length .now)) is,
       ),
     )
