@@ -1,5 +1,5 @@
 //! Times the proved evaluator beside its own gate loop in Rust without checks, beside other forms of that loop, and beside two passes
-//! that judge too, on circuits of 200,000 gates.
+//! that judge too, on circuits of 200,000 gates and on the largest circuit of the giant step, of n = 32 and m = 384.
 //! Linked with the library that `make lib` writes.
 
 use std::time::{Duration, Instant};
@@ -9,6 +9,15 @@ const GATES: usize = 200_000;
 const RUNS: usize = 1_000;
 
 extern "C" {
+    fn forkhemit_generate(
+        n: u64,
+        left_rows: u64,
+        right_rows: u64,
+        public_rows: u64,
+        gates: *mut u32,
+        gate_words: usize,
+        count: &mut [u64; 1],
+    ) -> u8;
     fn forkhemit_evaluate(
         gates: *const u32,
         gate_words: usize,
@@ -125,6 +134,17 @@ fn circuit(kinds: &[u32], at_random: bool, near: u64, numbers: &mut Numbers) -> 
     words
 }
 
+/// The giant step's circuit of n = 32 and 128 rows in each table, and how many inputs it has.
+fn largest() -> (Vec<u32>, usize) {
+    let (n, m) = (32, 384);
+    let mut words = vec![0; 3 * 64 * (m + n + 1) * (n + 1)];
+    let mut count = [0];
+    // The words and the count are lent for the call.
+    assert_eq!(unsafe { forkhemit_generate(32, 128, 128, 128, words.as_mut_ptr(), words.len(), &mut count) }, 0);
+    words.truncate(3 * count[0] as usize);
+    (words, 2 * n * m + 3 * n * n + 3 * n + 3)
+}
+
 /// How long a run takes.
 fn timed(mut run: impl FnMut()) -> Duration {
     let start = Instant::now();
@@ -136,6 +156,23 @@ fn timed(mut run: impl FnMut()) -> Duration {
 fn median(mut times: Vec<Duration>) -> f64 {
     times.sort();
     times[times.len() / 2].as_secs_f64() * 1e6
+}
+
+/// Times all forms on a circuit with random inputs, side by side, and prints a line.
+fn compared(label: &str, gates: &[u32], inputs: usize, numbers: &mut Numbers) {
+    let inputs: Vec<u8> = (0..inputs).map(|_| numbers.below(2) as u8).collect();
+    let mut wires = vec![vec![7; inputs.len() + gates.len() / 3]; 5];
+    let mut times = vec![vec![]; 5];
+    for _ in 0..RUNS {
+        times[0].push(timed(|| assert_eq!(proved(gates, &inputs, &mut wires[0]), 0)));
+        times[1].push(timed(|| by_a_shift(gates, &inputs, &mut wires[1])));
+        times[2].push(timed(|| gates_alone(gates, &inputs, &mut wires[2])));
+        times[3].push(timed(|| assert!(same_passes(gates, &inputs, &mut wires[3]))));
+        times[4].push(timed(|| same_loop(gates, &inputs, &mut wires[4])));
+    }
+    assert!(wires.iter().all(|filled| filled == &wires[0]), "all fill the same wires");
+    let [p, l, g, s, t] = [0, 1, 2, 3, 4].map(|k| median(times[k].clone()));
+    println!("{label:<30}{p:>5.0} us{:>11.2}{:>12.2}{:>13.2}{:>13.2}", t / p, l / p, g / p, s / p);
 }
 
 fn main() {
@@ -155,18 +192,8 @@ fn main() {
         ("a cell's kinds, near wires", false, 200),
     ] {
         let gates = circuit(&cell, at_random, near, &mut numbers);
-        let inputs: Vec<u8> = (0..INPUTS).map(|_| numbers.below(2) as u8).collect();
-        let mut wires = vec![vec![7; INPUTS + GATES]; 5];
-        let mut times = vec![vec![]; 5];
-        for _ in 0..RUNS {
-            times[0].push(timed(|| assert_eq!(proved(&gates, &inputs, &mut wires[0]), 0)));
-            times[1].push(timed(|| by_a_shift(&gates, &inputs, &mut wires[1])));
-            times[2].push(timed(|| gates_alone(&gates, &inputs, &mut wires[2])));
-            times[3].push(timed(|| assert!(same_passes(&gates, &inputs, &mut wires[3]))));
-            times[4].push(timed(|| same_loop(&gates, &inputs, &mut wires[4])));
-        }
-        assert!(wires.iter().all(|filled| filled == &wires[0]), "all fill the same wires");
-        let [p, l, g, s, t] = [0, 1, 2, 3, 4].map(|k| median(times[k].clone()));
-        println!("{label:<30}{p:>5.0} us{:>11.2}{:>12.2}{:>13.2}{:>13.2}", t / p, l / p, g / p, s / p);
+        compared(label, &gates, INPUTS, &mut numbers);
     }
+    let (gates, inputs) = largest();
+    compared(&format!("n = 32, m = 384: {} gates", gates.len() / 3), &gates, inputs, &mut numbers);
 }

@@ -1,23 +1,28 @@
-//! Times the library as a host calls it: the giant step and the reader beside plain Rust, and the making of circuits.
+//! Times the library as a host calls it: the giant step, the reader and the writer beside plain Rust, and the making of circuits.
 //! All times are the processor's. Linked with the archive that `make lib` writes.
 
 mod plain;
 
 use forkhemit_tests::clock::{self, median};
 use forkhemit_tests::memory;
-use forkhemit_tests::model::{self, Row};
+use forkhemit_tests::model::{self, Row, Size};
 use forkhemit_tests::random::Random;
-use forkhemit_tests::{layout, tables};
+use forkhemit_tests::{layout, tables, wires};
 
 #[rustfmt::skip]
 #[link(name = "forkhemit", kind = "static")]
 extern "C" {
-    fn forkhemit_read_pair(left_text: *const u8, left_text_length: usize, right_text: *const u8, right_text_length: usize,
-        left: *mut u32, left_length: usize, right: *mut u32, right_length: usize, sizes: &mut [u64; 3]) -> u8;
-    fn forkhemit_solve(n: u64, left_rows: u64, right_rows: u64, left: *const u32, left_length: usize,
-        right: *const u32, right_length: usize, budget: u64, answer: &mut [u64; 3]) -> u8;
-    fn forkhemit_generate(n: u64, left_rows: u64, right_rows: u64, gates: *mut u32, gates_length: usize,
+    fn forkhemit_read_tables(left_text: *const u8, left_text_length: usize, right_text: *const u8, right_text_length: usize,
+        public_text: *const u8, public_text_length: usize, left: *mut u32, left_length: usize, right: *mut u32, right_length: usize,
+        public_table: *mut u32, public_length: usize, sizes: &mut [u64; 4]) -> u8;
+    fn forkhemit_step(n: u64, left_rows: u64, right_rows: u64, public_rows: u64, left: *const u32, left_length: usize,
+        right: *const u32, right_length: usize, public_table: *const u32, public_length: usize, run: &mut [u32; 101]) -> u8;
+    fn forkhemit_solve(n: u64, left_rows: u64, right_rows: u64, public_rows: u64, left: *const u32, left_length: usize,
+        right: *const u32, right_length: usize, public_table: *const u32, public_length: usize, budget: u64, answer: &mut [u64; 3]) -> u8;
+    fn forkhemit_generate(n: u64, left_rows: u64, right_rows: u64, public_rows: u64, gates: *mut u32, gates_length: usize,
         count: &mut [u64; 1]) -> u8;
+    fn forkhemit_write_lines(n: u64, left_rows: u64, right_rows: u64, public_rows: u64, gates: *const u32, gates_length: usize,
+        line: u64, bytes: *mut u8, bytes_length: usize, written: &mut [u64; 2]) -> u8;
 }
 
 const RUNS: usize = 25;
@@ -26,27 +31,39 @@ const SEED: u64 = 4_300;
 
 // ---- The giant step
 
-/// Rows of three different variables, left half and right half in words.
-fn hard(n: usize, m: usize, seed: u64) -> [Vec<u32>; 2] {
+/// So many rows as three tables: halves where two tables can hold them, else 128 of them public.
+fn size(n: usize, m: usize) -> Size {
+    let public = if m > 256 { 128 } else { 0 };
+    let left = (m - public) / 2;
+    Size { n, left, right: m - public - left, public }
+}
+
+/// Rows of three different variables, and padding behind them; as words of three tables.
+fn hard(n: usize, m: usize, padding: usize, seed: u64) -> [Vec<u32>; 3] {
     let random = &mut Random::new(seed);
-    let rows: Vec<Row> = (0..m).map(|_| tables::strict(n, 3, random)).collect();
-    [&rows[..m / 2], &rows[m / 2..]].map(memory::row_words)
+    let mut rows: Vec<Row> = (0..m - padding).map(|_| tables::strict(n, 3, random)).collect();
+    rows.extend(vec![vec![1, -1]; padding]);
+    let Size { left, right, .. } = size(n, m);
+    [&rows[..left], &rows[left..left + right], &rows[left + right..]].map(memory::row_words)
 }
 
 /// The library's budgeted run, its budget the greatest.
-fn solve(n: usize, [left, right]: &[Vec<u32>; 2]) -> [u64; 3] {
+fn solve(n: usize, [left, right, public]: &[Vec<u32>; 3]) -> [u64; 3] {
     let mut answer = [0; 3];
-    let (rows, other) = (left.len() as u64 / 2, right.len() as u64 / 2);
+    let [l, r, p] = [left, right, public].map(|words| words.len() as u64 / 2);
     // The tables and the answer are lent for the call.
     let number = unsafe {
         forkhemit_solve(
             n as u64,
-            rows,
-            other,
+            l,
+            r,
+            p,
             left.as_ptr(),
             left.len(),
             right.as_ptr(),
             right.len(),
+            public.as_ptr(),
+            public.len(),
             u64::MAX,
             &mut answer,
         )
@@ -55,9 +72,30 @@ fn solve(n: usize, [left, right]: &[Vec<u32>; 2]) -> [u64; 3] {
     answer
 }
 
+/// One step of the library's, the tables and the run being judged.
+fn step(n: usize, [left, right, public]: &[Vec<u32>; 3], run: &mut [u32; 101]) -> u8 {
+    let [l, r, p] = [left, right, public].map(|words| words.len() as u64 / 2);
+    // The tables and the run are lent for the call.
+    unsafe {
+        forkhemit_step(
+            n as u64,
+            l,
+            r,
+            p,
+            left.as_ptr(),
+            left.len(),
+            right.as_ptr(),
+            right.len(),
+            public.as_ptr(),
+            public.len(),
+            run,
+        )
+    }
+}
+
 /// The library's run beside the plain one, over all tables; the median over repeated rounds.
-fn steps(n: usize, m: usize) {
-    let all: Vec<[Vec<u32>; 2]> = (0..TABLES).map(|k| hard(n, m, SEED + k as u64)).collect();
+fn steps(n: usize, m: usize, padding: usize) {
+    let all: Vec<[Vec<u32>; 3]> = (0..TABLES).map(|k| hard(n, m, padding, SEED + k as u64)).collect();
     let joined: Vec<Vec<u32>> = all.iter().map(|tables| tables.concat()).collect();
     let (mut proved, mut plain) = (vec![], vec![]);
     let mut count = 0;
@@ -70,10 +108,40 @@ fn steps(n: usize, m: usize) {
         plain.push(other * 1e3 / count as f64);
     }
     let (a, b) = (median(proved), median(plain));
+    let padded = if padding > 0 { format!(", {padding} of them padding") } else { String::new() };
     println!(
-        "giant step, n = {n}, m = {m}: {a:.0} ns, plain Rust {b:.0} ns, ratio {:.2} ({count} steps of {TABLES} tables)",
+        "giant step, n = {n}, m = {m}{padded}: {a:.0} ns, plain Rust {b:.0} ns, ratio {:.2} ({count} steps of {TABLES} tables)",
         a / b
     );
+}
+
+/// Steps that are called one by one beside plain Rust that judges tables and run before each step too.
+fn single_steps(n: usize, m: usize, padding: usize) {
+    let all: Vec<[Vec<u32>; 3]> = (0..TABLES).map(|k| hard(n, m, padding, SEED + k as u64)).collect();
+    let joined: Vec<Vec<u32>> = all.iter().map(|tables| tables.concat()).collect();
+    let counts: Vec<u64> = joined.iter().map(|rows| plain::solve(rows, 50)[0]).collect();
+    let total: u64 = counts.iter().sum();
+    let mut fresh = [0; 101];
+    fresh[0] = n as u32;
+    let (mut proved, mut plain) = (vec![], vec![]);
+    for _ in 0..RUNS {
+        let (mut runs, mut others) = (vec![fresh; TABLES], vec![fresh; TABLES]);
+        let (_, time) = clock::of(|| {
+            for ((tables, run), &count) in all.iter().zip(&mut runs).zip(&counts) {
+                (0..count).for_each(|_| assert_eq!(step(n, tables, run), 0));
+            }
+        });
+        let (_, other) = clock::of(|| {
+            for ((rows, run), &count) in joined.iter().zip(&mut others).zip(&counts) {
+                (0..count).for_each(|_| assert!(plain::step(n as u32, rows, run)));
+            }
+        });
+        assert_eq!(runs, others, "both leave the same runs");
+        proved.push(time * 1e3 / total as f64);
+        plain.push(other * 1e3 / total as f64);
+    }
+    let (a, b) = (median(proved), median(plain));
+    println!("a step by itself, n = {n}, m = {m}: {a:.0} ns, plain Rust {b:.0} ns, ratio {:.2} ({total} steps)", a / b);
 }
 
 // ---- The reader
@@ -120,20 +188,25 @@ fn amid(random: &mut Random) -> Vec<u8> {
     text
 }
 
-/// The library's reader of two texts.
-fn read_pair(left: &[u8], right: &[u8], words: &mut [Vec<u32>; 2], sizes: &mut [u64; 3]) -> u8 {
+/// The library's reader of texts: two, and a public one without rows.
+fn read_tables(left: &[u8], right: &[u8], words: &mut [Vec<u32>; 2], sizes: &mut [u64; 4]) -> u8 {
+    let public = b"p cnf 32 0\n";
     let [l, r] = words;
     // The texts, words and sizes are lent for the call.
     unsafe {
-        forkhemit_read_pair(
+        forkhemit_read_tables(
             left.as_ptr(),
             left.len(),
             right.as_ptr(),
             right.len(),
+            public.as_ptr(),
+            public.len(),
             l.as_mut_ptr(),
             l.len(),
             r.as_mut_ptr(),
             r.len(),
+            [].as_mut_ptr(),
+            0,
             sizes,
         )
     }
@@ -145,13 +218,13 @@ fn reader(what: &str, make: fn(&mut Random) -> Vec<u8>) {
     let texts: Vec<[Vec<u8>; 2]> = (0..20).map(|_| [make(random), make(random)]).collect();
     let bytes: usize = texts.iter().map(|pair| pair[0].len() + pair[1].len()).sum();
     assert!(texts.iter().flatten().all(|text| text.len() <= model::TEXT_LIMIT), "a text is not overlong");
-    let (mut words, mut sizes) = ([vec![0; 256], vec![0; 256]], [0; 3]);
+    let (mut words, mut sizes) = ([vec![0; 256], vec![0; 256]], [0; 4]);
     let mut others = [Vec::with_capacity(256), Vec::with_capacity(256)];
     let (mut proved, mut plain) = (vec![], vec![]);
     for _ in 0..RUNS {
         let mut round = (0.0, 0.0);
         for [left, right] in &texts {
-            let (number, time) = clock::of(|| read_pair(left, right, &mut words, &mut sizes));
+            let (number, time) = clock::of(|| read_tables(left, right, &mut words, &mut sizes));
             assert_eq!(number, 0, "the texts are read");
             let (n, other) = clock::of(|| (plain::read(left, &mut others[0]), plain::read(right, &mut others[1])));
             assert_eq!((n, &others), ((Ok(32), Ok(32)), &words), "both give the same rows");
@@ -167,34 +240,84 @@ fn reader(what: &str, make: fn(&mut Random) -> Vec<u8>) {
 
 // ---- Circuits
 
+/// Makes the circuit of a size into words that have room for it; how many gates.
+fn generate(size: Size, gates: &mut [u32]) -> usize {
+    let Size { n, left, right, public } = size;
+    let [n, left, right, public] = [n, left, right, public].map(|number| number as u64);
+    let mut count = [0];
+    // The words and the count are lent for the call.
+    let number = unsafe { forkhemit_generate(n, left, right, public, gates.as_mut_ptr(), gates.len(), &mut count) };
+    assert_eq!(number, 0, "there is room for the gates");
+    count[0] as usize
+}
+
 /// Times the generator for a size and counts its gates.
 fn circuit(n: usize, m: usize) {
-    let mut gates = vec![0u32; 3 * model::ceiling(n, m)];
-    let mut count = [0];
+    let mut gates = vec![0u32; 3 * size(n, m).ceiling()];
+    let mut count = 0;
     let mut times = vec![];
     for _ in 0..RUNS {
-        // The words and the count are lent for the call.
-        let (number, time) = clock::of(|| unsafe {
-            forkhemit_generate(n as u64, m as u64 / 2, (m - m / 2) as u64, gates.as_mut_ptr(), gates.len(), &mut count)
-        });
-        assert_eq!(number, 0, "there is room for the gates");
+        let (made, time) = clock::of(|| generate(size(n, m), &mut gates));
+        count = made;
         times.push(time);
     }
-    let count = count[0] as usize;
     let ands = gates[..3 * count].chunks(3).filter(|gate| gate[0] == 1).count();
     let each = ands as f64 / (n * m) as f64;
     println!("circuit, n = {n}, m = {m}: {count} gates, {ands} AND, made in {:.0} us; {each:.1} AND a row times variable, {:.2} of 72", median(times), each / 72.0);
 }
 
-fn main() {
-    for (n, m) in [(20, 86), (26, 112), (32, 138)] {
-        steps(n, m);
+/// Writes a circuit's text with one call; how many bytes.
+fn write(size: Size, gates: &[u32], bytes: &mut [u8]) -> usize {
+    let Size { n, left, right, public } = size;
+    let [n, left, right, public] = [n, left, right, public].map(|number| number as u64);
+    let mut written = [0; 2];
+    // The gates, the bytes and the numbers are lent for the call.
+    let number = unsafe {
+        let (words, room) = (gates.len(), bytes.len());
+        forkhemit_write_lines(n, left, right, public, gates.as_ptr(), words, 0, bytes.as_mut_ptr(), room, &mut written)
+    };
+    assert_eq!((number, written[0] as usize), (0, 4 + gates.len() / 3), "there is room for all lines");
+    written[1] as usize
+}
+
+/// Times the writer of a circuit's text beside plain Rust that judges the gates too.
+fn text(n: usize, m: usize) {
+    let size = size(n, m);
+    let mut gates = vec![0u32; 3 * size.ceiling()];
+    let count = generate(size, &mut gates);
+    gates.truncate(3 * count);
+    let widths = wires::input_widths(size);
+    let mut bytes = vec![0; 40 * (4 + count)];
+    let mut others = Vec::with_capacity(bytes.len());
+    let (mut proved, mut plain) = (vec![], vec![]);
+    let mut length = 0;
+    for _ in 0..RUNS {
+        let (written, time) = clock::of(|| write(size, &gates, &mut bytes));
+        let (judged, other) = clock::of(|| plain::text(&widths, wires::state_width(n), &gates, &mut others));
+        assert!(judged && bytes[..written] == others[..], "both write the same text");
+        length = written;
+        proved.push(written as f64 / time);
+        plain.push(written as f64 / other);
     }
+    let (a, b) = (median(proved), median(plain));
+    println!("text, n = {n}, m = {m}: {length} bytes, {a:.0} MB/s, plain Rust {b:.0} MB/s, ratio {:.2}", b / a);
+}
+
+fn main() {
+    for (n, m) in [(20, 86), (26, 112), (32, 138), (32, 384)] {
+        steps(n, m, 0);
+    }
+    steps(32, 384, 246);
+    single_steps(32, 138, 0);
+    single_steps(32, 384, 0);
     reader("literals again and again", repeated);
     reader("mostly separators", spaced);
     reader("a long remark", remarked);
     reader("a remark before every clause", amid);
-    for (n, m) in [(4, 12), (8, 32), (16, 64), (20, 91), (32, 256)] {
+    for (n, m) in [(4, 12), (8, 32), (16, 64), (20, 91), (32, 256), (32, 384)] {
         circuit(n, m);
+    }
+    for (n, m) in [(20, 91), (32, 256), (32, 384)] {
+        text(n, m);
     }
 }

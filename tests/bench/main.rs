@@ -1,7 +1,8 @@
 //! Times the pair program beside other solvers, as whole processes. Use: bench PAIR
-//! Every accepted public file is split in halves for the pair program and given whole to the others, beforehand.
+//! Every accepted public file is split in halves for the pair program, with no public rows, and given whole to the others, beforehand.
 
-use forkhemit_tests::{clock, layout, public};
+use forkhemit_tests::process::NAMES;
+use forkhemit_tests::{clock, layout, published};
 use std::fs;
 use std::path::{Path, PathBuf};
 use std::process::{Command, Stdio};
@@ -71,16 +72,17 @@ fn process(label: &str, folder: &Path, program: &Path, arguments: &[&str], input
 /// The pair program beside the other solvers, each by its whole path, on every accepted public file.
 fn solvers(pair: &Path, others: &[PathBuf], room: &Path) -> std::io::Result<()> {
     let mut ratios = vec![];
-    for file in public::files(&Path::new(env!("CARGO_MANIFEST_DIR")).join("dimacs"))? {
+    for file in published::files(&Path::new(env!("CARGO_MANIFEST_DIR")).join("dimacs"))? {
         if file.refused.is_some() {
             continue;
         }
-        let (n, left, right) = public::halves(&file.text);
+        let halves = published::halves(&file.text);
         let folder = room.join(&file.name);
         fs::create_dir_all(&folder)?;
-        fs::write(folder.join("left.cnf"), layout::plain(n, &left))?;
-        fs::write(folder.join("right.cnf"), layout::plain(n, &right))?;
-        fs::write(folder.join("joined.cnf"), layout::plain(n, &[left, right].concat()))?;
+        for (name, text) in NAMES.iter().zip(halves.texts()) {
+            fs::write(folder.join(name), text)?;
+        }
+        fs::write(folder.join("joined.cnf"), layout::plain(halves.n, &halves.tables.concat()))?;
         fs::write(folder.join("budget"), format!("{}\n", u64::MAX))?;
         let mut contenders = vec![process("pair", &folder, pair, &[], "budget")];
         for ((solver, quiet), path) in SOLVERS.iter().zip(others) {

@@ -26,30 +26,44 @@ fn chosen(t: u32, f: u32, free: u32) -> (Level, u32) {
     ((t, f, variable), t | 1 << variable)
 }
 
-/// The budgeted run over row words, two a row: count, verdict and model as the library numbers them. It scans the rows of
-/// both tables in order and ends at the first conflict.
+/// What a look at all rows finds: a conflict; the first unit row's free variable and its positive word; all free variables.
+struct Scan {
+    conflict: bool,
+    unit: u32,
+    positive: u32,
+    free: u32,
+}
+
+/// Looks at the rows of all tables in order, up to the first conflict.
+#[inline(always)]
+fn scan(rows: &[u32], t: u32, f: u32) -> Scan {
+    let unset = !(t | f);
+    let mut found = Scan { conflict: false, unit: 0, positive: 0, free: 0 };
+    for row in rows.chunks_exact(2) {
+        if row[0] & row[1] | row[0] & t | row[1] & f != 0 {
+            continue;
+        }
+        let open = (row[0] | row[1]) & unset;
+        if open == 0 {
+            found.conflict = true;
+            break;
+        }
+        found.free |= open;
+        if found.unit == 0 && open & (open - 1) == 0 {
+            (found.unit, found.positive) = (open, row[0]);
+        }
+    }
+    found
+}
+
+/// The budgeted run over row words, two a row: count, verdict and model as the library numbers them.
 pub fn solve(rows: &[u32], budget: u64) -> [u64; 3] {
     let (mut t, mut f) = (0u32, 0u32);
     let mut levels = [(0u32, 0u32, 0u32); 32];
     let (mut depth, mut count) = (0, 0);
     while count < budget {
         count += 1;
-        let unset = !(t | f);
-        let (mut conflict, mut unit, mut positive, mut free) = (false, 0u32, 0u32, 0u32);
-        for row in rows.chunks_exact(2) {
-            if row[0] & row[1] | row[0] & t | row[1] & f != 0 {
-                continue;
-            }
-            let open = (row[0] | row[1]) & unset;
-            if open == 0 {
-                conflict = true;
-                break;
-            }
-            free |= open;
-            if unit == 0 && open & (open - 1) == 0 {
-                (unit, positive) = (open, row[0]);
-            }
-        }
+        let Scan { conflict, unit, positive, free } = scan(rows, t, f);
         if conflict {
             if depth == 0 {
                 return [count, 2, 0];
@@ -66,6 +80,106 @@ pub fn solve(rows: &[u32], budget: u64) -> [u64; 3] {
         }
     }
     [count, 0, 0]
+}
+
+/// One step of a run of 101 words, or false where a row has a bit at or above n or the run is no well-formed one of n variables.
+pub fn step(n: u32, rows: &[u32], run: &mut [u32; 101]) -> bool {
+    let beyond = u32::MAX.checked_shl(n).unwrap_or(0);
+    if rows.iter().any(|word| word & beyond != 0) || !well_formed(n, run) {
+        return false;
+    }
+    if run[1] != 0 {
+        return true;
+    }
+    let (t, f, depth) = (run[2], run[3], run[4] as usize);
+    let Scan { conflict, unit, positive, free } = scan(rows, t, f);
+    if conflict && depth == 0 {
+        run[1] = 2;
+    } else if conflict {
+        let at = 5 + 3 * (depth - 1);
+        (run[2], run[3]) = restored((run[at], run[at + 1], run[at + 2]));
+        run[at..at + 3].fill(0);
+        run[4] -= 1;
+    } else if free == 0 {
+        run[1] = 1;
+    } else if unit != 0 {
+        (run[2], run[3]) = forced(t, f, unit, positive);
+    } else {
+        let at = 5 + 3 * depth;
+        let (level, after) = chosen(t, f, free);
+        (run[at], run[at + 1], run[at + 2]) = level;
+        run[2] = after;
+        run[4] += 1;
+    }
+    true
+}
+
+/// Whether the words are a run of n variables: each level lies within the next, its variable free before and true then.
+fn well_formed(n: u32, run: &[u32; 101]) -> bool {
+    let beyond = u32::MAX.checked_shl(n).unwrap_or(0);
+    let (t, f, depth) = (run[2], run[3], run[4] as usize);
+    if run[0] != n || run[1] > 2 || t & f | (t | f) & beyond != 0 || depth > n as usize {
+        return false;
+    }
+    let levels = &run[5..5 + 3 * depth];
+    let mut next = (t, f);
+    for level in levels.chunks_exact(3).rev() {
+        if level[2] >= n || level[0] & level[1] != 0 {
+            return false;
+        }
+        let chosen = 1 << level[2];
+        if (level[0] | level[1]) & chosen | !next.0 & (level[0] | chosen) | !next.1 & level[1] != 0 {
+            return false;
+        }
+        next = (level[0], level[1]);
+    }
+    run[5 + 3 * depth..].iter().all(|&word| word == 0)
+}
+
+/// A circuit's text with these input widths, into a buffer that is cleared first; false where the words are no gates.
+pub fn text(widths: &[usize], state: usize, gates: &[u32], text: &mut Vec<u8>) -> bool {
+    let inputs: usize = widths.iter().sum();
+    let judged = gates.chunks_exact(3).enumerate().all(|(g, gate)| {
+        let bound = if gate[2] == 0 && gate[0] == 2 { 1 } else { inputs + g };
+        gate[0] <= 2 && (gate[1] as usize) < inputs + g && (gate[2] as usize) < bound
+    });
+    let count = gates.len() / 3;
+    text.clear();
+    let mut line = |numbers: &[usize], end: &[u8]| {
+        for (k, &number) in numbers.iter().enumerate() {
+            if k > 0 {
+                text.push(b' ');
+            }
+            decimal(number, text);
+        }
+        text.extend(end);
+    };
+    line(&[count, inputs + count], b"\n");
+    line(&[&[widths.len()], widths].concat(), b"\n");
+    line(&[2, state, 1], b"\n\n");
+    for (g, gate) in gates.chunks_exact(3).enumerate() {
+        let (a, b, wire) = (gate[1] as usize, gate[2] as usize, inputs + g);
+        match gate[0] {
+            0 => line(&[2, 1, a, b, wire], b" XOR\n"),
+            1 => line(&[2, 1, a, b, wire], b" AND\n"),
+            _ => line(&[1, 1, a, wire], b" INV\n"),
+        }
+    }
+    judged
+}
+
+/// A number in decimal.
+fn decimal(mut number: usize, text: &mut Vec<u8>) {
+    let (mut digits, mut at) = ([0; 20], 20);
+    loop {
+        at -= 1;
+        digits[at] = b'0' + (number % 10) as u8;
+        number /= 10;
+        if number == 0 {
+            break;
+        }
+    }
+    text.extend(&digits[at..]);
 }
 
 /// What stands before the clauses: n, the number of rows, and where the header's line ends; or the refusal's number.

@@ -1,8 +1,9 @@
 //! Times the pair program beside other solvers on random tables, as whole processes. Use: bench-tables PAIR
-//! Rows have three different variables, 4.3 of them a variable, split evenly between the stations.
+//! Rows have three different variables, 4.3 of them a variable, split evenly between the stations; and as many as all tables hold.
 
 use forkhemit_tests::clock::{self, median};
 use forkhemit_tests::model::Row;
+use forkhemit_tests::process::NAMES;
 use forkhemit_tests::random::Random;
 use forkhemit_tests::{layout, tables};
 use std::fs;
@@ -45,8 +46,11 @@ fn time((_, program, arguments): &Contender, folder: &Path) -> std::io::Result<[
 fn table(all: &[Contender], room: &Path, n: usize, m: usize, seed: u64) -> std::io::Result<Vec<[f64; 2]>> {
     let random = &mut Random::new(seed);
     let rows: Vec<Row> = (0..m).map(|_| tables::strict(n, 3, random)).collect();
-    fs::write(room.join("left.cnf"), layout::plain(n, &rows[..m / 2]))?;
-    fs::write(room.join("right.cnf"), layout::plain(n, &rows[m / 2..]))?;
+    let stations = m.min(256);
+    let tables = [&rows[..stations / 2], &rows[stations / 2..stations], &rows[stations..]];
+    for (name, rows) in NAMES.iter().zip(tables) {
+        fs::write(room.join(name), layout::plain(n, rows))?;
+    }
     fs::write(room.join("joined.cnf"), layout::plain(n, &rows))?;
     let mut least = vec![[f64::MAX; 2]; all.len()];
     for run in 0..RUNS {
@@ -59,10 +63,10 @@ fn table(all: &[Contender], room: &Path, n: usize, m: usize, seed: u64) -> std::
     Ok(least)
 }
 
-/// Times every contender on random tables of three sizes.
+/// Times every contender on random tables of four sizes.
 fn run(all: &[Contender], room: &Path) -> std::io::Result<()> {
     println!("whole processes on {TABLES} random tables each, microseconds: the median of the tables, each the least of {RUNS} runs");
-    for (n, m) in [(20, 86), (26, 112), (32, 138)] {
+    for (n, m) in [(20, 86), (26, 112), (32, 138), (32, 384)] {
         let times =
             (0..TABLES).map(|k| table(all, room, n, m, SEED + k as u64)).collect::<std::io::Result<Vec<_>>>()?;
         for (kind, what) in ["time", "processor time"].iter().enumerate() {

@@ -1,35 +1,40 @@
 //! Calls of the library as data: the function, its numbers and the memory that it is lent; and how one is made.
 
+use forkhemit_tests::model::Size;
 use std::fmt;
 
 #[rustfmt::skip]
 mod library {
     #[link(name = "forkhemit", kind = "static")]
     extern "C" {
-        pub fn forkhemit_sizes(n: u64, left_rows: u64, right_rows: u64, sizes: *mut u64) -> u8;
-        pub fn forkhemit_read_pair(left_text: *const u8, left_text_length: usize, right_text: *const u8, right_text_length: usize,
-            left: *mut u32, left_length: usize, right: *mut u32, right_length: usize, sizes: *mut u64) -> u8;
-        pub fn forkhemit_accept(n: u64, left_rows: u64, right_rows: u64, left: *const u32, left_length: usize,
-            right: *const u32, right_length: usize) -> u8;
+        pub fn forkhemit_sizes(n: u64, left_rows: u64, right_rows: u64, public_rows: u64, sizes: *mut u64) -> u8;
+        pub fn forkhemit_read_tables(left_text: *const u8, left_text_length: usize, right_text: *const u8, right_text_length: usize,
+            public_text: *const u8, public_text_length: usize, left: *mut u32, left_length: usize, right: *mut u32, right_length: usize,
+            public_table: *mut u32, public_length: usize, sizes: *mut u64) -> u8;
+        pub fn forkhemit_accept(n: u64, left_rows: u64, right_rows: u64, public_rows: u64, left: *const u32, left_length: usize,
+            right: *const u32, right_length: usize, public_table: *const u32, public_length: usize) -> u8;
         pub fn forkhemit_fresh(n: u64, run: *mut u32) -> u8;
-        pub fn forkhemit_step(n: u64, left_rows: u64, right_rows: u64, left: *const u32, left_length: usize,
-            right: *const u32, right_length: usize, run: *mut u32) -> u8;
-        pub fn forkhemit_solve(n: u64, left_rows: u64, right_rows: u64, left: *const u32, left_length: usize,
-            right: *const u32, right_length: usize, budget: u64, answer: *mut u64) -> u8;
+        pub fn forkhemit_step(n: u64, left_rows: u64, right_rows: u64, public_rows: u64, left: *const u32, left_length: usize,
+            right: *const u32, right_length: usize, public_table: *const u32, public_length: usize, run: *mut u32) -> u8;
+        pub fn forkhemit_solve(n: u64, left_rows: u64, right_rows: u64, public_rows: u64, left: *const u32, left_length: usize,
+            right: *const u32, right_length: usize, public_table: *const u32, public_length: usize, budget: u64, answer: *mut u64) -> u8;
         pub fn forkhemit_model(run: *const u32, model: *mut u64) -> u8;
-        pub fn forkhemit_generate(n: u64, left_rows: u64, right_rows: u64, gates: *mut u32, gates_length: usize, count: *mut u64) -> u8;
-        pub fn forkhemit_pack(n: u64, left_rows: u64, right_rows: u64, left: *const u32, left_length: usize,
-            right: *const u32, right_length: usize, run: *const u32, bytes: *mut u8, bytes_length: usize) -> u8;
+        pub fn forkhemit_generate(n: u64, left_rows: u64, right_rows: u64, public_rows: u64, gates: *mut u32, gates_length: usize,
+            count: *mut u64) -> u8;
+        pub fn forkhemit_pack(n: u64, left_rows: u64, right_rows: u64, public_rows: u64, left: *const u32, left_length: usize,
+            right: *const u32, right_length: usize, public_table: *const u32, public_length: usize, run: *const u32,
+            bytes: *mut u8, bytes_length: usize) -> u8;
         pub fn forkhemit_evaluate(gates: *const u32, gates_length: usize, inputs: *const u8, inputs_length: usize,
             wires: *mut u8, wires_length: usize) -> u8;
         pub fn forkhemit_read_back(n: u64, bytes: *const u8, bytes_length: usize, run: *mut u32) -> u8;
-        pub fn forkhemit_repeat(n: u64, left_rows: u64, right_rows: u64, left: *const u32, left_length: usize,
-            right: *const u32, right_length: usize, times: u64, gates: *mut u32, gates_length: usize, bytes: *mut u8, bytes_length: usize,
-            wires: *mut u8, wires_length: usize, run: *mut u32, repeated: *mut u64) -> u8;
-        pub fn forkhemit_write_line(n: u64, left_rows: u64, right_rows: u64, gates: *const u32, gates_length: usize, line: u64,
-            bytes: *mut u8, bytes_length: usize, length: *mut u64) -> u8;
-        pub fn forkhemit_write_lines(n: u64, left_rows: u64, right_rows: u64, gates: *const u32, gates_length: usize, line: u64,
-            bytes: *mut u8, bytes_length: usize, written: *mut u64) -> u8;
+        pub fn forkhemit_repeat(n: u64, left_rows: u64, right_rows: u64, public_rows: u64, left: *const u32, left_length: usize,
+            right: *const u32, right_length: usize, public_table: *const u32, public_length: usize, times: u64,
+            gates: *mut u32, gates_length: usize, bytes: *mut u8, bytes_length: usize, wires: *mut u8, wires_length: usize,
+            run: *mut u32, repeated: *mut u64) -> u8;
+        pub fn forkhemit_write_line(n: u64, left_rows: u64, right_rows: u64, public_rows: u64, gates: *const u32, gates_length: usize,
+            line: u64, bytes: *mut u8, bytes_length: usize, length: *mut u64) -> u8;
+        pub fn forkhemit_write_lines(n: u64, left_rows: u64, right_rows: u64, public_rows: u64, gates: *const u32, gates_length: usize,
+            line: u64, bytes: *mut u8, bytes_length: usize, written: *mut u64) -> u8;
         pub fn forkhemit_read_budget(line: *const u8, line_length: usize, budget: *mut u64) -> u8;
         pub fn forkhemit_answer(n: u64, count: u64, verdict: u64, model: u64, text: *mut u8, length: *mut u64) -> u8;
     }
@@ -38,7 +43,7 @@ mod library {
 #[derive(Clone, Copy, Debug, PartialEq)]
 pub enum Function {
     Sizes,
-    ReadPair,
+    ReadTables,
     Accept,
     Fresh,
     Step,
@@ -57,7 +62,7 @@ pub enum Function {
 
 pub const ALL: [Function; 16] = [
     Function::Sizes,
-    Function::ReadPair,
+    Function::ReadTables,
     Function::Accept,
     Function::Fresh,
     Function::Step,
@@ -122,6 +127,11 @@ impl Lent {
             Lent::Numbers(numbers) => numbers.len(),
         }
     }
+}
+
+/// A size as a call takes it.
+pub fn numbers(Size { n, left, right, public }: Size) -> Vec<u64> {
+    [n, left, right, public].map(|number| number as u64).to_vec()
 }
 
 /// A call: its numbers and its buffers, each in the order of the header.
@@ -233,21 +243,21 @@ impl Call {
         // Each pointer is that of a buffer of this kind and length, which lives until the call is over.
         unsafe {
             match self.function {
-                Function::Sizes => forkhemit_sizes(x(0), x(1), x(2), n(0)),
-                Function::ReadPair => forkhemit_read_pair(b(0), l(0), b(1), l(1), w(2), l(2), w(3), l(3), n(4)),
-                Function::Accept => forkhemit_accept(x(0), x(1), x(2), w(0), l(0), w(1), l(1)),
+                Function::Sizes => forkhemit_sizes(x(0), x(1), x(2), x(3), n(0)),
+                Function::ReadTables => forkhemit_read_tables(b(0), l(0), b(1), l(1), b(2), l(2), w(3), l(3), w(4), l(4), w(5), l(5), n(6)),
+                Function::Accept => forkhemit_accept(x(0), x(1), x(2), x(3), w(0), l(0), w(1), l(1), w(2), l(2)),
                 Function::Fresh => forkhemit_fresh(x(0), w(0)),
-                Function::Step => forkhemit_step(x(0), x(1), x(2), w(0), l(0), w(1), l(1), w(2)),
-                Function::Solve => forkhemit_solve(x(0), x(1), x(2), w(0), l(0), w(1), l(1), x(3), n(2)),
+                Function::Step => forkhemit_step(x(0), x(1), x(2), x(3), w(0), l(0), w(1), l(1), w(2), l(2), w(3)),
+                Function::Solve => forkhemit_solve(x(0), x(1), x(2), x(3), w(0), l(0), w(1), l(1), w(2), l(2), x(4), n(3)),
                 Function::Model => forkhemit_model(w(0), n(1)),
-                Function::Generate => forkhemit_generate(x(0), x(1), x(2), w(0), l(0), n(1)),
-                Function::Pack => forkhemit_pack(x(0), x(1), x(2), w(0), l(0), w(1), l(1), w(2), b(3), l(3)),
+                Function::Generate => forkhemit_generate(x(0), x(1), x(2), x(3), w(0), l(0), n(1)),
+                Function::Pack => forkhemit_pack(x(0), x(1), x(2), x(3), w(0), l(0), w(1), l(1), w(2), l(2), w(3), b(4), l(4)),
                 Function::Evaluate => forkhemit_evaluate(w(0), l(0), b(1), l(1), b(2), l(2)),
                 Function::ReadBack => forkhemit_read_back(x(0), b(0), l(0), w(1)),
-                Function::Repeat => forkhemit_repeat(x(0), x(1), x(2), w(0), l(0), w(1), l(1), x(3), w(2), l(2), b(3), l(3),
-                    b(4), l(4), w(5), n(6)),
-                Function::WriteLine => forkhemit_write_line(x(0), x(1), x(2), w(0), l(0), x(3), b(1), l(1), n(2)),
-                Function::WriteLines => forkhemit_write_lines(x(0), x(1), x(2), w(0), l(0), x(3), b(1), l(1), n(2)),
+                Function::Repeat => forkhemit_repeat(x(0), x(1), x(2), x(3), w(0), l(0), w(1), l(1), w(2), l(2), x(4), w(3), l(3),
+                    b(4), l(4), b(5), l(5), w(6), n(7)),
+                Function::WriteLine => forkhemit_write_line(x(0), x(1), x(2), x(3), w(0), l(0), x(4), b(1), l(1), n(2)),
+                Function::WriteLines => forkhemit_write_lines(x(0), x(1), x(2), x(3), w(0), l(0), x(4), b(1), l(1), n(2)),
                 Function::ReadBudget => forkhemit_read_budget(b(0), l(0), n(1)),
                 Function::Answer => forkhemit_answer(x(0), x(1), x(2), x(3), b(0), n(1)),
             }

@@ -1,11 +1,11 @@
 //! The library's circuits. Document 01 leaves their gates free: the first one of a size is judged by what it carries out, and
 //! every later one must be the same.
 
-use crate::calls::{Call, Function, Lent};
+use crate::calls::{self, Call, Function, Lent};
 use forkhemit_tests::bristol::Circuit;
 use forkhemit_tests::circuits;
-use forkhemit_tests::memory::{self, Size};
-use forkhemit_tests::model::{self, Row, Run};
+use forkhemit_tests::memory;
+use forkhemit_tests::model::{Row, Run, Size};
 use forkhemit_tests::random::Random;
 use forkhemit_tests::report::{Ledger, Tally};
 use forkhemit_tests::sections::{self, Section};
@@ -52,16 +52,16 @@ impl Circuits {
 
     /// Whether the words are gates, no more than allowed, that carry out the giant step on random states.
     fn judge(&self, size: Size, words: &[u32]) -> Result<(), String> {
-        let (n, left, right) = size;
-        let m = left + right;
+        let Size { n, left, right, public } = size;
+        let m = size.rows();
         let gates = memory::gates(words, memory::input_wires(size)).map_err(|_| "words that are no gates")?;
-        let state = wires::state_width(n);
-        let circuit = Circuit { inputs: vec![2 * n * left, 2 * n * right, state], outputs: vec![state, 1], gates };
+        let outputs = vec![wires::state_width(n), 1];
+        let circuit = Circuit { inputs: wires::input_widths(size), outputs, gates };
         let counts = (circuit.gates.len(), circuit.ands());
-        if counts.0 > model::ceiling(n, m) || counts != sections::totals(&self.sections, n, m) {
+        if counts.0 > size.ceiling() || counts != sections::totals(&self.sections, n, m) {
             return Err(format!("{} gates, {} of them AND", counts.0, counts.1));
         }
-        let random = &mut Random::new(SEED + (n << 16 | left << 8 | right) as u64);
+        let random = &mut Random::new(SEED + (public << 24 | n << 16 | left << 8 | right) as u64);
         let case = |_| {
             let run = states::random(n, random);
             (states::table(m, &run.values, random), run)
@@ -74,11 +74,11 @@ impl Circuits {
 }
 
 /// The gates as the library first gives them.
-fn generated((n, left, right): Size) -> Result<Vec<u32>, String> {
-    let room = 3 * model::ceiling(n, left + right);
+fn generated(size: Size) -> Result<Vec<u32>, String> {
+    let room = 3 * size.ceiling();
     let call = Call {
         function: Function::Generate,
-        numbers: vec![n as u64, left as u64, right as u64],
+        numbers: calls::numbers(size),
         lent: vec![Lent::Words(vec![0; room]), Lent::Numbers(vec![0])],
     };
     let given = call.make(0)?;

@@ -1,9 +1,9 @@
 //! Random calls: right ones of every function, and strokes of damage.
 
-use crate::calls::{Call, Function, Lent};
+use crate::calls::{numbers, Call, Function, Lent};
 use crate::circuits::Circuits;
-use forkhemit_tests::memory::{self, Size, RUN_WORDS};
-use forkhemit_tests::model::{self, Row, TEXT_LIMIT};
+use forkhemit_tests::memory::{self, RUN_WORDS};
+use forkhemit_tests::model::{self, Row, Size, TEXT_LIMIT};
 use forkhemit_tests::random::Random;
 use forkhemit_tests::{damage, layout, states, tables, wires};
 
@@ -82,7 +82,7 @@ fn room_for_run(random: &mut Random) -> Lent {
 
 // ---- Sizes, tables and runs
 
-/// Mostly small, and some of any size.
+/// Mostly small, and some of any size; of the small ones few have many public rows, since each size has a circuit of its own.
 fn some_size(random: &mut Random, small: bool) -> Size {
     let (n, rows) = match random.below(if small { 20 } else { 24 }) {
         0..=13 => (3, 3),
@@ -91,32 +91,31 @@ fn some_size(random: &mut Random, small: bool) -> Size {
         20 | 21 => (20, 40),
         _ => (32, 128),
     };
-    (random.between(1, n), random.between(1, rows), random.between(1, rows))
+    let public = one(&[0, 0, 1, random.between(0, rows)], random);
+    Size { n: random.between(1, n), left: random.between(1, rows), right: random.between(1, rows), public }
 }
 
 /// At the limits or near them.
 fn large_size(random: &mut Random) -> Size {
+    let public = one(&[0, 1, 128, 128, random.between(60, 128)], random);
     if random.once_in(2) {
-        return (32, 128, 128);
+        return Size { n: 32, left: 128, right: 128, public };
     }
-    (random.between(20, 32), random.between(60, 128), random.between(60, 128))
+    Size { n: random.between(20, 32), left: random.between(60, 128), right: random.between(60, 128), public }
 }
 
-/// A size as a call takes it.
-fn numbers((n, left, right): Size) -> Vec<u64> {
-    vec![n as u64, left as u64, right as u64]
-}
-
-/// Both tables in memory.
-fn lent_tables((_, left, _): Size, rows: &[Row], random: &mut Random) -> Vec<Lent> {
-    let words = [&rows[..left], &rows[left..]].map(memory::row_words);
+/// The tables in memory.
+pub fn lent_tables(size: Size, rows: &[Row], random: &mut Random) -> Vec<Lent> {
+    let (left, rest) = rows.split_at(size.left);
+    let (right, public) = rest.split_at(size.right);
+    let words = [left, right, public].map(memory::row_words);
     words.map(|words| words_with_more(words, random)).to_vec()
 }
 
 /// Tables and a run of their n, whose rows stand in every relation to it; one run in twenty is of some other n.
 fn tables_and_run(size: Size, random: &mut Random) -> (Vec<Lent>, Vec<u32>) {
-    let mut run = states::random(size.0, random);
-    let rows = states::table(size.1 + size.2, &run.values, random);
+    let mut run = states::random(size.n, random);
+    let rows = states::table(size.rows(), &run.values, random);
     if random.once_in(20) {
         let n = random.between(1, 32);
         run = states::random(n, random);
@@ -126,18 +125,18 @@ fn tables_and_run(size: Size, random: &mut Random) -> (Vec<Lent>, Vec<u32>) {
 
 // ---- Right calls
 
-/// Two texts, room for their rows, and room for their sizes.
+/// Three texts, room for their rows, and room for their sizes.
 fn texts(random: &mut Random) -> Vec<Lent> {
     let most = one(&[3, 6, 32], random);
     let mut n = random.between(1, most);
     let mut texts = vec![];
     let mut counts = vec![];
-    for _ in 0..2 {
+    for least in [1, 1, 0] {
         if random.once_in(20) {
             n = random.between(1, 32);
         }
         let most = one(&[3, 6, 128], random);
-        let count = random.between(1, most);
+        let count = if random.once_in(4) { least } else { random.between(least, most) };
         let widest = n.min(5);
         let rows: Vec<Row> = (0..count)
             .map(|_| {
@@ -153,7 +152,7 @@ fn texts(random: &mut Random) -> Vec<Lent> {
     }
     if random.once_in(300) {
         let length = random.between(TEXT_LIMIT - 1, TEXT_LIMIT + 1);
-        let k = random.below(2);
+        let k = random.below(3);
         texts[k].resize(length, b'\n');
     }
     for text in &mut texts {
@@ -163,20 +162,20 @@ fn texts(random: &mut Random) -> Vec<Lent> {
     }
     let mut lent: Vec<Lent> = texts.into_iter().map(Lent::Bytes).collect();
     lent.extend(counts.into_iter().map(|count| words_for(2 * count, random)));
-    lent.push(numbers_for(3, random));
+    lent.push(numbers_for(4, random));
     lent
 }
 
 /// Rows to be solved, and a budget in which the model comes to an end.
 fn to_solve(size: Size, random: &mut Random) -> (Vec<Row>, u64) {
-    let (n, left, right) = size;
+    let n = size.n;
     let widest = random.between(1, n.min(4));
     let row = |_| {
         let least = usize::from(!random.once_in(20));
         let width = random.between(least, widest);
         tables::strict(n, width, random)
     };
-    let rows: Vec<Row> = (0..left + right).map(row).collect();
+    let rows: Vec<Row> = (0..size.rows()).map(row).collect();
     let most = if n <= 9 { u64::MAX } else { 200 };
     let steps = model::run(n, &rows, most).steps;
     (rows, one(&[steps, steps, steps - 1, steps / 2, 0, most], random))
@@ -213,23 +212,26 @@ fn gates_of(size: Size, circuits: &Circuits, random: &mut Random) -> Result<Vec<
 }
 
 /// Gates, inputs, and room for the wires.
-fn evaluation(circuits: &Circuits, random: &mut Random) -> Result<Vec<Lent>, String> {
-    let (gates, inputs) = if random.once_in(4) {
-        let size = some_size(random, true);
-        let (tables, run) = tables_and_run(size, random);
-        let tables = [tables[0].words(), tables[1].words()];
-        let packed = memory::packed(size, tables, &run, usize::MAX);
-        let packed = packed.unwrap_or_else(|_| vec![1; memory::input_wires(size)]);
-        (gates_of(size, circuits, random)?, packed)
-    } else {
-        // 8,192 wires and more are evaluated in another way
-        let count = if random.once_in(50) { random.between(8_150, 8_400) } else { random.below(60) };
-        let inputs = random.below(30);
-        let inputs: Vec<u8> = (0..inputs).map(|_| random.below(2) as u8).collect();
-        (some_gates(inputs.len(), count, random), inputs)
-    };
+fn wired(gates: Vec<u32>, inputs: Vec<u8>, random: &mut Random) -> Vec<Lent> {
     let wires = inputs.len() + gates.len() / 3;
-    Ok(vec![Lent::Words(gates), Lent::Bytes(inputs), bytes_for(wires, random)])
+    vec![Lent::Words(gates), Lent::Bytes(inputs), bytes_for(wires, random)]
+}
+
+/// Any gates and inputs, to be evaluated. 8,192 wires and more are evaluated in another way than fewer.
+fn any_evaluation(random: &mut Random) -> Vec<Lent> {
+    let count = if random.once_in(50) { random.between(8_150, 8_400) } else { random.below(60) };
+    let inputs = random.below(30);
+    let inputs: Vec<u8> = (0..inputs).map(|_| random.below(2) as u8).collect();
+    let gates = some_gates(inputs.len(), count, random);
+    wired(gates, inputs, random)
+}
+
+/// Gates of a size and packed tables with a run, to be evaluated.
+fn evaluation(size: Size, circuits: &Circuits, random: &mut Random) -> Result<Vec<Lent>, String> {
+    let (tables, run) = tables_and_run(size, random);
+    let packed = memory::packed(size, [0, 1, 2].map(|k| tables[k].words()), &run, usize::MAX);
+    let packed = packed.unwrap_or_else(|_| vec![1; memory::input_wires(size)]);
+    Ok(wired(gates_of(size, circuits, random)?, packed, random))
 }
 
 /// The bytes of a state, and something behind them.
@@ -245,21 +247,19 @@ fn repeating(size: Size, circuits: &Circuits, random: &mut Random) -> Result<(u6
     let (mut lent, run) = tables_and_run(size, random);
     let inputs = memory::input_wires(size);
     let wires = inputs + circuits.words(size)?.len() / 3;
-    let ceiling = model::ceiling(size.0, size.1 + size.2);
-    lent.extend([words_for(3 * ceiling, random), bytes_for(inputs, random), bytes_for(wires, random)]);
+    lent.extend([words_for(3 * size.ceiling(), random), bytes_for(inputs, random), bytes_for(wires, random)]);
     lent.extend([Lent::Run(run), numbers_for(2, random)]);
-    let most = if size.0 <= 5 { u64::MAX } else { 3 };
+    let most = if size.n <= 5 { u64::MAX } else { 3 };
     Ok((one(&[0, 1, 1, 2, 3, most, most], random), lent))
 }
 
 /// Gates, a line's number, and room for a line or for several.
-fn line_call(function: Function, circuits: &Circuits, random: &mut Random) -> Result<Call, String> {
-    let size = some_size(random, true);
+fn line_call(function: Function, size: Size, circuits: &Circuits, random: &mut Random) -> Result<Call, String> {
     let gates = gates_of(size, circuits, random)?;
     let lines = 4 + gates.len() / 3;
     let line = one(&[0, 1, 2, 3, 4, random.below(lines), lines - 1, lines, lines + 1], random);
     let known = memory::gates(&gates, memory::input_wires(size)).unwrap_or_default();
-    let next: usize = memory::lines(size, &known).iter().skip(line).take(random.between(1, 4)).map(String::len).sum();
+    let next: usize = memory::lines(size, &known, line).take(random.between(1, 4)).map(|line| line.len()).sum();
     let room = one(&[next, next, next.saturating_sub(1), next + 1, 64, random.below(2_000)], random);
     let mut numbers = numbers(size);
     numbers.push(line as u64);
@@ -314,35 +314,42 @@ fn solving(size: Size, random: &mut Random) -> (u64, Vec<Lent>) {
 /// A call that is right, but for what texts, line numbers and answers bring along.
 fn right(function: Function, circuits: &Circuits, random: &mut Random) -> Result<Call, String> {
     let size = match function {
+        Function::Evaluate if !random.once_in(4) => {
+            return Ok(Call { function, numbers: vec![], lent: any_evaluation(random) })
+        }
         Function::Generate | Function::Repeat if random.once_in(500) => large_size(random),
-        Function::Generate | Function::Repeat => some_size(random, true),
+        Function::Generate | Function::Repeat | Function::Evaluate | Function::WriteLine | Function::WriteLines => {
+            some_size(random, true)
+        }
         _ => some_size(random, false),
     };
+    of_size(function, size, circuits, random)
+}
+
+/// The same for a size, where the function takes one or what has one.
+pub fn of_size(function: Function, size: Size, circuits: &Circuits, random: &mut Random) -> Result<Call, String> {
     let call = |numbers: Vec<u64>, lent: Vec<Lent>| Ok(Call { function, numbers, lent });
     match function {
         Function::Sizes => call(numbers(size), vec![numbers_for(4, random)]),
-        Function::ReadPair => call(vec![], texts(random)),
+        Function::ReadTables => call(vec![], texts(random)),
         Function::Accept | Function::Step | Function::Pack => call(numbers(size), over_tables(function, size, random)),
-        Function::Fresh => call(vec![size.0 as u64], vec![room_for_run(random)]),
+        Function::Fresh => call(vec![size.n as u64], vec![room_for_run(random)]),
         Function::Solve => {
             let (budget, lent) = solving(size, random);
             call([numbers(size), vec![budget]].concat(), lent)
         }
         Function::Model => {
-            let run = memory::run_words(&states::random(size.0, random));
+            let run = memory::run_words(&states::random(size.n, random));
             call(vec![], vec![Lent::Run(run), numbers_for(1, random)])
         }
-        Function::Generate => {
-            let ceiling = model::ceiling(size.0, size.1 + size.2);
-            call(numbers(size), vec![words_for(3 * ceiling, random), numbers_for(1, random)])
-        }
-        Function::Evaluate => call(vec![], evaluation(circuits, random)?),
-        Function::ReadBack => call(vec![size.0 as u64], vec![state_bytes(size.0, random), room_for_run(random)]),
+        Function::Generate => call(numbers(size), vec![words_for(3 * size.ceiling(), random), numbers_for(1, random)]),
+        Function::Evaluate => call(vec![], evaluation(size, circuits, random)?),
+        Function::ReadBack => call(vec![size.n as u64], vec![state_bytes(size.n, random), room_for_run(random)]),
         Function::Repeat => {
             let (times, lent) = repeating(size, circuits, random)?;
             call([numbers(size), vec![times]].concat(), lent)
         }
-        Function::WriteLine | Function::WriteLines => line_call(function, circuits, random),
+        Function::WriteLine | Function::WriteLines => line_call(function, size, circuits, random),
         Function::ReadBudget => call(vec![], vec![Lent::Bytes(line(random)), numbers_for(1, random)]),
         Function::Answer => Ok(answer(random)),
     }
@@ -405,7 +412,7 @@ fn strike(call: &mut Call, random: &mut Random) {
         let k = random.below(call.numbers.len());
         let number = call.numbers[k];
         // a number of steps stays one in which the model comes to an end
-        if !matches!(call.function, Function::Solve | Function::Repeat) || k < 3 {
+        if !matches!(call.function, Function::Solve | Function::Repeat) || k < 4 {
             call.numbers[k] = one(&[number.wrapping_sub(1), number.wrapping_add(1), one(&ODD, random)], random);
         }
         return;

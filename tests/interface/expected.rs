@@ -2,8 +2,10 @@
 
 use crate::calls::{Call, Function, Given, Lent};
 use crate::circuits::Circuits;
-use forkhemit_tests::memory::{self, Size};
-use forkhemit_tests::{model, wires};
+use forkhemit_tests::bristol::Gate;
+use forkhemit_tests::memory;
+use forkhemit_tests::model::{self, Size};
+use forkhemit_tests::wires;
 
 /// What a call writes: into the front of which buffer.
 type Writes = Vec<(usize, Lent)>;
@@ -49,21 +51,21 @@ impl Call {
         self.lent[k].words()
     }
 
-    /// The first three numbers as a size, or 1 or 2.
+    /// The first four numbers as a size, or 1 or 2.
     fn size(&self) -> Result<Size, u8> {
-        memory::size(self.numbers[0], self.numbers[1], self.numbers[2])
+        Size::new([0, 1, 2, 3].map(|k| self.numbers[k]))
     }
 
-    /// The first two buffers as tables.
-    fn tables(&self) -> [&[u32]; 2] {
-        [self.words(0), self.words(1)]
+    /// The first three buffers as tables.
+    fn tables(&self) -> [&[u32]; 3] {
+        [0, 1, 2].map(|k| self.words(k))
     }
 
     /// What is written, or the refusal; an error where the library's circuit of a size is no such circuit.
     fn written(&self, circuits: &Circuits) -> Result<Result<Writes, u8>, String> {
         Ok(match self.function {
             Function::Sizes => self.sizes(),
-            Function::ReadPair => self.read_pair(),
+            Function::ReadTables => self.read_tables(),
             Function::Accept => self.size().and_then(|size| memory::accepted(size, self.tables())).map(|_| vec![]),
             Function::Fresh => self.fresh(),
             Function::Step => self.step(),
@@ -95,29 +97,33 @@ impl Call {
     /// The ceiling, the words for so many gates, the input wires and the state's wires.
     fn sizes(&self) -> Result<Writes, u8> {
         let size = self.size()?;
-        let ceiling = model::ceiling(size.0, size.1 + size.2);
-        let numbers = [ceiling, 3 * ceiling, memory::input_wires(size), wires::state_width(size.0)];
+        let ceiling = size.ceiling();
+        let numbers = [ceiling, 3 * ceiling, memory::input_wires(size), wires::state_width(size.n)];
         Ok(vec![(0, Lent::Numbers(numbers.map(|number| number as u64).to_vec()))])
     }
 
-    /// The rows of two texts, n and both row counts; after the texts' refusals 4, then 6.
-    fn read_pair(&self) -> Result<Writes, u8> {
-        let (left, right) = (model::read(self.bytes(0))?, model::read(self.bytes(1))?);
-        let words = [&left, &right].map(|table| memory::row_words(&table.rows));
-        if self.words(2).len() < words[0].len() || self.words(3).len() < words[1].len() {
+    /// The rows of three texts, n and the row counts; after the texts' refusals 4, then 6.
+    fn read_tables(&self) -> Result<Writes, u8> {
+        let left = model::read(self.bytes(0), model::STATION)?;
+        let right = model::read(self.bytes(1), model::STATION)?;
+        let public = model::read(self.bytes(2), model::PUBLIC)?;
+        let tables = [&left, &right, &public];
+        let words = tables.map(|table| memory::row_words(&table.rows));
+        if (0..3).any(|k| self.words(3 + k).len() < words[k].len()) {
             return Err(4);
         }
-        if left.n != right.n {
+        if tables.iter().any(|table| table.n != left.n) {
             return Err(6);
         }
-        let sizes = [left.n, left.rows.len(), right.rows.len()].map(|number| number as u64);
-        let [left, right] = words.map(Lent::Words);
-        Ok(vec![(2, left), (3, right), (4, Lent::Numbers(sizes.to_vec()))])
+        let sizes = [left.n, left.rows.len(), right.rows.len(), public.rows.len()];
+        let [left, right, public] = words.map(Lent::Words);
+        let sizes = Lent::Numbers(sizes.map(|number| number as u64).to_vec());
+        Ok(vec![(3, left), (4, right), (5, public), (6, sizes)])
     }
 
     /// The fresh run.
     fn fresh(&self) -> Result<Writes, u8> {
-        let n = memory::size(self.numbers[0], 1, 1)?.0;
+        let n = memory::variables(self.numbers[0])?;
         Ok(vec![(0, Lent::Run(memory::run_words(&model::Run::fresh(n))))])
     }
 
@@ -125,23 +131,23 @@ impl Call {
     fn step(&self) -> Result<Writes, u8> {
         let size = self.size()?;
         let rows = memory::accepted(size, self.tables())?;
-        let mut run = memory::run_for(size.0, self.words(2))?;
+        let mut run = memory::run_for(size.n, self.words(3))?;
         run.step(&rows);
-        Ok(vec![(2, Lent::Run(memory::run_words(&run)))])
+        Ok(vec![(3, Lent::Run(memory::run_words(&run)))])
     }
 
     /// Count, verdict and model of the budgeted run.
     fn solve(&self) -> Result<Writes, u8> {
         let size = self.size()?;
         let rows = memory::accepted(size, self.tables())?;
-        let answer = model::run(size.0, &rows, self.numbers[3]);
+        let answer = model::run(size.n, &rows, self.numbers[4]);
         let verdict = match answer.standing {
             model::Standing::Open => 0,
             model::Standing::Satisfied => 1,
             model::Standing::Refuted => 2,
         };
         let model = answer.model.iter().enumerate().fold(0, |word, (v, &value)| word | u64::from(value) << v);
-        Ok(vec![(2, Lent::Numbers(vec![answer.steps, verdict, model]))])
+        Ok(vec![(3, Lent::Numbers(vec![answer.steps, verdict, model]))])
     }
 
     /// The model as a word; 12, 14.
@@ -156,7 +162,7 @@ impl Call {
 
     /// A size for whose circuit buffer k has room: 7.
     fn room_for_gates(&self, size: Size, k: usize) -> Result<Size, u8> {
-        if self.words(k).len() < 3 * model::ceiling(size.0, size.1 + size.2) {
+        if self.words(k).len() < 3 * size.ceiling() {
             return Err(7);
         }
         Ok(size)
@@ -164,13 +170,13 @@ impl Call {
 
     /// Rows and run, a byte a wire.
     fn pack(&self) -> Result<Writes, u8> {
-        let packed = memory::packed(self.size()?, self.tables(), self.words(2), self.bytes(3).len())?;
-        Ok(vec![(3, Lent::Bytes(packed))])
+        let packed = memory::packed(self.size()?, self.tables(), self.words(3), self.bytes(4).len())?;
+        Ok(vec![(4, Lent::Bytes(packed))])
     }
 
     /// The run in the bytes: 1, 10, 12.
     fn read_back(&self) -> Result<Writes, u8> {
-        let n = memory::size(self.numbers[0], 1, 1)?.0;
+        let n = memory::variables(self.numbers[0])?;
         let run = memory::read_back(n, self.bytes(0))?;
         Ok(vec![(1, Lent::Run(memory::run_words(&run)))])
     }
@@ -178,44 +184,44 @@ impl Call {
     /// The rows on which a circuit is repeated: 4, 3, 7.
     fn rows_to_repeat(&self, size: Size) -> Result<(Size, Vec<model::Row>), u8> {
         let rows = memory::accepted(size, self.tables())?;
-        Ok((self.room_for_gates(size, 2)?, rows))
+        Ok((self.room_for_gates(size, 3)?, rows))
     }
 
     /// The circuit, inputs and wires of the last repeat, the run after it by giant steps, how many repeats there were, and whether
     /// the run is closed: 10, 12, 13.
     fn repeat(&self, size: Size, rows: &[model::Row], gates: Vec<u32>) -> Result<Writes, u8> {
-        let (inputs, room) = (memory::input_wires(size), self.bytes(4).len());
-        if self.bytes(3).len() < inputs || room < inputs + gates.len() / 3 {
+        let (inputs, room) = (memory::input_wires(size), self.bytes(5).len());
+        if self.bytes(4).len() < inputs || room < inputs + gates.len() / 3 {
             return Err(10);
         }
-        let mut run = memory::run_for(size.0, self.words(5))?;
+        let mut run = memory::run_for(size.n, self.words(6))?;
         let (mut repeats, mut packed) = (0, None);
-        while run.standing == model::Standing::Open && repeats < self.numbers[3] {
+        while run.standing == model::Standing::Open && repeats < self.numbers[4] {
             packed = Some(memory::packed(size, self.tables(), &memory::run_words(&run), inputs)?);
             run.step(rows);
             repeats += 1;
         }
         let mark = u64::from(run.standing != model::Standing::Open);
-        let mut writes = vec![(5, Lent::Run(memory::run_words(&run))), (6, Lent::Numbers(vec![repeats, mark]))];
+        let mut writes = vec![(6, Lent::Run(memory::run_words(&run))), (7, Lent::Numbers(vec![repeats, mark]))];
         if let Some(packed) = packed {
-            writes.push((4, Lent::Bytes(memory::evaluated(&gates, &packed, room)?)));
-            writes.push((3, Lent::Bytes(packed)));
+            writes.push((5, Lent::Bytes(memory::evaluated(&gates, &packed, room)?)));
+            writes.push((4, Lent::Bytes(packed)));
         }
-        writes.push((2, Lent::Words(gates)));
+        writes.push((3, Lent::Words(gates)));
         Ok(writes)
     }
 
-    /// The lines of the circuit's text from the one that is asked for on: 1, 2, 9.
-    fn lines(&self) -> Result<Vec<String>, u8> {
+    /// The size, the gates, and the line of the circuit's text that is asked for: 1, 2, 9.
+    fn asked(&self) -> Result<(Size, Vec<Gate>, usize), u8> {
         let size = self.size()?;
         let gates = memory::gates(self.words(0), memory::input_wires(size))?;
-        let from = usize::try_from(self.numbers[3]).unwrap_or(usize::MAX);
-        Ok(memory::lines(size, &gates).into_iter().skip(from).collect())
+        Ok((size, gates, usize::try_from(self.numbers[4]).unwrap_or(usize::MAX)))
     }
 
     /// A line, or nothing past the last, and its length; 11.
     fn write_line(&self) -> Result<Writes, u8> {
-        let line = self.lines()?.into_iter().next().unwrap_or_default().into_bytes();
+        let (size, gates, from) = self.asked()?;
+        let line = memory::lines(size, &gates, from).next().unwrap_or_default().into_bytes();
         if self.bytes(1).len() < line.len() {
             return Err(11);
         }
@@ -225,17 +231,18 @@ impl Call {
 
     /// As many lines as fit, how many and how long; 11 where none fits.
     fn write_lines(&self) -> Result<Writes, u8> {
-        let (lines, room) = (self.lines()?, self.bytes(1).len());
+        let (size, gates, from) = self.asked()?;
+        let room = self.bytes(1).len();
         let (mut text, mut count) = (vec![], 0);
-        for line in &lines {
+        for line in memory::lines(size, &gates, from) {
             if text.len() + line.len() > room {
+                if count == 0 {
+                    return Err(11);
+                }
                 break;
             }
             text.extend(line.bytes());
             count += 1;
-        }
-        if count == 0 && !lines.is_empty() {
-            return Err(11);
         }
         let numbers = vec![count, text.len() as u64];
         Ok(vec![(1, Lent::Bytes(text)), (2, Lent::Numbers(numbers))])
@@ -243,7 +250,7 @@ impl Call {
 
     /// The composed answer and its length: 1.
     fn answer(&self) -> Result<Writes, u8> {
-        let n = memory::size(self.numbers[0], 1, 1)?.0;
+        let n = memory::variables(self.numbers[0])?;
         let text = memory::answer(n, self.numbers[1], self.numbers[2], self.numbers[3]);
         let length = text.len() as u64;
         Ok(vec![(0, Lent::Text(text)), (1, Lent::Numbers(vec![length]))])

@@ -1,12 +1,13 @@
 //! Tests of the library as hosts call it. Use: interface CALLS [exact]
-//! Every refusal as it was written by hand, alone and two at once, then random calls over all functions: each result and every lent buffer
-//! is held to the model. With `exact` each buffer has an allocation of its own of exactly its length, for a memory checker;
+//! Every refusal as it was written by hand, alone and two at once, then calls at the limits of size, then random calls over all functions:
+//! each result and every lent buffer is held to the model. With `exact` each buffer has an allocation of its own of exactly its length, for a memory checker;
 //! else it stands between guards. The last line is `N passed, M failed`, and the status 0 where M is 0.
 
 mod calls;
 mod circuits;
 mod draw;
 mod expected;
+mod extremes;
 mod refusals;
 
 use calls::{Call, Given, ALL};
@@ -72,24 +73,42 @@ fn shown(call: &Call) -> String {
     cut(format!("{:?} {:?} {:?}", call.function, call.numbers, call.lent))
 }
 
+/// Makes a call, if it could be put together, and holds it to the model.
+fn tried(call: Result<Call, String>, what: &str, circuits: &Circuits, guard: usize, ledger: &Ledger) {
+    let call = match call {
+        Ok(call) => call,
+        Err(fault) => return ledger.test(Some(fault)),
+    };
+    let judged = judge(&call, circuits, guard);
+    if let Ok(given) = &judged {
+        ledger.kind(&if given.number == 0 { "taken".into() } else { format!("refused {}", given.number) }, 1);
+    }
+    ledger.test(judged.err().map(|failure| format!("call {what}: {failure}\n  {}", shown(&call))));
+}
+
+/// Calls at the limits of size; for a memory checker, which is slow, those with both stations' tables as long.
+fn largest(circuits: &Circuits, guard: usize) -> Tally {
+    let (ledger, mut sizes) = (Ledger::default(), extremes::sizes());
+    sizes.retain(|size| guard > 0 || size.left == size.right);
+    for &size in &sizes {
+        match extremes::calls(size, circuits) {
+            Err(fault) => ledger.test(Some(fault)),
+            Ok(calls) => {
+                let what = format!("over {size:?}");
+                calls.into_iter().for_each(|call| tried(Ok(call), &what, circuits, guard, &ledger));
+            }
+        }
+    }
+    ledger.close(&format!("calls over {} sizes at the limits", sizes.len()))
+}
+
 /// Random calls, the functions in turn.
 fn drawn(count: usize, circuits: &Circuits, guard: usize) -> Tally {
     let ledger = Ledger::default();
     for number in 0..count {
         let (seed, function) = (SEED + number as u64, ALL[number % ALL.len()]);
-        let random = &mut Random::new(seed);
-        match draw::call(function, circuits, random) {
-            Err(fault) => ledger.test(Some(fault)),
-            Ok(call) => {
-                let judged = judge(&call, circuits, guard);
-                if let Ok(given) = &judged {
-                    ledger
-                        .kind(&if given.number == 0 { "taken".into() } else { format!("refused {}", given.number) }, 1);
-                }
-                let failure = judged.err();
-                ledger.test(failure.map(|failure| format!("call of seed {seed}: {failure}\n  {}", shown(&call))));
-            }
-        }
+        let call = draw::call(function, circuits, &mut Random::new(seed));
+        tried(call, &format!("of seed {seed}"), circuits, guard, &ledger);
     }
     let way = if guard == 0 { "buffers of exact length" } else { "guarded buffers" };
     ledger.close(&format!("{count} random calls over {} functions, seeds from {SEED}, {way}", ALL.len()))
@@ -101,6 +120,7 @@ fn main() -> ExitCode {
     let guard = if arguments.get(1).map_or(false, |way| way == "exact") { 0 } else { GUARD };
     let circuits = Circuits::new();
     let mut total = refused(&circuits, guard);
+    total.add(largest(&circuits, guard));
     total.add(drawn(count, &circuits, guard));
     total.add(circuits.close());
     println!("{} passed, {} failed", total.passed, total.failed);

@@ -1,9 +1,9 @@
 //! Every refusal of every function, written by hand: a call that is taken, one change to it or two, and the number that it then gets.
 
-use crate::calls::{Call, Function, Lent};
+use crate::calls::{numbers, Call, Function, Lent};
 use crate::circuits::Circuits;
 use forkhemit_tests::memory::{self, RUN_WORDS};
-use forkhemit_tests::model::{self, TEXT_LIMIT};
+use forkhemit_tests::model::{Size, TEXT_LIMIT};
 use std::rc::Rc;
 
 /// A call to be made: what was changed, and the number expected.
@@ -30,11 +30,11 @@ struct Change {
 /// What is changed, the number that it leads to, and the change.
 type Changes = Vec<(String, u8, Change)>;
 
-/// Document 01's example: (1 2) on the left, (−1) on the right.
-const SIZE: (usize, usize, usize) = (2, 1, 1);
-const LEFT: [u32; 2] = [0b11, 0];
-const RIGHT: [u32; 2] = [0, 0b01];
-const TEXTS: [&[u8]; 2] = [b"p cnf 2 1\n1 2 0\n", b"p cnf 2 1\n-1 0\n"];
+/// Document 01's example, (1 2) on the left and (−1) on the right, with (−1 2) public.
+const SIZE: Size = Size { n: 2, left: 1, right: 1, public: 1 };
+const TABLES: [[u32; 2]; 3] = [[0b11, 0], [0, 0b01], [0b10, 0b01]];
+const TEXTS: [&[u8]; 3] = [b"p cnf 2 1\n1 2 0\n", b"p cnf 2 1\n-1 0\n", b"p cnf 2 1\n-1 2 0\n"];
+const NAMES: [&str; 3] = ["left", "right", "public"];
 
 /// A run at depth 1: variable 1 was chosen, and is true.
 fn run() -> Vec<u32> {
@@ -45,39 +45,41 @@ fn run() -> Vec<u32> {
 
 /// A call of the function that is taken.
 fn base(function: Function, circuits: &Circuits) -> Result<Call, String> {
-    let d = vec![2, 1, 1];
+    let d = numbers(SIZE);
+    let and = |last: u64| [numbers(SIZE), vec![last]].concat();
     let inputs = memory::input_wires(SIZE);
-    let tables = || vec![Lent::Words(LEFT.to_vec()), Lent::Words(RIGHT.to_vec())];
+    let tables = || TABLES.map(|table| Lent::Words(table.to_vec())).to_vec();
     let bytes = |count: usize| Lent::Bytes(vec![7; count]);
     let words = |count: usize| Lent::Words(vec![7; count]);
     let numbers = |count: usize| Lent::Numbers(vec![7; count]);
     let gates = circuits.words(SIZE)?;
     let wires = inputs + gates.len() / 3;
-    let packed = memory::packed(SIZE, [&LEFT, &RIGHT], &run(), inputs).map_err(|number| number.to_string())?;
+    let packed = memory::packed(SIZE, [0, 1, 2].map(|k| &TABLES[k][..]), &run(), inputs);
+    let packed = packed.map_err(|number| number.to_string())?;
     let state = packed[inputs - forkhemit_tests::wires::state_width(2)..].to_vec();
     let mut satisfied = run();
     satisfied[1] = 1;
     let (numbers, lent) = match function {
         Function::Sizes => (d, vec![numbers(4)]),
-        Function::ReadPair => {
+        Function::ReadTables => {
             let texts = TEXTS.map(|text| Lent::Bytes(text.to_vec()));
-            (vec![], [texts.to_vec(), vec![words(2), words(2), numbers(3)]].concat())
+            (vec![], [texts.to_vec(), vec![words(2), words(2), words(2), numbers(4)]].concat())
         }
         Function::Accept => (d, tables()),
         Function::Fresh => (vec![2], vec![Lent::Run(vec![7; RUN_WORDS])]),
         Function::Step => (d, [tables(), vec![Lent::Run(run())]].concat()),
-        Function::Solve => (vec![2, 1, 1, 9], [tables(), vec![numbers(3)]].concat()),
+        Function::Solve => (and(9), [tables(), vec![numbers(3)]].concat()),
         Function::Model => (vec![], vec![Lent::Run(satisfied), numbers(1)]),
-        Function::Generate => (d, vec![words(3 * model::ceiling(2, 2)), numbers(1)]),
+        Function::Generate => (d, vec![words(3 * SIZE.ceiling()), numbers(1)]),
         Function::Pack => (d, [tables(), vec![Lent::Run(run()), bytes(inputs)]].concat()),
         Function::Evaluate => (vec![], vec![Lent::Words(gates), Lent::Bytes(packed), bytes(wires)]),
         Function::ReadBack => (vec![2], vec![Lent::Bytes(state), Lent::Run(vec![7; RUN_WORDS])]),
         Function::Repeat => {
-            let lent = vec![words(3 * model::ceiling(2, 2)), bytes(inputs), bytes(wires), Lent::Run(run()), numbers(2)];
-            (vec![2, 1, 1, 9], [tables(), lent].concat())
+            let lent = vec![words(3 * SIZE.ceiling()), bytes(inputs), bytes(wires), Lent::Run(run()), numbers(2)];
+            (and(9), [tables(), lent].concat())
         }
-        Function::WriteLine => (vec![2, 1, 1, 4], vec![Lent::Words(gates), bytes(64), numbers(1)]),
-        Function::WriteLines => (vec![2, 1, 1, 0], vec![Lent::Words(gates), bytes(64), numbers(2)]),
+        Function::WriteLine => (and(4), vec![Lent::Words(gates), bytes(64), numbers(1)]),
+        Function::WriteLines => (and(0), vec![Lent::Words(gates), bytes(64), numbers(2)]),
         Function::ReadBudget => (vec![], vec![Lent::Bytes(b"18446744073709551615\n".to_vec()), numbers(1)]),
         Function::Answer => (vec![2, 3, 1, 0b10], vec![Lent::Text(vec![7; 256]), numbers(1)]),
     };
@@ -153,20 +155,21 @@ fn sizes(changes: &mut Changes) {
         changes.push((format!("n {n}"), 1, number(0, n)));
     }
     for rows in [0, 129, 255, 256, 257, 65_537, (1 << 32) + 1, u64::MAX] {
-        changes.push((format!("left rows {rows}"), 2, number(1, rows)));
-        changes.push((format!("right rows {rows}"), 2, number(2, rows)));
+        for (k, name) in NAMES.iter().enumerate().filter(|(k, _)| rows > 0 || *k < 2) {
+            changes.push((format!("{name} rows {rows}"), 2, number(1 + k, rows)));
+        }
     }
 }
 
-/// 4 and 3, left and right.
+/// 4 and 3 of each table.
 fn tables(changes: &mut Changes) {
-    for (k, side) in [(0, "left"), (1, "right")] {
+    for (k, name) in NAMES.iter().enumerate() {
         for length in [1, 0] {
-            changes.push((format!("{length} words on the {side}"), 4, cut(k, length)));
+            changes.push((format!("{length} {name} words"), 4, cut(k, length)));
         }
         for at in [0, 1] {
-            changes.push((format!("bit 2 in {side} word {at}"), 3, word(k, at, 0b100)));
-            changes.push((format!("bit 31 in {side} word {at}"), 3, word(k, at, 1 << 31)));
+            changes.push((format!("bit 2 in {name} word {at}"), 3, word(k, at, 0b100)));
+            changes.push((format!("bit 31 in {name} word {at}"), 3, word(k, at, 1 << 31)));
         }
     }
 }
@@ -223,28 +226,41 @@ fn add(list: &mut Changes, what: &str, number: u8, change: Change) {
     list.push((what.into(), number, change));
 }
 
-/// The texts' 1, 2 and 5, left and right, then 4 and 6. A header's 1 or 2 comes before 5, an overlong text is 5 before all else.
-fn read_pair(list: &mut Changes) {
+/// A text of another n than the others.
+const OTHER_N: &[u8] = b"p cnf 3 1\n1 0\n";
+
+/// The 1, 2 and 5 of each text, then 4 and 6. A header's 1 or 2 comes before 5, an overlong text is 5 before all else.
+fn read_tables(list: &mut Changes) {
     let overlong = |text: &[u8]| [text, &vec![b'\n'; TEXT_LIMIT + 1 - text.len()]].concat();
-    for (k, side) in [(0, "left"), (1, "right")] {
+    for (k, name) in NAMES.iter().enumerate() {
+        // a station must have a row; the public table need not, and then no clause may follow
+        let rowless = if k < 2 { 2 } else { 5 };
         for (what, number, to) in [
             ("n 33", 1, &b"p cnf 33 1\n1 0\n"[..]),
             ("n 0", 1, b"p cnf 0 1\n1 0\n"),
+            ("n 0 and no rows", 1, b"p cnf 0 0\n"),
             ("n 33 and 129 rows", 1, b"p cnf 33 129\n1 0\n"),
             ("n 33 and a literal above n", 1, b"p cnf 33 1\n34 0\n"),
             ("129 rows", 2, b"p cnf 2 129\n1 0\n"),
-            ("no rows", 2, b"p cnf 2 0\n"),
-            ("no rows and no last 0", 2, b"p cnf 2 0\n1\n"),
+            ("a row fewer than none", 2, b"p cnf 2 -1\n"),
+            ("no rows and one", rowless, b"p cnf 2 0\n1 0\n"),
+            ("no rows and an empty one", rowless, b"p cnf 2 0\n0\n"),
+            ("no rows and no last 0", rowless, b"p cnf 2 0\n1\n"),
             ("no last 0", 5, b"p cnf 2 1\n1 2\n"),
             ("nothing", 5, b""),
-            ("n 3", 6, b"p cnf 3 1\n1 0\n"),
+            ("n 3", 6, OTHER_N),
         ] {
-            add(list, &format!("{side} text with {what}"), number, text(k, to.to_vec()));
+            add(list, &format!("{name} text with {what}"), number, text(k, to.to_vec()));
         }
-        add(list, &format!("{side} text overlong"), 5, text(k, overlong(TEXTS[k])));
-        add(list, &format!("{side} text overlong with n 33"), 5, text(k, overlong(b"p cnf 33 1\n1 0\n")));
-        add(list, &format!("{side} words short"), 4, cut(2 + k, 1));
-        add(list, &format!("{side} no words"), 4, cut(2 + k, 0));
+        add(list, &format!("{name} text overlong"), 5, text(k, overlong(TEXTS[k])));
+        add(list, &format!("{name} text overlong with n 33"), 5, text(k, overlong(b"p cnf 33 1\n1 0\n")));
+        add(list, &format!("{name} words short"), 4, cut(3 + k, 1));
+        add(list, &format!("{name} no words"), 4, cut(3 + k, 0));
+        let others = both(text((k + 1) % 3, OTHER_N.to_vec()), text((k + 2) % 3, OTHER_N.to_vec()));
+        add(list, &format!("two texts with n 3, not the {name} one"), 6, others);
+    }
+    for (name, k) in [("left", 0), ("right", 1)] {
+        add(list, &format!("{name} text without rows"), 2, text(k, b"p cnf 2 0\n".to_vec()));
     }
 }
 
@@ -264,7 +280,7 @@ fn run_at(k: usize, list: &mut Changes) {
 
 /// A run's 12 and 13.
 fn step(list: &mut Changes) {
-    run_at(2, list);
+    run_at(3, list);
 }
 
 /// 14, and a run's 12.
@@ -283,19 +299,19 @@ fn generate(list: &mut Changes) {
 
 /// 10, and a run's 12 and 13.
 fn pack(list: &mut Changes) {
-    add(list, "a byte short", 10, shorter(3));
-    add(list, "no bytes", 10, cut(3, 0));
-    run_at(2, list);
+    add(list, "a byte short", 10, shorter(4));
+    add(list, "no bytes", 10, cut(4, 0));
+    run_at(3, list);
 }
 
 /// 7 and 10, and a run's 12 and 13.
 fn repeat(list: &mut Changes) {
-    add(list, "a gate word short", 7, shorter(2));
-    add(list, "no gate words", 7, cut(2, 0));
-    add(list, "an input byte short", 10, shorter(3));
-    add(list, "a wire short", 10, shorter(4));
-    add(list, "room for the inputs alone", 10, cut(4, memory::input_wires(SIZE)));
-    run_at(5, list);
+    add(list, "a gate word short", 7, shorter(3));
+    add(list, "no gate words", 7, cut(3, 0));
+    add(list, "an input byte short", 10, shorter(4));
+    add(list, "a wire short", 10, shorter(5));
+    add(list, "room for the inputs alone", 10, cut(5, memory::input_wires(SIZE)));
+    run_at(6, list);
 }
 
 /// 10, and 9 by every clause of it.
@@ -343,7 +359,7 @@ fn read_budget(list: &mut Changes) {
 fn changes(function: Function) -> Changes {
     let groups: &[fn(&mut Changes)] = match function {
         Function::Sizes => &[sizes],
-        Function::ReadPair => &[read_pair],
+        Function::ReadTables => &[read_tables],
         Function::Accept | Function::Solve => &[sizes, tables],
         Function::Fresh | Function::Answer => &[variables],
         Function::Step => &[sizes, tables, step],
@@ -361,20 +377,44 @@ fn changes(function: Function) -> Changes {
     list
 }
 
+/// Changes after which the call is still taken: no public rows, with public words there or none.
+fn harmless(function: Function) -> Vec<(String, Change)> {
+    let none = || text(2, b"p cnf 2 0\n".to_vec());
+    let other = |k: usize| text(k, OTHER_N.to_vec());
+    let list = match function {
+        Function::Sizes | Function::Generate => vec![("no public rows", number(3, 0))],
+        Function::Accept | Function::Step | Function::Solve | Function::Pack | Function::Repeat => vec![
+            ("no public rows, and words of some", number(3, 0)),
+            ("no public rows, and words that would be refused", both(number(3, 0), word(2, 1, u32::MAX))),
+            ("no public rows and no words", both(number(3, 0), cut(2, 0))),
+        ],
+        Function::ReadTables => vec![
+            ("no public rows", none()),
+            ("no public rows and no words", both(none(), cut(5, 0))),
+            ("three texts with n 3", both(other(0), both(other(1), other(2)))),
+        ],
+        _ => vec![],
+    };
+    list.into_iter().map(|(what, change)| (what.into(), change)).collect()
+}
+
 // ---- Two changes at once
 
-/// Which of two refusals comes first: the lower number, but 4 before 3; of two texts whatever refuses the left one, then
-/// whatever refuses the right one, then 4 and 6.
+/// Which of two refusals comes first: the lower number, but 4 before 3; of texts whatever refuses the left one, then
+/// whatever refuses the right one, then the public one, then 4 and 6.
 fn order(function: Function, number: u8, change: &Change) -> u8 {
     match (function, number) {
-        (Function::ReadPair, 1 | 2 | 5) => u8::from(change.places == [Place::Lent(1)]),
+        (Function::ReadTables, 1 | 2 | 5) => {
+            let text = (0..3).find(|&k| change.places == [Place::Lent(usize::from(k))]);
+            text.expect("one of three texts is refused")
+        }
         (_, 4) => 3,
         (_, 3) => 4,
         (_, number) => number,
     }
 }
 
-/// Two changes at different places, where the first one's refusal comes first. Two texts of another n may share it.
+/// Two changes at different places, where the first one's refusal comes first.
 fn pairs(function: Function, single: &Changes) -> Changes {
     let mut list = vec![];
     for (what, number, first) in single {
@@ -389,7 +429,7 @@ fn pairs(function: Function, single: &Changes) -> Changes {
     list
 }
 
-/// Every function's call that is taken, every change to it, and every two changes at once.
+/// Every function's call that is taken, every change to it, every two changes at once, and changes that do no harm.
 pub fn cases(functions: &[Function], circuits: &Circuits) -> Result<Vec<Case>, String> {
     let mut cases = vec![];
     for &function in functions {
@@ -397,7 +437,8 @@ pub fn cases(functions: &[Function], circuits: &Circuits) -> Result<Vec<Case>, S
         cases.push(Case { what: format!("{function:?}: the call that is changed"), call: call.clone(), number: 0 });
         let single = changes(function);
         let double = pairs(function, &single);
-        for (what, number, change) in single.into_iter().chain(double) {
+        let taken = harmless(function).into_iter().map(|(what, change)| (what, 0, change));
+        for (what, number, change) in single.into_iter().chain(double).chain(taken) {
             let mut call = call.clone();
             (change.make)(&mut call);
             cases.push(Case { what: format!("{function:?}: {what}"), call, number });

@@ -45,7 +45,12 @@ fn gate(line: &str, wire: usize) -> Result<Gate, String> {
         output if output == wire => Ok(()),
         output => Err(format!("wire {output} is driven in the place of {wire}")),
     };
-    match line.split(' ').collect::<Vec<&str>>()[..] {
+    let (mut words, mut count) = ([""; 7], 0);
+    for word in line.split(' ').take(words.len()) {
+        words[count] = word;
+        count += 1;
+    }
+    match words[..count] {
         ["2", "1", first, second, output, kind @ ("XOR" | "AND")] => {
             driven(output)?;
             let (first, second) = (earlier(first)?, earlier(second)?);

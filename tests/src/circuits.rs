@@ -2,8 +2,8 @@
 //! to the model on states of every kind and on whole runs; for the smallest sizes on every state and every table.
 
 use crate::bristol::{self, Circuit};
-use crate::model::{self, Answer, Row, Run, Standing};
-use crate::process::{Room, Source};
+use crate::model::{self, Answer, Read, Row, Run, Size, Standing};
+use crate::process::{Room, Source, NAMES, NO_FILES};
 use crate::random::Random;
 use crate::report::{self, Ledger, Tally};
 use crate::{damage, states, tables, wires};
@@ -12,36 +12,58 @@ use std::fs;
 use std::path::Path;
 use std::time::Duration;
 
-const STATES: usize = 512;
-const RUNS: usize = 64;
+/// States and whole runs for each circuit without public rows, and for each of the many more with some.
+const STATES: [usize; 2] = [512, 64];
+const RUNS: [usize; 2] = [64, 8];
 const SEED: u64 = 30_511;
 const DAMAGES: usize = 2_000;
 const DAMAGE_SEED: u64 = 8_127;
-/// Sizes small enough for every well-formed state and every pair of tables.
-const SMALLEST: [(usize, usize, usize); 8] =
-    [(1, 1, 1), (1, 1, 2), (1, 2, 1), (1, 2, 2), (2, 1, 1), (2, 1, 2), (2, 2, 1), (3, 1, 1)];
+/// Sizes small enough for every well-formed state and all tables.
+#[rustfmt::skip]
+const SMALLEST: [[usize; 4]; 15] = [
+    [1, 1, 1, 0], [1, 1, 2, 0], [1, 2, 1, 0], [1, 2, 2, 0], [2, 1, 1, 0], [2, 1, 2, 0], [2, 2, 1, 0], [3, 1, 1, 0],
+    [1, 1, 1, 1], [1, 1, 1, 2], [1, 1, 1, 3], [1, 1, 2, 1], [1, 2, 1, 1], [1, 2, 2, 1], [2, 1, 1, 1],
+];
 
 /// Sizes of long texts.
-const LONG: [Size; 3] = [(1, 20, 20), (3, 8, 9), (7, 1, 1)];
+const LONG: [[usize; 4]; 4] = [[1, 20, 20, 0], [1, 13, 13, 14], [3, 8, 8, 1], [7, 1, 1, 0]];
 const NARROW: usize = 1_500;
 
-/// n and the two row counts.
-type Size = (usize, usize, usize);
+/// The size of these numbers.
+fn size([n, left, right, public]: [usize; 4]) -> Size {
+    Size { n, left, right, public }
+}
+
+/// The size as it stands in a line.
+fn shown(Size { n, left, right, public }: Size) -> String {
+    format!("{n} {left} {right} {public}")
+}
 
 /// The dimension line of a size.
-fn line((n, left, right): Size) -> Vec<u8> {
-    format!("{n} {left} {right}\n").into_bytes()
+fn line(size: Size) -> Vec<u8> {
+    (shown(size) + "\n").into_bytes()
+}
+
+/// Whether the program serves the circuit of a size.
+fn served(size: &Size) -> bool {
+    size.ceiling() <= model::SERVED
 }
 
 /// Every size whose ceiling the program serves.
 fn sizes() -> Vec<Size> {
-    let all = (1..=32).flat_map(|n| (1..=128).flat_map(move |left| (1..=128).map(move |right| (n, left, right))));
-    all.filter(|&(n, left, right)| model::ceiling(n, left + right) <= model::SERVED).collect()
+    let mut sizes = vec![];
+    for (n, left) in (1..=32).flat_map(|n| (1..=128).map(move |left| (n, left))) {
+        for right in (1..=128).take_while(|&right| served(&size([n, left, right, 0]))) {
+            sizes.extend((0..=128).map(|public| size([n, left, right, public])).take_while(served));
+        }
+    }
+    sizes
 }
 
 /// What the program prints for this standard input, of which it reads the first line and no more.
 fn printed(room: &Room, input: &[u8], brought: &Source) -> Result<Vec<u8>, String> {
-    let ran = room.run(brought, &Source::Missing, input).map_err(|error| format!("it could not be run: {error}"))?;
+    let files = [brought.clone(), Source::Missing, Source::Missing];
+    let ran = room.run(&files, input).map_err(|error| format!("it could not be run: {error}"))?;
     let line = input.iter().position(|&b| b == b'\n').map_or(input.len(), |at| at + 1) as u64;
     match (ran.fault, ran.taken) {
         (Some(fault), _) => Err(fault),
@@ -50,13 +72,11 @@ fn printed(room: &Room, input: &[u8], brought: &Source) -> Result<Vec<u8>, Strin
     }
 }
 
-/// The circuit that the program prints for a size, its values being as wide as document 01 says.
+/// The circuit that the program prints for a size, its values being as wide as documents 01 and 02 say.
 fn circuit(room: &Room, size: Size) -> Result<Circuit, String> {
     let text = printed(room, &line(size), &Source::Missing)?;
     let circuit = bristol::read(&text).map_err(|fault| format!("{fault}; the text is {}", report::quoted(&text)))?;
-    let (n, left, right) = size;
-    let state = wires::state_width(n);
-    if circuit.inputs != [2 * n * left, 2 * n * right, state] || circuit.outputs != [state, 1] {
+    if circuit.inputs != wires::input_widths(size) || circuit.outputs != [wires::state_width(size.n), 1] {
         return Err(format!("values as wide as {:?} give {:?}", circuit.inputs, circuit.outputs));
     }
     Ok(circuit)
@@ -163,8 +183,9 @@ fn runs(circuit: &Circuit, n: usize, cases: &[(Vec<Row>, u64)], ledger: &Ledger)
     None
 }
 
-/// A table for a whole run, and a budget that is enough or one too few.
-fn table((n, left, right): Size, random: &mut Random) -> (Vec<Row>, u64) {
+/// Rows for a whole run, and a budget that is enough or one too few.
+fn table(size: Size, random: &mut Random) -> (Vec<Row>, u64) {
+    let n = size.n;
     let shortest = *random.pick(&[0, 1, 2, 2, 3]);
     let row = |_| {
         let width = random.between(shortest, n.max(shortest));
@@ -173,7 +194,7 @@ fn table((n, left, right): Size, random: &mut Random) -> (Vec<Row>, u64) {
             _ => tables::strict(n, width, random),
         }
     };
-    let rows: Vec<Row> = (0..left + right).map(row).collect();
+    let rows: Vec<Row> = (0..size.rows()).map(row).collect();
     let steps = model::run(n, &rows, u64::MAX).steps;
     (rows, *random.pick(&[steps, steps, u64::MAX, steps - 1]))
 }
@@ -182,34 +203,34 @@ fn table((n, left, right): Size, random: &mut Random) -> (Vec<Row>, u64) {
 
 /// Text, ceiling, AND gates, states and runs of one size, a test each.
 fn size_tests(size: Size, room: &Room, ledger: &Ledger) {
-    let (n, left, right) = size;
-    let (m, seed) = (left + right, SEED + (n << 16 | left << 8 | right) as u64);
-    let told = |failure: String| format!("circuit \"{n} {left} {right}\", seed {seed}: {failure}");
+    let (n, m, some) = (size.n, size.rows(), usize::from(size.public > 0));
+    let seed = SEED + (size.public << 24 | n << 16 | size.left << 8 | size.right) as u64;
+    let told = |failure: String| format!("circuit \"{}\", seed {seed}: {failure}", shown(size));
     let circuit = match circuit(room, size) {
         Ok(circuit) => circuit,
         Err(failure) => return (0..5).for_each(|_| ledger.test(Some(told(failure.clone())))),
     };
     ledger.test(None);
     let most = |count: usize, most: usize, what: &str| (count > most).then(|| format!("{count} {what}, not {most}"));
-    ledger.test(most(circuit.gates.len(), model::ceiling(n, m), "gates").map(told));
+    ledger.test(most(circuit.gates.len(), size.ceiling(), "gates").map(told));
     ledger.test(most(circuit.ands(), 8 * m * n + 6 * n * n + 7 * m + 7 * n + 5, "AND gates").map(told));
     let random = &mut Random::new(seed);
     let state = |_| {
         let run = states::random(n, random);
         (states::table(m, &run.values, random), run)
     };
-    let cases: Vec<(Vec<Row>, Run)> = (0..STATES).map(state).collect();
+    let cases: Vec<(Vec<Row>, Run)> = (0..STATES[some]).map(state).collect();
     ledger.test(steps(&circuit, &cases, ledger).map(told));
-    let cases: Vec<(Vec<Row>, u64)> = (0..RUNS).map(|_| table(size, random)).collect();
+    let cases: Vec<(Vec<Row>, u64)> = (0..RUNS[some]).map(|_| table(size, random)).collect();
     ledger.test(runs(&circuit, n, &cases, ledger).map(told));
     ledger.kind("gates", circuit.gates.len());
     ledger.kind("AND gates", circuit.ands());
 }
 
-/// Every state with every pair of tables, a test for each left table's first row.
+/// Every state with all tables, a test for each left table's first row.
 fn exhaustive(size: Size, room: &Room, ledger: &Ledger) {
-    let (n, left, right) = size;
-    let told = |failure: String| format!("circuit \"{n} {left} {right}\", every state: {failure}");
+    let n = size.n;
+    let told = |failure: String| format!("circuit \"{}\", every state: {failure}", shown(size));
     let circuit = match circuit(room, size) {
         Ok(circuit) => circuit,
         Err(failure) => return ledger.test(Some(told(failure))),
@@ -220,7 +241,7 @@ fn exhaustive(size: Size, room: &Room, ledger: &Ledger) {
     ledger.test(odd.map(|state| told(format!("{state:?} is not read back"))));
     for first in &rows {
         let mut failure = None;
-        for rest in states::ways(rows.len(), left + right - 1) {
+        for rest in states::ways(rows.len(), size.rows() - 1) {
             let table: Vec<Row> = [first].into_iter().chain(rest.iter().map(|&k| &rows[k])).cloned().collect();
             let cases: Vec<(Vec<Row>, Run)> = states.iter().map(|run| (table.clone(), run.clone())).collect();
             failure = failure.or_else(|| steps(&circuit, &cases, ledger));
@@ -229,34 +250,27 @@ fn exhaustive(size: Size, room: &Room, ledger: &Ledger) {
     }
 }
 
-/// A case of folder cases whose answer the repeats of a circuit can give: its name, tables, budget and whole output.
+/// A case of folder cases whose answer the repeats of a circuit can give: its name, tables and budget, and the whole output.
 struct Written {
     name: String,
-    size: Size,
-    rows: Vec<Row>,
-    budget: u64,
+    read: Read,
     expected: String,
 }
 
 /// A written case whose circuit the program serves.
 fn written(case: &Path) -> Option<Written> {
     let text = |name: &str| fs::read(case.join(name)).ok();
-    let (left, right) = (text("left.cnf")?, text("right.cnf")?);
-    let (table, budget) = model::pair(Some(&left), Some(&right), &text("stdin")?).ok()?;
-    let left = model::read(&left).ok()?.rows.len();
-    (model::ceiling(table.n, table.rows.len()) <= model::SERVED).then_some(Written {
-        name: case.display().to_string(),
-        size: (table.n, left, table.rows.len() - left),
-        rows: table.rows,
-        budget,
-        expected: String::from_utf8(text("expected")?).ok()?,
-    })
+    let texts = NAMES.map(text);
+    let read = model::pair([0, 1, 2].map(|k| texts[k].as_deref()), &text("stdin")?).ok()?;
+    let expected = String::from_utf8(text("expected")?).ok()?;
+    served(&read.size).then(|| Written { name: case.display().to_string(), read, expected })
 }
 
 /// The repeats of a circuit give the answer that was written by hand.
 fn written_test(case: &Written, room: &Room) -> Option<String> {
-    let repeated = circuit(room, case.size)
-        .and_then(|circuit| repeats(&circuit, case.size.0, &[(case.rows.clone(), case.budget)]))
+    let Read { size, rows, budget } = &case.read;
+    let repeated = circuit(room, *size)
+        .and_then(|circuit| repeats(&circuit, size.n, &[(rows.clone(), *budget)]))
         .map(|answers| answers.iter().map(model::printed).collect::<String>());
     match repeated {
         Ok(printed) if printed == case.expected => None,
@@ -265,27 +279,63 @@ fn written_test(case: &Written, room: &Room) -> Option<String> {
     }
 }
 
+/// Sizes with the second and third line of their texts, worked out by hand.
+const HEADERS: [([usize; 4], &str); 6] = [
+    ([1, 1, 1, 0], "3 2 2 9\n2 9 1\n"),
+    ([1, 1, 1, 1], "4 2 2 2 9\n2 9 1\n"),
+    ([1, 13, 13, 14], "4 26 26 28 9\n2 9 1\n"),
+    ([2, 1, 3, 4], "4 4 12 16 21\n2 21 1\n"),
+    ([3, 8, 9, 0], "3 48 54 39\n2 39 1\n"),
+    ([7, 1, 1, 0], "3 14 14 171\n2 171 1\n"),
+];
+
+/// The text has these lines, with no number written otherwise.
+fn header_test(([n, left, right, public], lines): ([usize; 4], &str), room: &Room) -> Option<String> {
+    let input = line(Size { n, left, right, public });
+    let text = match printed(room, &input, &Source::Missing) {
+        Ok(text) => String::from_utf8_lossy(&text).into_owned(),
+        Err(failure) => return Some(failure),
+    };
+    let found: String = text.split_inclusive('\n').skip(1).take(2).collect();
+    (found != lines).then(|| format!("line {}: the text has {found:?} and not {lines:?}", report::quoted(&input)))
+}
+
 // ---- Lines
 
 /// What stands on standard input.
 #[rustfmt::skip]
 const LINES: &[&[u8]] = &[
-    b"", b"\n", b" \n", b"1\n", b"1 1\n", b"1 1 1", b"1 1 1\n", b"1 1 1 \n", b" 1 1 1\n", b"1  1 1\n", b"1 1  1\n", b"1\t1\t1\n", b"1 1\t1\n", b"1\t1 1\n",
-    b"1 1 1\r\n", b"1 1 1\t\n", b"1 1 1 1\n", b"1 1 1 0\n", b"1 1 1\0\n", b"\x001 1 1\n", b"1 1 1\n\n", b"1 1 1\n2 2 2\n", b"1 1 1\nx\0\xff", b"\n1 1 1\n",
-    b"01 1 1\n", b"1 001 1\n", b"1 1 0000000001\n", b"002 001 003\n", b"+1 1 1\n", b"1 +1 1\n", b"1 1 +1\n", b"-1 1 1\n", b"1 -1 1\n", b"1 1 -1\n", b"-0 1 1\n",
-    b"1,1,1\n", b"1 1,1\n", b"1.0 1 1\n", b"0x1 1 1\n", b"1e0 1 1\n", b"a 1 1\n", b"1 a 1\n", b"1 1 a\n", b"/ 1 1\n", b": 1 1\n", b"1 1 :\n", b"1 1 1a\n", b"p cnf 1 1\n",
-    b"\xd9\xa1 1 1\n", b"1\xc2\xa01 1\n", b"1\x0b1 1\n", b"1 1\n1\n", b"1\n1 1\n", b"1 1 \n1\n", b"1 \n", b"1 1 \n", b"  \n", b"1   1\n", b"  1\n",
-    b"18446744073709551615 1 1\n", b"18446744073709551616 1 1\n", b"18446744073709551617 1 1\n", b"1 18446744073709551617 1\n", b"1 1 18446744073709551617\n",
-    b"1 18446744073709551615 1\n", b"1 1 18446744073709551615\n", b"1 18446744073709551616 1\n", b"1 1 18446744073709551616\n", b"33 18446744073709551616 1\n",
-    b"0 0 18446744073709551616\n", b"018446744073709551615 1 1\n", b"18446744073709551615 18446744073709551615 18446744073709551615\n",
-    b"99999999999999999999 1 1\n", b"340282366920938463463374607431768211457 1 1\n", b"0 0 0 \n", b"33 129 129 1\n", b"33 129\n", b"33 x 129\n",
+    b"", b"\n", b" \n", b"1\n", b"1 1\n", b"1 1 1\n", b"1 1 1 0", b"1 1 1 0\n", b"1 1 1 1\n", b"1 1 1 0 \n", b"1 1 1 \n", b" 1 1 1 0\n", b"1  1 1 0\n",
+    b"1 1  1 0\n", b"1 1 1  0\n", b"1\t1\t1\t0\n", b"1 1\t1 0\n", b"1\t1 1 0\n", b"1 1 1\t0\n", b"1 1 1 0\r\n", b"1 1 1\r 0\n", b"1 1 1 0\t\n",
+    b"1 1 1 0 0\n", b"1 1 1 1 1\n", b"1 1 1 0\0\n", b"\x001 1 1 0\n", b"1 1 1 0\n\n", b"1 1 1 1\n2 2 2 2\n", b"1 1 1 0\nx\0\xff", b"\n1 1 1 0\n",
+    b"01 1 1 0\n", b"1 001 1 0\n", b"1 1 0000000001 0\n", b"1 1 1 00\n", b"1 1 1 0000000002\n", b"002 001 003 004\n", b"+1 1 1 0\n", b"1 +1 1 0\n",
+    b"1 1 +1 0\n", b"1 1 1 +0\n", b"-1 1 1 0\n", b"1 -1 1 0\n", b"1 1 -1 0\n", b"1 1 1 -1\n", b"-0 1 1 0\n", b"1 1 1 -0\n", b"1,1,1,0\n", b"1 1,1 0\n",
+    b"1 1 1,0\n", b"1.0 1 1 0\n", b"0x1 1 1 0\n", b"1e0 1 1 0\n", b"a 1 1 0\n", b"1 a 1 0\n", b"1 1 a 0\n", b"1 1 1 a\n", b"/ 1 1 0\n", b": 1 1 0\n",
+    b"1 1 : 0\n", b"1 1 1 /\n", b"1 1 1 0a\n", b"1 1 1a 0\n", b"p cnf 1 1\n", b"\xd9\xa1 1 1 0\n", b"1\xc2\xa01 1 0\n", b"1\x0b1 1 0\n", b"1 1 1\x0b0\n",
+    b"1 1 1\n0\n", b"1 1\n1 0\n", b"1\n1 1 0\n", b"1 1 1 \n0\n", b"1 \n", b"1 1 \n", b"   \n", b"1    1\n", b"   1\n", b"1 1  \n",
+    b"18446744073709551615 1 1 0\n", b"18446744073709551616 1 1 0\n", b"18446744073709551617 1 1 0\n", b"1 18446744073709551617 1 0\n",
+    b"1 1 18446744073709551617 0\n", b"1 1 1 18446744073709551617\n", b"1 18446744073709551615 1 0\n", b"1 1 18446744073709551615 0\n",
+    b"1 1 1 18446744073709551615\n", b"1 18446744073709551616 1 0\n", b"1 1 18446744073709551616 0\n", b"1 1 1 18446744073709551616\n",
+    b"33 18446744073709551616 1 0\n", b"0 0 18446744073709551616 0\n", b"0 0 0 18446744073709551616\n", b"33 1 1 18446744073709551616\n",
+    b"018446744073709551615 1 1 0\n", b"1 1 1 018446744073709551616\n", b"99999999999999999999 1 1 0\n", b"340282366920938463463374607431768211457 1 1 0\n",
+    b"18446744073709551615 18446744073709551615 18446744073709551615 18446744073709551615\n", b"0 0 0 0 \n", b"0 0 0 0\n", b"33 129 129 129 1\n",
+    b"33 129 129\n", b"33 129 129 129\n", b"33 x 129 0\n", b"33 1 1 x\n",
 ];
 
 /// The lines of the list, lines around 100 bytes, and sizes at every limit and around it.
 fn lines() -> Vec<Vec<u8>> {
     let mut lines: Vec<Vec<u8>> = LINES.iter().map(|line| line.to_vec()).collect();
     for length in [99, 100, 101, 102, 103, 255, 256, 257, 65_536] {
-        for end in [&b"1 1 1\n"[..], b"1 1 1\nmore\n", b"1 1 1", b"33 1 1\n", b"1 129 1\n", b"8 1 1\n"] {
+        for end in [
+            &b"1 1 1 0\n"[..],
+            b"1 1 1 2\n",
+            b"1 1 1 0\nmore\n",
+            b"1 1 1 0",
+            b"33 1 1 0\n",
+            b"1 129 1 0\n",
+            b"1 1 1 129\n",
+            b"8 1 1 0\n",
+        ] {
             let line = end.iter().position(|&b| b == b'\n').map_or(end.len(), |at| at + 1);
             lines.push([&vec![b'0'; length - line][..], end].concat());
             let (front, back) = end.split_at(line - 2);
@@ -293,28 +343,53 @@ fn lines() -> Vec<Vec<u8>> {
             lines.push([front, &vec![b' '; length - line], back].concat());
         }
     }
+    lines.extend(odd_sizes());
+    lines.extend(first_refused().into_iter().map(line));
+    lines
+}
+
+/// Lines of numbers at the limits and around them: three together, the public row count with each other one, and all four.
+fn odd_sizes() -> Vec<Vec<u8>> {
     let wide = [0, 1, 2, 32, 33, 128, 129, 255, 256, 257, 258, 65_537, (1 << 32) + 1, u64::MAX];
-    for n in wide {
-        for left in wide {
-            lines.extend(wide.map(|right| format!("{n} {left} {right}\n").into_bytes()));
+    let few = [0, 1, 33, 129, 257];
+    let mut sizes: Vec<[u64; 4]> = vec![];
+    for a in wide {
+        for b in wide {
+            sizes.extend(wide.map(|c| [a, b, c, 0]));
+            sizes.extend([[a, 1, 1, b], [1, a, 1, b], [1, 1, a, b]]);
         }
     }
+    for a in few {
+        for b in few {
+            sizes.extend(few.iter().flat_map(|&c| few.map(|d| [a, b, c, d])));
+        }
+    }
+    sizes.into_iter().map(|[a, b, c, d]| format!("{a} {b} {c} {d}\n").into_bytes()).collect()
+}
+
+/// For every n and left row count the first right one that makes a circuit too large, and the first public one.
+fn first_refused() -> Vec<Size> {
+    let mut sizes = vec![];
     for n in 1..=32 {
         for left in 1..=128 {
-            // the first right table that is too long
-            let right = (1..=128).find(|right| model::ceiling(n, left + right) > model::SERVED).unwrap_or(128);
+            let right = (1..=128).find(|&right| !served(&size([n, left, right, 0]))).unwrap_or(128);
+            let public = (0..=128).find(|&public| !served(&size([n, left, 1, public]))).unwrap_or(128);
             if left < 5 || right > 1 {
-                lines.push(line((n, left, right)));
+                sizes.push(size([n, left, right, 0]));
+            }
+            if public > 0 {
+                sizes.push(size([n, left, 1, public]));
             }
         }
     }
-    lines
+    sizes
 }
 
 /// A size that is served, with one to three strokes of damage.
 fn damaged(number: usize) -> Vec<u8> {
     let random = &mut Random::new(DAMAGE_SEED + number as u64);
-    let mut line = line((random.between(1, 3), random.between(1, 6), random.between(1, 6)));
+    let numbers = [random.between(1, 3), random.between(1, 6), random.between(1, 6), random.between(0, 5)];
+    let mut line = line(size(numbers));
     for _ in 0..*random.pick(&[1, 1, 2, 3]) {
         damage::strike(&mut line, random);
     }
@@ -345,8 +420,8 @@ fn line_test(input: &[u8], brought: &Source, room: &Room, ledger: &Ledger) {
 
 /// Standard input that stays open, and brings the line in two parts.
 fn held_test(room: &Room) -> Option<String> {
-    let held = room.run_held(&Source::Missing, &Source::Missing, b"2 1 00000000003\nmore\n");
-    match (held, printed(room, b"2 1 3\n", &Source::Missing)) {
+    let held = room.run_held(&NO_FILES, b"2 1 3 00000000004\nmore\n");
+    match (held, printed(room, b"2 1 3 4\n", &Source::Missing)) {
         (Ok(ran), Ok(expected)) if ran.fault.is_none() && ran.output == expected => None,
         (Ok(ran), _) => Some(format!("held input gives {} {:?}", report::quoted(&ran.output), ran.fault)),
         (Err(error), _) => Some(format!("held input: {error}")),
@@ -355,7 +430,7 @@ fn held_test(room: &Room) -> Option<String> {
 
 /// A standard output that is often full: what comes through is a front of the text, never a text with a hole.
 fn narrow_test(number: usize, room: &Room, ledger: &Ledger) {
-    let input = line(LONG[number % LONG.len()]);
+    let input = line(size(LONG[number % LONG.len()]));
     let pause = Duration::from_micros(number as u64 % 50);
     let failure = match (room.run_narrow(&input, pause), printed(room, &input, &Source::Missing)) {
         (Ok(output), Ok(text)) if !output.is_empty() && text.starts_with(&output) => {
@@ -378,13 +453,14 @@ pub fn run(program: &Path, own: &Path) -> std::io::Result<Tally> {
         size_tests(sizes[sizes.len() - 1 - number], room, &ledger)
     })?;
     total.add(ledger.close(&format!(
-        "{} circuits, each on {STATES} random states and {RUNS} whole runs, seeds from {SEED}",
-        sizes.len()
+        "{} circuits, {} without public rows, on {STATES:?} random states and {RUNS:?} whole runs each, seeds from {SEED}",
+        sizes.len(),
+        sizes.iter().filter(|size| size.public == 0).count()
     )));
 
     let ledger = Ledger::default();
-    report::spread([program], SMALLEST.len(), |number, [room]| exhaustive(SMALLEST[number], room, &ledger))?;
-    total.add(ledger.close(&format!("every state and every table of {} sizes", SMALLEST.len())));
+    report::spread([program], SMALLEST.len(), |number, [room]| exhaustive(size(SMALLEST[number]), room, &ledger))?;
+    total.add(ledger.close(&format!("every state and all tables of {} sizes", SMALLEST.len())));
 
     let cases =
         fs::read_dir(own.join("cases"))?.map(|case| Ok(written(&case?.path()))).collect::<std::io::Result<Vec<_>>>()?;
@@ -393,11 +469,15 @@ pub fn run(program: &Path, own: &Path) -> std::io::Result<Tally> {
     report::spread([program], cases.len(), |number, [room]| ledger.test(written_test(&cases[number], room)))?;
     total.add(ledger.close(&format!("circuits repeated on {} cases with written answers", cases.len())));
 
+    let ledger = Ledger::default();
+    report::spread([program], HEADERS.len(), |number, [room]| ledger.test(header_test(HEADERS[number], room)))?;
+    total.add(ledger.close("header lines worked out by hand"));
+
     let (ledger, lines) = (Ledger::default(), lines());
     report::spread([program], lines.len(), |number, [room]| {
         line_test(&lines[number], &Source::Missing, room, &ledger)
     })?;
-    report::spread([program], 1, |_, [room]| line_test(b"2 1 3\n", &Source::Slow(vec![]), room, &ledger))?;
+    report::spread([program], 1, |_, [room]| line_test(b"2 1 3 1\n", &Source::Slow(vec![]), room, &ledger))?;
     report::spread([program], 1, |_, [room]| ledger.test(held_test(room)))?;
     total.add(ledger.close(&format!("{} listed dimension lines", lines.len() + 2)));
 

@@ -1,7 +1,8 @@
-//! Texts and lines that are damaged, or as odd as document 01 allows: a list thought out, and random damage.
+//! Texts and lines that are damaged, or as odd as documents 01 and 02 allow: a list thought out, and random damage.
 
 use crate::layout;
 use crate::model::{self, Row, TEXT_LIMIT};
+use crate::process::NAMES;
 use crate::random::Random;
 use crate::report::{Group, Test};
 
@@ -26,6 +27,7 @@ const HEADERS: &[&[u8]] = &[
     b"c\r\np cnf 1 1", b"c\rp cnf 1 1", b"cp cnf 1 1\np cnf 1 1", b"C\np cnf 1 1", b"c\0\xff\np cnf 1 1", b"c\nc\nc\np cnf 1 1", b"%\np cnf 1 1",
     b"1 0\np cnf 1 1", b"p cnf 1 1\r\r", b"p cnf 1 1\n\n\n", b"p cnf 1 1\nc", b"p cnf 1 1\nc\n", b"p cnf 1 1\n c\n",
     b"p cnf 1 1\nc\nc 1 0\r", b"p cnf 1 1\n\nc\n\nc", b"c\np cnf 33 1\nc", b"p cnf 1 1\r\nc", b"p cnf 1 1c\nc", b"p cnf 1\nc\n1", b"p\nc\ncnf 1 1",
+    b"p cnf 1 0 \t\r", b"p cnf 1 0x", b"p cnf 1 0 0", b"p cnf 32 0", b"p cnf 33 0", b"p cnf 1 0\n\n", b"p cnf 1 0\nc", b"p cnf 1 0\n0", b"p cnf 1 0\nc\n-1",
 ];
 
 /// What stands after `p cnf 2 2`, the second clause being right in most.
@@ -57,53 +59,63 @@ const LINES: &[&[u8]] = &[
     b"340282366920938463463374607431768211457\n", b"18446744073709551615", b"18446744073709551615 \n",
 ];
 
-/// Every text of the lists, left and right, and every line, on tables that close within a few steps.
+/// A text in the place of each of three in turn. The others are right: a station's has this row over as many variables, the
+/// public one has none.
+fn each(what: &str, row: &[i64], text: &[u8], tests: &mut Vec<Test>) {
+    let n = row.len();
+    let station = layout::plain(n, &[row.to_vec()]);
+    let right = [station.clone(), station, layout::plain(n, &[])];
+    for (place, name) in NAMES.iter().enumerate() {
+        let mut texts = right.clone();
+        texts[place] = text.to_vec();
+        let name = format!("{what} \"{}\", {name}", text[..text.len().min(60)].escape_ascii());
+        tests.push(Test::new(name, texts, b"9\n".to_vec()));
+    }
+}
+
+/// Every text of the lists in each place, and every line, on tables that close within a few steps.
 fn listed() -> Vec<Test> {
     let mut tests = vec![];
-    let mut both = |what: &str, text: Vec<u8>, other: &[u8]| {
-        let name = |side| format!("{what} \"{}\", {side}", text[..text.len().min(60)].escape_ascii());
-        tests.push(Test::new(name("left"), text.clone(), other.to_vec(), b"9\n".to_vec()));
-        tests.push(Test::new(name("right"), other.to_vec(), text.clone(), b"9\n".to_vec()));
-    };
     for header in HEADERS {
         for clause in [&b"\n1 0\n"[..], b"", b"\nx"] {
-            both("header", [header, clause].concat(), b"p cnf 1 1\n1 0\n");
+            each("header", &[1], &[header, clause].concat(), &mut tests);
         }
     }
     for body in BODIES {
-        both("body", [b"p cnf 2 2\n", *body].concat(), b"p cnf 2 1\n-2 1 0\n");
+        each("body", &[-2, 1], &[b"p cnf 2 2\n", *body].concat(), &mut tests);
+        each("body behind no rows", &[-2, 1], &[b"p cnf 2 0\n", *body].concat(), &mut tests);
     }
     for text in sized() {
-        both(&format!("{} bytes", text.len()), text, b"p cnf 1 1\n1 0\n");
+        each(&format!("{} bytes", text.len()), &[1], &text, &mut tests);
     }
     tests.extend(overlong());
     for line in lines() {
-        for (left, right) in [("p cnf 2 1\n1 2 0\n", "p cnf 2 1\n-1 0\n"), ("p cnf 2 1\n1 2 0\n", "p cnf 3 1\n-1 0\n")]
-        {
+        for other in [[2, 2, 2], [2, 3, 2], [2, 2, 3]] {
+            let [left, right, public] = other.map(|n| format!("p cnf {n} "));
+            let texts = [left + "1\n1 2 0\n", right + "1\n-1 0\n", public + "0\n"].map(String::into_bytes);
             let name = format!("line \"{}\"", line[..line.len().min(120)].escape_ascii());
-            tests.push(Test::new(name, left.into(), right.into(), line.clone()));
+            tests.push(Test::new(name, texts, line.clone()));
         }
     }
     tests
 }
 
-/// A text that its last remark, which is nothing to the table, makes as long as it may be, and a byte longer.
-fn overlong() -> [Test; 2] {
-    let text = |length: usize| {
-        let start = b"p cnf 1 1\n1 0\nc";
-        [&start[..], &vec![b'1'; length - start.len()]].concat()
-    };
-    [(TEXT_LIMIT, "c steps 2\ns SATISFIABLE\nv 1 0\n".into()), (TEXT_LIMIT + 1, model::refused(5))].map(
-        |(length, expected)| Test {
-            expected: Some(expected),
-            ..Test::new(
-                format!("{length} bytes with a last remark"),
-                text(length),
-                b"p cnf 1 1\n1 0\n".to_vec(),
-                b"9\n".to_vec(),
-            )
-        },
-    )
+/// A text that its last remark, which is nothing to the table, makes as long as it may be, and a byte longer; in each place.
+fn overlong() -> Vec<Test> {
+    let mut tests = vec![];
+    let right: [&[u8]; 3] = [b"p cnf 1 1\n1 0\n", b"p cnf 1 1\n1 0\n", b"p cnf 1 0\n"];
+    let answer: String = "c steps 2\ns SATISFIABLE\nv 1 0\n".into();
+    for (length, expected) in [(TEXT_LIMIT, answer), (TEXT_LIMIT + 1, model::refused(5))] {
+        for (place, name) in NAMES.iter().enumerate() {
+            let mut texts = right.map(<[u8]>::to_vec);
+            texts[place].push(b'c');
+            texts[place].resize(length, b'1');
+            let name = format!("{name} of {length} bytes with a last remark");
+            let test = Test::new(name, texts, b"9\n".to_vec());
+            tests.push(Test { expected: Some(expected.clone()), ..test });
+        }
+    }
+    tests
 }
 
 /// The lines of the list, and lines around each limit of length: of zeros, with another digit first or last, or with a letter last.
@@ -125,7 +137,9 @@ fn lines() -> Vec<Vec<u8>> {
 /// Texts around the limit of 65,536 bytes, and around the 4,096 up to which the program reads into small buffers, filled up in each
 /// place where a text can grow.
 fn sized() -> Vec<Vec<u8>> {
-    let shapes: [(&[u8], u8, &[u8]); 17] = [
+    let shapes: [(&[u8], u8, &[u8]); 19] = [
+        (b"p cnf 1 0\n", b'\r', b"\n"),
+        (b"p cnf 1 0\nc", b'0', b""),
         (b"p cnf 1 1\nc", b'x', b"\n1 0\n"),
         (b"p cnf 1 1\n1\nc 2", b' ', b"\n0"),
         (b"p cnf 1 1\n1 0\nc", b'0', b""),
@@ -206,14 +220,14 @@ pub fn strike(text: &mut Vec<u8>, random: &mut Random) {
     }
 }
 
-/// A small pair of tables in some layout, then one to three strokes on a text or the line.
+/// Small tables in some layout, then one to three strokes on a text or the line.
 fn tests(number: usize) -> Vec<Test> {
     let seed = SEED + number as u64;
     let random = &mut Random::new(seed);
     let n = random.between(1, 6);
     let mut parts: Vec<Vec<u8>> = vec![];
-    for _ in 0..2 {
-        let count = random.between(1, 4);
+    for least in [1, 1, 0] {
+        let count = random.between(least, 4);
         let rows: Vec<Row> = (0..count)
             .map(|_| {
                 let width = *random.pick(&[0, 1, 2, 2, 2, 3, 3, 3]);
@@ -224,17 +238,18 @@ fn tests(number: usize) -> Vec<Test> {
     }
     parts.push(format!("{}\n", random.below(40)).into_bytes());
     for _ in 0..*random.pick(&[1, 1, 1, 2, 3]) {
-        let part = *random.pick(&[0, 0, 0, 1, 1, 1, 2]);
+        let part = *random.pick(&[0, 0, 0, 1, 1, 1, 2, 2, 2, 3]);
         strike(&mut parts[part], random);
     }
-    let [left, right, line] = [parts[0].clone(), parts[1].clone(), parts[2].clone()];
+    let line = parts.pop().expect("the line comes last");
+    let texts = [0, 1, 2].map(|k| parts[k].clone());
     // with remarks put in the answer stays
-    let [l, r] = [&left, &right].map(|text| layout::remarked(text, random));
+    let remarked = [0, 1, 2].map(|k| layout::remarked(&texts[k], random));
     let remarked = Test {
-        expected: Some(model::output(Some(&left), Some(&right), &line)),
-        ..Test::new(format!("damage {number} and remarks, seed {seed}"), l, r, line.clone())
+        expected: Some(model::output([0, 1, 2].map(|k| Some(&texts[k][..])), &line)),
+        ..Test::new(format!("damage {number} and remarks, seed {seed}"), remarked, line.clone())
     };
-    vec![Test::new(format!("damage {number}, seed {seed}"), left, right, line), remarked]
+    vec![Test::new(format!("damage {number}, seed {seed}"), texts, line), remarked]
 }
 
 /// The listed tests, and the random ones.

@@ -15,7 +15,7 @@ pub mod memory;
 pub mod model;
 pub mod pictures;
 pub mod process;
-pub mod public;
+pub mod published;
 pub mod random;
 pub mod report;
 pub mod sections;

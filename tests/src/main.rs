@@ -7,7 +7,9 @@
 
 use forkhemit_tests::process::Source;
 use forkhemit_tests::report::{self, Tally};
-use forkhemit_tests::{assumed, cases, circuits, claims, contracts, damage, hosts, pictures, public, symbols, tables};
+use forkhemit_tests::{
+    assumed, cases, circuits, claims, contracts, damage, hosts, pictures, published, symbols, tables,
+};
 use std::path::Path;
 use std::process::{Command, ExitCode, Stdio};
 
@@ -24,12 +26,12 @@ fn pair_tests(program: &Path, own: &Path) -> std::io::Result<Tally> {
     let missing = || std::io::Error::new(std::io::ErrorKind::NotFound, format!("none of {SOLVERS:?} is installed"));
     let solver = SOLVERS.into_iter().find(|solver| present(solver)).ok_or_else(missing)?;
     println!("verdicts are compared with {solver}");
-    let files = public::files(&own.join("dimacs"))?;
+    let files = published::files(&own.join("dimacs"))?;
     let [listed, damaged] = damage::groups();
     let groups = if program.parent().map_or(false, |folder| folder.ends_with("static")) {
-        vec![cases::group(own, Source::is_whole)?, public::group(&files)]
+        vec![cases::group(own, Source::is_whole)?, published::group(&files)]
     } else {
-        vec![cases::group(own, |_| true)?, public::group(&files), tables::group(), listed, damaged]
+        vec![cases::group(own, |_| true)?, published::group(&files), tables::group(), listed, damaged]
     };
     let mut total = Tally::default();
     for group in groups {

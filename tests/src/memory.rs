@@ -1,31 +1,22 @@
 //! Tables, runs and gates as words and bytes in memory, and what each function of the library gives and leaves there, as
-//! document 01 and the header for hosts describe them. A run in words is 101 of them: n, standing, T, F, depth, and 32
+//! documents 01 and 02 and the header for hosts describe them. A run in words is 101 of them: n, standing, T, F, depth, and 32
 //! levels of T, F and the chosen variable from 0.
 
 use crate::bristol::Gate;
-use crate::model::{self, Row, Run, Standing, Value};
+use crate::model::{self, Row, Run, Size, Standing, Value};
 use crate::wires;
 
 pub const RUN_WORDS: usize = 101;
 const LEVELS: usize = 32;
 
-/// n and the two row counts.
-pub type Size = (usize, usize, usize);
-
-/// Numbers that are within the limits: 1, then 2.
-pub fn size(n: u64, left: u64, right: u64) -> Result<Size, u8> {
-    if !(1..=32).contains(&n) {
-        return Err(1);
-    }
-    if !(1..=128).contains(&left) || !(1..=128).contains(&right) {
-        return Err(2);
-    }
-    Ok((n as usize, left as usize, right as usize))
+/// A number of variables within the limits, or 1.
+pub fn variables(n: u64) -> Result<usize, u8> {
+    model::VARIABLES.contains(&n).then_some(n as usize).ok_or(1)
 }
 
 /// The wires of all rows and a state.
-pub fn input_wires((n, left, right): Size) -> usize {
-    2 * n * (left + right) + wires::state_width(n)
+pub fn input_wires(size: Size) -> usize {
+    2 * size.n * size.rows() + wires::state_width(size.n)
 }
 
 // ---- Tables
@@ -47,11 +38,12 @@ pub fn row_words(rows: &[Row]) -> Vec<u32> {
     rows.iter().flat_map(|row| [word(row, 1), word(row, -1)]).collect()
 }
 
-/// The rows of two accepted tables, left before right: 4, then 3.
-pub fn accepted((n, left, right): Size, tables: [&[u32]; 2]) -> Result<Vec<Row>, u8> {
-    let front = |words: &[u32], rows: usize| words.get(..2 * rows).map(<[u32]>::to_vec);
-    let words = [front(tables[0], left).ok_or(4)?, front(tables[1], right).ok_or(4)?].concat();
-    if words.iter().any(|&word| (n..32).any(|v| holds(word, v))) {
+/// The rows of three accepted tables, left, right, public: 4, then 3.
+pub fn accepted(size: Size, tables: [&[u32]; 3]) -> Result<Vec<Row>, u8> {
+    let counted = tables.iter().zip([size.left, size.right, size.public]);
+    let fronts = counted.map(|(words, rows)| words.get(..2 * rows)).collect::<Option<Vec<&[u32]>>>();
+    let words = fronts.ok_or(4)?.concat();
+    if words.iter().any(|&word| (size.n..32).any(|v| holds(word, v))) {
         return Err(3);
     }
     Ok(words.chunks(2).map(|pair| row(pair[0], pair[1])).collect())
@@ -165,13 +157,13 @@ fn bytes(wires: Vec<bool>) -> Vec<u8> {
 }
 
 /// Rows and run, a byte a wire, in so many lent bytes: 4, 3, then 10, 12, 13.
-pub fn packed(size: Size, tables: [&[u32]; 2], run: &[u32], room: usize) -> Result<Vec<u8>, u8> {
+pub fn packed(size: Size, tables: [&[u32]; 3], run: &[u32], room: usize) -> Result<Vec<u8>, u8> {
     let rows = accepted(size, tables)?;
     if room < input_wires(size) {
         return Err(10);
     }
-    let run = run_for(size.0, run)?;
-    Ok([bytes(wires::rows(size.0, &rows)), bytes(wires::state(&run))].concat())
+    let run = run_for(size.n, run)?;
+    Ok([bytes(wires::rows(size.n, &rows)), bytes(wires::state(&run))].concat())
 }
 
 /// The state of n variables at the front of some bytes: 10, then 12.
@@ -183,25 +175,31 @@ pub fn read_back(n: usize, bytes: &[u8]) -> Result<Run, u8> {
 
 // ---- Texts
 
-/// The lines of a circuit's text, each with its LF.
-pub fn lines(size: Size, gates: &[Gate]) -> Vec<String> {
-    let (n, left, right) = size;
-    let (inputs, state) = (input_wires(size), wires::state_width(n));
-    let mut lines = vec![
-        format!("{} {}\n", gates.len(), inputs + gates.len()),
-        format!("3 {} {} {state}\n", 2 * n * left, 2 * n * right),
-        format!("2 {state} 1\n"),
-        "\n".into(),
-    ];
-    for (g, gate) in gates.iter().enumerate() {
-        let wire = inputs + g;
-        lines.push(match gate {
-            Gate::Xor(first, second) => format!("2 1 {first} {second} {wire} XOR\n"),
-            Gate::And(first, second) => format!("2 1 {first} {second} {wire} AND\n"),
-            Gate::Inv(operand) => format!("1 1 {operand} {wire} INV\n"),
-        });
+/// The lines of a circuit's text from the one of a number on, each with its LF.
+pub fn lines(size: Size, gates: &[Gate], from: usize) -> impl Iterator<Item = String> + '_ {
+    (from..4 + gates.len()).map(move |number| line(size, gates, number))
+}
+
+/// One of them: the gates and wires, the input values, the output values, a blank line, then a gate.
+fn line(size: Size, gates: &[Gate], number: usize) -> String {
+    let inputs = input_wires(size);
+    let g = match number {
+        0 => return format!("{} {}\n", gates.len(), inputs + gates.len()),
+        1 => {
+            let widths = wires::input_widths(size);
+            let values: String = widths.iter().map(|width| format!(" {width}")).collect();
+            return format!("{}{values}\n", widths.len());
+        }
+        2 => return format!("2 {} 1\n", wires::state_width(size.n)),
+        3 => return "\n".into(),
+        _ => number - 4,
+    };
+    let wire = inputs + g;
+    match gates[g] {
+        Gate::Xor(first, second) => format!("2 1 {first} {second} {wire} XOR\n"),
+        Gate::And(first, second) => format!("2 1 {first} {second} {wire} AND\n"),
+        Gate::Inv(operand) => format!("1 1 {operand} {wire} INV\n"),
     }
-    lines
 }
 
 /// The composed answer of these numbers: a verdict that is none of 0, 1 and 2 is unknown, and the model is a word.

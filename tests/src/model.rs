@@ -1,19 +1,58 @@
-//! Both programs as document 01 describes them, in plain Rust and for the tests only. Literals stay numbers and a
+//! Both programs as documents 01 and 02 describe them, in plain Rust and for the tests only. Literals stay numbers and a
 //! state is a list of truth values: nothing of the product's own words, states or readers stands in here.
+
+use std::ops::RangeInclusive;
 
 pub const TEXT_LIMIT: usize = 65_536;
 pub const LINE_LIMIT: usize = 100;
 /// The greatest ceiling that the circuit program serves.
 pub const SERVED: usize = 5_461;
+/// How many variables there may be, how many rows a station may have, and how many the public table.
+pub const VARIABLES: RangeInclusive<u64> = 1..=32;
+pub const STATION: RangeInclusive<u64> = 1..=128;
+pub const PUBLIC: RangeInclusive<u64> = 0..=128;
 
 /// A row: its literals in the order of the text, each once.
 pub type Row = Vec<i64>;
 
-/// What one station's text holds.
+/// What one text holds.
 #[derive(Clone, Debug, PartialEq)]
 pub struct Table {
     pub n: usize,
     pub rows: Vec<Row>,
+}
+
+/// n and the row counts of the three tables.
+#[derive(Clone, Copy, Debug, PartialEq, Eq, PartialOrd, Ord)]
+pub struct Size {
+    pub n: usize,
+    pub left: usize,
+    pub right: usize,
+    pub public: usize,
+}
+
+impl Size {
+    /// Numbers that are within the limits: 1, then 2.
+    pub fn new([n, left, right, public]: [u64; 4]) -> Result<Size, u8> {
+        if !VARIABLES.contains(&n) {
+            return Err(1);
+        }
+        if !STATION.contains(&left) || !STATION.contains(&right) || !PUBLIC.contains(&public) {
+            return Err(2);
+        }
+        let [n, left, right, public] = [n, left, right, public].map(|number| number as usize);
+        Ok(Size { n, left, right, public })
+    }
+
+    /// The rows of all three tables.
+    pub fn rows(&self) -> usize {
+        self.left + self.right + self.public
+    }
+
+    /// The most gates that the circuit may have.
+    pub fn ceiling(&self) -> usize {
+        64 * (self.rows() + self.n + 1) * (self.n + 1)
+    }
 }
 
 #[derive(Clone, Copy, Debug, PartialEq)]
@@ -109,18 +148,20 @@ pub fn without_remarks(text: &[u8]) -> Vec<u8> {
     text.split_inclusive(|&b| b == b'\n').filter(|line| line[0] != b'c').flatten().copied().collect()
 }
 
-/// One station's text: its table, or the number of the refusal.
-pub fn read(text: &[u8]) -> Result<Table, u8> {
+/// A text whose row count may be one of these: its table, or the number of the refusal.
+pub fn read(text: &[u8], counts: RangeInclusive<u64>) -> Result<Table, u8> {
     if text.len() > TEXT_LIMIT {
         return Err(5);
     }
     let plain = without_remarks(text);
     let (first, body) = line(&plain);
     let (n, m) = header(first).ok_or(5)?;
-    if !(1..=32).contains(&n) {
+    let within =
+        |number: i64, limits: RangeInclusive<u64>| u64::try_from(number).map_or(false, |k| limits.contains(&k));
+    if !within(n, VARIABLES) {
         return Err(1);
     }
-    if !(1..=128).contains(&m) {
+    if !within(m, counts) {
         return Err(2);
     }
     let rows = rows(body, n, m).ok_or(5)?;
@@ -259,16 +300,25 @@ pub fn run(n: usize, rows: &[Row], budget: u64) -> Answer {
 
 // ---- The pair program
 
-/// What the program reads of a pair: both tables' rows, left first, and the budget; or the number of the refusal. A
-/// file that cannot be read is None.
-pub fn pair(left: Option<&[u8]>, right: Option<&[u8]>, input: &[u8]) -> Result<(Table, u64), u8> {
-    let mut joined = read(left.ok_or(5)?)?;
-    let right = read(right.ok_or(5)?)?;
-    if joined.n != right.n {
+/// What the program reads: the size of the tables, their rows in order, and the budget.
+#[derive(Clone, Debug)]
+pub struct Read {
+    pub size: Size,
+    pub rows: Vec<Row>,
+    pub budget: u64,
+}
+
+/// What is read of the left, the right and the public text and of standard input, or the number of the refusal. A file
+/// that cannot be read is None.
+pub fn pair([left, right, public]: [Option<&[u8]>; 3], input: &[u8]) -> Result<Read, u8> {
+    let left = read(left.ok_or(5)?, STATION)?;
+    let right = read(right.ok_or(5)?, STATION)?;
+    let public = read(public.ok_or(5)?, PUBLIC)?;
+    if left.n != right.n || left.n != public.n || right.n != public.n {
         return Err(6);
     }
-    joined.rows.extend(right.rows);
-    Ok((joined, budget(input)?))
+    let size = Size { n: left.n, left: left.rows.len(), right: right.rows.len(), public: public.rows.len() };
+    Ok(Read { size, rows: [left.rows, right.rows, public.rows].concat(), budget: budget(input)? })
 }
 
 /// The printed answer, whole.
@@ -296,30 +346,23 @@ pub fn refused(number: u8) -> String {
 }
 
 /// What the pair program prints for these files and this standard input.
-pub fn output(left: Option<&[u8]>, right: Option<&[u8]>, input: &[u8]) -> String {
-    match pair(left, right, input) {
-        Ok((table, budget)) => printed(&run(table.n, &table.rows, budget)),
+pub fn output(texts: [Option<&[u8]>; 3], input: &[u8]) -> String {
+    match pair(texts, input) {
+        Ok(read) => printed(&run(read.size.n, &read.rows, read.budget)),
         Err(number) => refused(number),
     }
 }
 
 // ---- The circuit program
 
-/// The most gates that a circuit may have.
-pub fn ceiling(n: usize, m: usize) -> usize {
-    64 * (m + n + 1) * (n + 1)
-}
-
-/// The dimensions of the line on standard input, or the number of the refusal.
-pub fn dimensions(input: &[u8]) -> Result<(usize, usize, usize), u8> {
-    let parts = short_line(input)?.split(|&b| b == b' ').map(unsigned).collect::<Result<Vec<u64>, u8>>()?;
-    match parts[..] {
-        [n, _, _] if !(1..=32).contains(&n) => Err(1),
-        [_, left, right] if !(1..=128).contains(&left) || !(1..=128).contains(&right) => Err(2),
-        [n, left, right] if ceiling(n as usize, (left + right) as usize) > SERVED => Err(7),
-        [n, left, right] => Ok((n as usize, left as usize, right as usize)),
-        _ => Err(8),
+/// The size of the line on standard input, or the number of the refusal.
+pub fn dimensions(input: &[u8]) -> Result<Size, u8> {
+    let numbers = short_line(input)?.split(|&b| b == b' ').map(unsigned).collect::<Result<Vec<u64>, u8>>()?;
+    let size = Size::new(numbers.try_into().map_err(|_| 8)?)?;
+    if size.ceiling() > SERVED {
+        return Err(7);
     }
+    Ok(size)
 }
 
 /// What the circuit program prints in the place of a text.

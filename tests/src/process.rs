@@ -1,5 +1,6 @@
 //! Runs a program as a whole process, in a folder of its own.
 
+use std::collections::HashMap;
 use std::ffi::CString;
 use std::fs::{self, File, OpenOptions, Permissions};
 use std::io::{ErrorKind, Read, Seek, Write};
@@ -12,6 +13,7 @@ use std::path::{Path, PathBuf};
 use std::process::{Child, ChildStdin, Command, Stdio};
 use std::sync::atomic::{AtomicBool, Ordering};
 use std::sync::mpsc::{self, RecvTimeoutError};
+use std::sync::Mutex;
 use std::time::{Duration, Instant};
 
 const NOBODY: u32 = 65_534;
@@ -38,7 +40,10 @@ extern "C" {
     fn pipe2(ends: *mut c_int, flags: c_int) -> c_int;
 }
 
-/// A station's file as the program finds it.
+/// The files that the pair program reads, in this order.
+pub const NAMES: [&str; 3] = ["left.cnf", "right.cnf", "public.cnf"];
+
+/// A file as the program finds it.
 #[derive(Clone, Debug)]
 pub enum Source {
     Text(Vec<u8>),
@@ -54,9 +59,12 @@ pub enum Source {
     Breaking(Vec<u8>),
     /// The same, and the second read fails, that one alone.
     Faltering(Vec<u8>),
-    /// A named pipe: one writer feeds both, the left one whole before it opens the right one.
+    /// A named pipe: one writer feeds them all, each whole before it opens the next.
     Piped(Vec<u8>),
 }
+
+/// What the circuit program finds, which reads none.
+pub const NO_FILES: [Source; 3] = [Source::Missing, Source::Missing, Source::Missing];
 
 impl Source {
     /// The bytes that can be read, or None.
@@ -96,6 +104,8 @@ pub struct Ran {
 pub struct Room {
     folder: PathBuf,
     program: PathBuf,
+    /// What another solver said to each text.
+    said: Mutex<HashMap<Vec<u8>, bool>>,
 }
 
 impl Room {
@@ -108,42 +118,42 @@ impl Room {
         let own = folder.join("program");
         fs::copy(program, &own)?;
         fs::set_permissions(&own, Permissions::from_mode(0o755))?;
-        Ok(Room { folder, program: own })
+        Ok(Room { folder, program: own, said: Mutex::default() })
     }
 
-    /// Runs the pair program on these files, `input` on standard input.
-    pub fn run(&self, left: &Source, right: &Source, input: &[u8]) -> std::io::Result<Ran> {
-        self.run_with(&[], left, right, input)
+    /// Runs the program in the folder of these files, `input` on standard input.
+    pub fn run(&self, files: &[Source; 3], input: &[u8]) -> std::io::Result<Ran> {
+        self.run_with(&[], files, input)
     }
 
     /// Runs a program that takes arguments in the folder of these files.
-    pub fn run_with(&self, arguments: &[&str], left: &Source, right: &Source, input: &[u8]) -> std::io::Result<Ran> {
+    pub fn run_with(&self, arguments: &[&str], files: &[Source; 3], input: &[u8]) -> std::io::Result<Ran> {
         let given = self.folder.join("stdin");
         fs::write(&given, input)?;
         let mut shared = File::open(&given)?;
-        let mut command = self.command(left, right)?;
+        let mut command = self.command(files)?;
         let child = command.args(arguments).stdin(shared.try_clone()?).spawn()?;
-        let mut ran = self.finish(child, left, right)?;
+        let mut ran = self.finish(child, files)?;
         ran.taken = Some(shared.stream_position()?);
         Ok(ran)
     }
 
     /// Runs it with standard input a pipe that brings `input` in two parts and is not closed before the program ends.
-    pub fn run_held(&self, left: &Source, right: &Source, input: &[u8]) -> std::io::Result<Ran> {
-        let mut child = self.command(left, right)?.stdin(Stdio::piped()).spawn()?;
+    pub fn run_held(&self, files: &[Source; 3], input: &[u8]) -> std::io::Result<Ran> {
+        let mut child = self.command(files)?.stdin(Stdio::piped()).spawn()?;
         let mut pipe = child.stdin.take().expect("a pipe was asked for");
         for part in input.chunks(input.len() / 2 + 1) {
             pipe.write_all(part)?;
             await_taken(&mut child, &pipe)?;
         }
-        let ran = self.finish(child, left, right);
+        let ran = self.finish(child, files);
         drop(pipe);
         ran
     }
 
     /// Runs it without a standard input.
-    pub fn run_closed(&self, left: &Source, right: &Source) -> std::io::Result<Ran> {
-        let mut command = self.command(left, right)?;
+    pub fn run_closed(&self, files: &[Source; 3]) -> std::io::Result<Ran> {
+        let mut command = self.command(files)?;
         // SAFETY: close may be called between fork and exec.
         unsafe {
             command.pre_exec(|| match close(0) {
@@ -151,13 +161,13 @@ impl Room {
                 _ => Err(std::io::Error::last_os_error()),
             })
         };
-        self.finish(command.spawn()?, left, right)
+        self.finish(command.spawn()?, files)
     }
 
     /// What comes through a standard output that holds 4,096 bytes and fails when it is full, read with a pause before each read.
     pub fn run_narrow(&self, input: &[u8], pause: Duration) -> std::io::Result<Vec<u8>> {
         let (mut reader, writer) = narrow_pipe()?;
-        let mut command = self.command(&Source::Missing, &Source::Missing)?;
+        let mut command = self.command(&NO_FILES)?;
         let mut child = command.stdin(Stdio::piped()).stdout(writer).spawn()?;
         drop(command); // it holds the end to write to
         child.stdin.take().expect("a pipe was asked for").write_all(input)?;
@@ -177,11 +187,11 @@ impl Room {
     }
 
     /// The program in the folder of these files.
-    fn command(&self, left: &Source, right: &Source) -> std::io::Result<Command> {
+    fn command(&self, files: &[Source; 3]) -> std::io::Result<Command> {
         let data = self.folder.join("data");
         let mut command = Command::new(&self.program);
         command.current_dir(&data).stdout(Stdio::piped()).stderr(Stdio::piped());
-        for (name, source) in [("left.cnf", left), ("right.cnf", right)] {
+        for (name, source) in NAMES.iter().zip(files) {
             place(&data.join(name), source)?;
             match source {
                 Source::Locked if is_root()? => drop(command.uid(NOBODY).gid(NOBODY)),
@@ -195,13 +205,13 @@ impl Room {
     }
 
     /// Waits for the end of a program while named pipes are fed.
-    fn finish(&self, child: Child, left: &Source, right: &Source) -> std::io::Result<Ran> {
+    fn finish(&self, child: Child, files: &[Source; 3]) -> std::io::Result<Ran> {
         let data = self.folder.join("data");
         let ended = AtomicBool::new(false);
         std::thread::scope(|scope| {
-            if [left, right].iter().any(|source| matches!(source, Source::Piped(_))) {
+            if files.iter().any(|source| matches!(source, Source::Piped(_))) {
                 scope.spawn(|| {
-                    for (name, source) in [("left.cnf", left), ("right.cnf", right)] {
+                    for (name, source) in NAMES.iter().zip(files) {
                         if let Source::Piped(text) = source {
                             feed(&data.join(name), text, &ended);
                         }
@@ -214,8 +224,19 @@ impl Room {
         })
     }
 
-    /// Another solver's verdict on a DIMACS text: whether it is satisfiable.
+    /// Another solver's verdict on a DIMACS text: whether it is satisfiable. The same text is asked for once.
     pub fn ask(&self, solver: &str, text: &[u8]) -> Result<bool, String> {
+        let mut said = self.said.lock().map_err(|e| e.to_string())?;
+        if let Some(&verdict) = said.get(text) {
+            return Ok(verdict);
+        }
+        let verdict = self.asked(solver, text)?;
+        said.insert(text.to_vec(), verdict);
+        Ok(verdict)
+    }
+
+    /// Asks a solver.
+    fn asked(&self, solver: &str, text: &[u8]) -> Result<bool, String> {
         let file = self.folder.join("joined.cnf");
         fs::write(&file, text).map_err(|e| e.to_string())?;
         let ended =
@@ -244,7 +265,7 @@ fn small_parts() -> std::io::Result<PathBuf> {
     Ok(std::env::current_exe()?.with_file_name("examples").join("libsmall_parts.so"))
 }
 
-/// Puts a station's file at the path, in the place of what stood there.
+/// Puts a file at the path, in the place of what stood there.
 fn place(path: &Path, source: &Source) -> std::io::Result<()> {
     match fs::symlink_metadata(path) {
         Ok(there) if there.is_dir() => fs::remove_dir(path)?,

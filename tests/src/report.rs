@@ -2,8 +2,8 @@
 
 use crate::layout;
 use crate::model::{self, Row, Standing};
-use crate::process::{Input, Ran, Room, Source};
-use std::collections::BTreeMap;
+use crate::process::{Input, Ran, Room, Source, NAMES};
+use std::collections::{BTreeMap, BTreeSet};
 use std::path::Path;
 use std::sync::atomic::{AtomicUsize, Ordering};
 use std::sync::Mutex;
@@ -16,29 +16,26 @@ const SHOWN_BYTES: usize = 3_000;
 #[derive(Clone)]
 pub struct Test {
     pub name: String,
-    pub left: Source,
-    pub right: Source,
+    /// The left, the right and the public file.
+    pub files: [Source; 3],
     pub input: Vec<u8>,
     /// The whole output, where it was written by hand.
     pub expected: Option<String>,
-    /// Both tables as they were made, where the answer is held to them and to another solver.
+    /// All rows as they were made, where the answer is held to them and to another solver.
     pub made: Option<(usize, Vec<Row>)>,
     /// How standard input comes.
     pub way: Input,
 }
 
 impl Test {
-    /// A test of two texts and a line, with nothing said of what is expected.
-    pub fn new(name: String, left: Vec<u8>, right: Vec<u8>, input: Vec<u8>) -> Test {
-        Test {
-            name,
-            left: Source::Text(left),
-            right: Source::Text(right),
-            input,
-            expected: None,
-            made: None,
-            way: Input::File,
-        }
+    /// A test of three texts and a line, with nothing said of what is expected.
+    pub fn new(name: String, texts: [Vec<u8>; 3], input: Vec<u8>) -> Test {
+        Test { name, files: texts.map(Source::Text), input, expected: None, made: None, way: Input::File }
+    }
+
+    /// What can be read of its files.
+    pub fn texts(&self) -> [Option<&[u8]>; 3] {
+        [0, 1, 2].map(|k| self.files[k].text())
     }
 }
 
@@ -146,16 +143,16 @@ pub fn run(group: &Group, program: &Path, solver: &str) -> std::io::Result<Tally
 
 /// The kind of answer that the model gives, and what is wrong with the program's.
 fn judge(test: &Test, room: &Room, solver: &str) -> (String, Option<String>) {
-    let answer = model::pair(test.left.text(), test.right.text(), &test.input)
-        .map(|(table, budget)| model::run(table.n, &table.rows, budget));
+    let read = model::pair(test.texts(), &test.input);
+    let answer = read.map(|read| model::run(read.size.n, &read.rows, read.budget));
     let (kind, output) = match &answer {
         Ok(answer) => (format!("{:?}", answer.standing).to_lowercase(), model::printed(answer)),
         Err(number) => (format!("refused {number}"), model::refused(*number)),
     };
     let ran = match test.way {
-        Input::File => room.run(&test.left, &test.right, &test.input),
-        Input::Held => room.run_held(&test.left, &test.right, &test.input),
-        Input::Closed => room.run_closed(&test.left, &test.right),
+        Input::File => room.run(&test.files, &test.input),
+        Input::Held => room.run_held(&test.files, &test.input),
+        Input::Closed => room.run_closed(&test.files),
     };
     let failure = match ran {
         Err(error) => Some(format!("it could not be run: {error}")),
@@ -195,7 +192,10 @@ fn unlike_others(made: &(usize, Vec<Row>), output: &[u8], room: &Room, solver: &
     let (n, rows) = made;
     let output = String::from_utf8_lossy(output);
     let satisfiable = output.lines().any(|line| line == "s SATISFIABLE");
-    match room.ask(solver, &layout::plain(*n, rows)) {
+    // neither the order of rows nor how often one stands there is anything to the verdict
+    let set: BTreeSet<&Row> = rows.iter().collect();
+    let set: Vec<Row> = set.into_iter().cloned().collect();
+    match room.ask(solver, &layout::plain(*n, &set)) {
         Err(error) => return Some(error),
         Ok(other) if other != satisfiable => return Some(format!("{solver} says that satisfiable is {other}")),
         Ok(_) => (),
@@ -220,7 +220,9 @@ pub fn shown(test: &Test) -> String {
         | Source::Piped(bytes) => quoted(bytes),
         other => format!("{other:?}"),
     };
-    format!("  left.cnf  {}\n  right.cnf {}\n  stdin     {}", text(&test.left), text(&test.right), quoted(&test.input))
+    let files: String =
+        NAMES.iter().zip(&test.files).map(|(name, file)| format!("  {name:<10} {}\n", text(file))).collect();
+    format!("{files}  stdin      {}", quoted(&test.input))
 }
 
 /// Bytes as a string of Rust; what is too long for a page is cut.

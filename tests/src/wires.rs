@@ -1,10 +1,21 @@
-//! Rows and states as a circuit's wires, in the order of document 01, and states read back.
+//! Rows and states as a circuit's wires, in the order of documents 01 and 02, and states read back.
 
-use crate::model::{Row, Run, Standing};
+use crate::model::{Row, Run, Size, Standing};
 
 /// How many wires a state of n variables has.
 pub fn state_width(n: usize) -> usize {
     3 * n * n + 3 * n + 3
+}
+
+/// How wide each input value is: left rows, right rows, public rows where there are some, state.
+pub fn input_widths(size: Size) -> Vec<usize> {
+    let rows = |count: usize| 2 * size.n * count;
+    let mut widths = vec![rows(size.left), rows(size.right)];
+    if size.public > 0 {
+        widths.push(rows(size.public));
+    }
+    widths.push(state_width(size.n));
+    widths
 }
 
 /// A row's positive wires, then its negative ones, from variable 1; the rows in order.
