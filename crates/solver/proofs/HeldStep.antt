@@ -1,14 +1,13 @@
--- The step of a run is the run of its state's step: the rule's own function gives it, and a closed run stays.
+-- The step of a run is the run of its state's step: `rules::follow` gives it of an open run, and a closed one stays.
 -- Assumes nothing.
 use mathlib.Core.Path.{_≡_, sym, ap, ap₂, _∙_}
-use mathlib.Core.Bool.{Bool, true}
+use mathlib.Core.Bool.{true}
 use mathlib.Core.List.{List}
-use Prim.Native.Nat.{ℕ, _<_}
+use Prim.Native.Nat.{ℕ}
 use native.Mathlib.Omega.{arith}
 use lib.ListN.{length}
 use Rattle.tables.specs.declared.Row.{Row}
 use Rattle.scan.specs.declared.Rule.{Rule}
-use Rattle.scan.specs.declared.Rule.the-variants.{Unit, Choice}
 use Rattle.state.specs.declared.Run.{Run}
 use Rattle.state.specs.declared.Standing.{Standing}
 use Rattle.state.specs.declared.Standing.the-variants.{Open, Satisfied, Refuted}
@@ -16,6 +15,8 @@ use Rattle.scan.specs.Rules.{rule}
 use Rattle.state.specs.State.{stateOf, runOf, ifOpen}
 use Rattle.solver.specs.Step.{follow, step}
 use Rattle.state.specs.WellFormed.{wellFormed, wellFormedState}
+use Rattle.rules.specs.Followed.{followed}
+use Rattle.solver.proofs.HeldRules.{Fits, held}
 use Rattle.solver.proofs.RuleLaws.{rule-unit, rule-choice}
 use Rattle.solver.proofs.StepLaws.{step-well-formed, choice-depth}
 use Rattle.state.proofs.HeldRun.{length-levels, run-back, formed-run-e, formed-tidy, run-of-formed}
@@ -24,11 +25,6 @@ module _ (n : ℕ) (rows : List Row) (run : Run) (same : run .n ≡ n) where
   stepped-as : (st : Standing) → run .standing ≡ st → step n rows (stateOf run) ≡ ifOpen st (follow (stateOf run) (rule n rows (run .t) (run .f))) (stateOf run)
   unfolding step
   stepped-as st e = ap (λ (x : Standing). ifOpen x (follow (stateOf run) (rule n rows (run .t) (run .f))) (stateOf run)) e
-
-  -- found is the rule that the scan gives, told the case of it
-  pub open-step : run .standing ≡ Open → (found : Rule) → found ≡ rule n rows (run .t) (run .f) → (told : Rule) → found ≡ told
-      → (r : Run) → r ≡ runOf (run .n) (follow (stateOf run) told) → r ≡ runOf n (step n rows (stateOf run))
-  open-step o found e told q r h = h ∙ ap₂ runOf same (ap (λ (x : Rule). follow (stateOf run) x) (sym q ∙ e) ∙ sym (stepped-as Open o))
 
   module _ (w : wellFormed run ≡ true) where
     low : wellFormedState n (stateOf run) ≡ true
@@ -43,18 +39,23 @@ module _ (n : ℕ) (rows : List Row) (run : Run) (same : run .n ≡ n) where
     pub refuted-stays : length (run .levels) ≡ 32 → run .standing ≡ Refuted → run ≡ runOf n (step n rows (stateOf run))
     refuted-stays room o = stays room (stepped-as Refuted o)
 
-    -- the variables that the rules' functions ask
+    -- found is the rule that applies
     module _ (found : Rule) (e : found ≡ rule n rows (run .t) (run .f)) where
-      pub unit-low : (v : ℕ) (positive : Bool) → found ≡ Unit v positive → v < 32
-      unit-low v positive q = omega (arith, rule-unit n rows (run .t) (run .f) v positive (sym e ∙ q) .low, formed-run-e run w .most, same)
+      -- it sets one of the run's variables, and of a choice's there is one more than levels
+      pub fits : Fits run found
+      fits = record {
+        unit-low = λ v positive q. omega (arith, rule-unit n rows (run .t) (run .f) v positive (sym e ∙ q) .low, formed-run-e run w .most, same);
+        choice-low = λ v q. omega (arith, rule-choice n rows (run .t) (run .f) v (sym e ∙ q) .low, formed-run-e run w .most, same);
+        choice-room = λ v q. omega
+            (arith, choice-depth n rows (stateOf run) v low (sym e ∙ q), length-levels (run .depth) (run .levels), formed-run-e run w .most, same);
+      }
 
-      pub choice-low : (v : ℕ) → found ≡ Choice v → v < 32
-      choice-low v q = omega (arith, rule-choice n rows (run .t) (run .f) v (sym e ∙ q) .low, formed-run-e run w .most, same)
-
-      pub choice-room : (v : ℕ) → found ≡ Choice v → run .depth < 32
-      choice-room v q = omega (arith, choice-depth n rows (stateOf run) v low (sym e ∙ q), length-levels (run .depth) (run .levels), formed-run-e run w .most, same)
+      -- what it makes of an open run is the step
+      pub open-step : length (run .levels) ≡ 32 → run .standing ≡ Open → followed run found ≡ runOf n (step n rows (stateOf run))
+      open-step room o = held run room w found fits ∙ ap₂ runOf same (ap (λ (x : Rule). follow (stateOf run) x) e ∙ sym (stepped-as Open o))
 
     -- the run after the step is well-formed
     pub step-formed-run : wellFormed (runOf n (step n rows (stateOf run))) ≡ true
     step-formed-run =
-        run-of-formed n (step n rows (stateOf run)) (omega (arith, formed-run-e run w .least, same)) (omega (arith, formed-run-e run w .most, same)) (step-well-formed n rows (stateOf run) low)
+        let o = formed-run-e run w in
+        run-of-formed n (step n rows (stateOf run)) (omega (arith, o .least, same)) (omega (arith, o .most, same)) (step-well-formed n rows (stateOf run) low)

@@ -1,5 +1,5 @@
 // The giant step and the budgeted run over two stations' tables and the public one: whether one assignment satisfies all.
-mod rules;
+mod giant;
 
 use dimensions::Dimensions;
 use refusals::Outcome;
@@ -55,7 +55,7 @@ pub fn step(d: Dimensions, left: &[u32], right: &[u32], public: &[u32], run: Run
     match outcome {
         Outcome::Taken => Stepped {
             outcome,
-            run: rules::giant_step(d, left, right, public, run),
+            run: giant::giant_step(d, left, right, public, run),
         },
         Outcome::Refused(_) => Stepped { outcome, run },
     }
@@ -94,7 +94,7 @@ fn run_to_close(d: Dimensions, left: &[u32], right: &[u32], public: &[u32], budg
     let mut run = Run::fresh(d.n);
     let mut count = 0;
     while verdicts::goes_on(run, count, budget) {
-        run = rules::giant_step(d, left, right, public, run);
+        run = giant::giant_step(d, left, right, public, run);
         count += 1;
     }
     Answer {

@@ -6,8 +6,8 @@ use Rattle.tables.specs.Tables.{Tables, allTables}
 use Rattle.tables.proofs.Accepted.{Accepted, accepted}
 use Rattle.solver.proofs.AcceptedRule.{rule-of-fronts}
 use borrow.Author.Needs.{needs}
-use Rattle.solver.proofs.rules.rule.Statement.{statement}
-use Rattle.solver.proofs.rules.rule.Tie as tie
+use Rattle.solver.proofs.giant.rule.Statement.{statement}
+use Rattle.solver.proofs.giant.rule.Tie as tie
 
 -- the tables at the start
 abbrev tables : tie.Start → Tables
