@@ -1,0 +1,111 @@
+// For each literal the set of rows that hold it: an index of 384 words, six of 64 rows for each of 64 literals (document 02, "Which rows does a variable
+// touch"). Nothing here is turned back: each public function is total.
+use dimensions::Dimensions;
+use tables::Row;
+ghost use mathlib.Core.Path.{_≡_};
+ghost use Prim.Native.Nat.{_+_, _*_, _≤_, _<_, min};
+ghost use lib.ListN.{length};
+ghost use lib.Seq.{sets};
+ghost use Rattle.words.specs.Sameness as Sameness;
+ghost use Rattle.tables.specs.Tables.{allTables};
+ghost use Rattle.tables.specs.Rows.{rowsFrom};
+ghost use Rattle.occurrences.specs.Index.{indexOf};
+ghost use Rattle.occurrences.specs.RowWords.{wordsOf, gathered, literalsOf};
+
+// ---- the words of all rows
+
+// How many words of a buffer are its rows'.
+fn count(words: &[u32], rows: u8) -> usize
+    ensures { λ r. ⌜ r ≤ 510 ⌝ }
+    ensures { λ r. ⌜ r ≡ length (wordsOf rows (now (words .entry))) ⌝ }
+{
+    let asked = 2 * (rows as usize);
+    if asked < words.len() {
+        return asked;
+    }
+    words.len()
+}
+
+// Stores the words of a table's rows from a place on, as many as there is room for; the place behind them.
+fn store(words: &[u32], rows: u8, at: usize, all: &mut [u32]) -> usize
+    requires { ⌜ at ≤ 1024 ⌝ }
+    ensures { λ r. ⌜ r ≤ at + 510 ⌝ }
+    ensures { λ r. ⌜ r ≡ at + length (wordsOf rows (now (words .entry))) ⌝ }
+    ensures { λ _. ⌜ now (all .exit) ≡ sets (now (all .entry)) at (wordsOf rows (now (words .entry))) ⌝ }
+{
+    let end = count(words, rows);
+    let mut k = 0;
+    while (k < end) & (at + k < all.len()) {
+        all[at + k] = words[k];
+        k += 1;
+    }
+    at + end
+}
+
+// The words of the left rows, the right and the public ones, one behind the other, and zeros.
+pub fn row_words(d: Dimensions, left: &[u32], right: &[u32], public: &[u32]) -> [u32; 768]
+    ensures { λ r. ⌜ r ≡ gathered d (allTables (now (left .entry)) (now (right .entry)) (now (public .entry))) ⌝ }
+{
+    let mut all = [0u32; 768];
+    let right_at = store(left, d.left, 0, &mut all);
+    let public_at = store(right, d.right, right_at, &mut all);
+    store(public, d.public, public_at, &mut all);
+    all
+}
+
+// ---- the index
+
+// The numbers of a row's literals, as a set.
+fn literals(row: Row) -> u64
+    ensures { λ r. ⌜ r ≡ literalsOf row ⌝ }
+{
+    row.positive as u64 | (row.negative as u64) << 32
+}
+
+// Takes a row into the set of each of its literals.
+fn add_row(words: &[u32; 768], r: usize, index: &mut [u64; 384])
+    requires { ⌜ r < 384 ⌝ }
+    requires { ⌜ now index ≡ indexOf (rowsFrom (now words) 0 r) ⌝ }
+    ensures { λ _. ⌜ now (index .exit) ≡ indexOf (rowsFrom (now (words .entry)) 0 (r + 1)) ⌝ }
+{
+    let row = Row {
+        positive: words[2 * r],
+        negative: words[2 * r + 1],
+    };
+    let mut left = literals(row);
+    while left != 0 {
+        let l = u64::trailing_zeros(left) as usize;
+        left = left & (left - 1);
+        let at = 6 * l + r / 64;
+        index[at] = index[at] | 1 << (r % 64);
+    }
+}
+
+// Makes the index of so many rows of the words, of 384 at most: three literals a row are three stores.
+pub fn fill(words: &[u32; 768], rows: usize, index: &mut [u64; 384])
+    ensures { λ _. ⌜ now (index .exit) ≡ indexOf (rowsFrom (now (words .entry)) 0 (min rows 384)) ⌝ }
+{
+    *index = [0u64; 384];
+    let mut r = 0;
+    while (r < rows) & (r < 384) {
+        add_row(words, r, index);
+        r += 1;
+    }
+}
+
+// Whether two indexes are the same words. They are lent as slices, since of these the length is known.
+pub fn same(a: &[u64], b: &[u64]) -> bool
+    ensures { λ r. ⌜ r ≡ Sameness.same (now (a .entry)) (now (b .entry)) ⌝ }
+{
+    if a.len() != b.len() {
+        return false;
+    }
+    let mut i = 0;
+    while i < a.len() {
+        if a[i] != b[i] {
+            return false;
+        }
+        i += 1;
+    }
+    true
+}
