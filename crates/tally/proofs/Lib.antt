@@ -1,0 +1,15 @@
+pub mod Looking
+pub mod PartsAfter
+pub mod Gathering
+pub mod Sums
+pub mod ExactParts
+pub mod LiteralLaws
+pub mod SettingRows
+pub mod SettingWords
+pub mod AfterSetting
+pub mod Counting
+pub mod SeenLaws
+pub mod AfterSurvey
+pub mod RulingLaws
+pub mod FirstRows
+pub mod AfterRule

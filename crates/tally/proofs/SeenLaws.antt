@@ -1,0 +1,217 @@
+-- What is seen of 64 rows, as code has it: operations on words, bit by bit; one more variable; what all variables show.
+-- Assumes nothing.
+use mathlib.Core.Path.{_≡_, refl, sym, ap, ap₂, _∙_}
+use mathlib.Core.Bool.{Bool, true, false, not, _&&_, _||_, or-false, and-false}
+use mathlib.Core.List.{List}
+use Prim.Native.Nat.{ℕ, suc, _+_, _-_, _*_, _%_, _^_, _≤_, _<_}
+use native.Mathlib.Nat.{one-mul}
+use native.Mathlib.Numerals.{add-one}
+use native.Mathlib.Omega.{arith}
+use lib.Dec.{eqb, leb, ltb, lit<}
+use lib.Bits.{bitAnd, bitOr, or-lt}
+use lib.Pow.{pow-pos, pow-lt, shl-exact}
+use lib.ListN.{getD}
+use borrow.Author.Tests.{lt-ltb, le-ltb, ltb-true, ltb-false}
+use Rattle.words.specs.Sets.{bit, any, count, wordOf}
+use Rattle.words.proofs.Truth.{on, taut2, taut3, agree, agree-eq}
+use Rattle.words.proofs.Last.{any-last, any-cong}
+use Rattle.words.proofs.Bits.{bit-or, bit-zero}
+use Rattle.words.proofs.Operations.{bit-and, bit-not, bit-high, and-lt-left}
+use Rattle.words.proofs.WordOf.{bit-wordOf, wordOf-bit, wordOf-cong, wordOf-lt}
+use Rattle.tables.specs.Rows.{free}
+use Rattle.tally.specs.declared.rows.Part.{Part}
+use Rattle.tally.specs.declared.surveying.Seen.{Seen}
+use Rattle.tally.specs.declared.surveying.AllSeen.{AllSeen}
+use Rattle.tally.specs.Surveys.{metWith, freeWith, listed, wordMet, wordFree, allWith, metBy, freeBy, seenIn, allSeen, partOf, surveyed}
+use Rattle.tally.specs.Words.{gathered}
+use Rattle.tally.proofs.PartsAfter.{word-is, some-is, bit-without}
+use Rattle.tally.proofs.Gathering.{parts-are}
+use Rattle.tally.proofs.Counting.{two-more}
+
+ones-bit : (k j : ℕ) → j < k → bit (2 ^ k - 1) j ≡ true
+ones-bit k j h = let e : 2 ^ k - 1 ≡ (2 ^ k - 1) - 0 = omega arith in ap (λ (x : ℕ). bit x j) e ∙ bit-not k 0 j (pow-pos k) h ∙ ap not (bit-zero j)
+
+-- ---- one more variable, in words
+
+module _ (s : Seen) (hm : s .met < 2 ^ 64) where
+  pub met-is : (x : ℕ) → x < 2 ^ 64 → _≡_ {A = Seen} (record { met = bitOr (s .met) x; one = s .one; two = s .two }) (metWith s x)
+  met-is x h = λ i. record { met = word-is (bitOr (s .met) x) _ (or-lt 64 (s .met) x hm h) (λ j c. bit-or (s .met) x j) i; one = s .one; two = s .two }
+
+  pub free-is : (p q : ℕ) → s .one < 2 ^ 64 → s .two < 2 ^ 64 → p < 2 ^ 64 → q < 2 ^ 64
+      → _≡_ {A = Seen} (record { met = bitOr (s .met) (bitAnd p q); one = bitOr (s .one) (bitOr p q); two = bitOr (s .two) (bitAnd (s .one) (bitOr p q)) }) (freeWith s p q)
+  free-is p q ho ht hp hq = λ i. record {
+    met = word-is (bitOr (s .met) (bitAnd p q)) _ (or-lt 64 (s .met) _ hm (and-lt-left 64 p q hp))
+        (λ j c. bit-or (s .met) (bitAnd p q) j ∙ ap (λ (z : Bool). bit (s .met) j || z) (bit-and p q j)) i;
+    one = word-is (bitOr (s .one) (bitOr p q)) _ (or-lt 64 (s .one) _ ho (or-lt 64 p q hp hq))
+        (λ j c. bit-or (s .one) (bitOr p q) j ∙ ap (λ (z : Bool). bit (s .one) j || z) (bit-or p q j)) i;
+    two = word-is (bitOr (s .two) (bitAnd (s .one) (bitOr p q))) _ (or-lt 64 (s .two) _ ht (and-lt-left 64 (s .one) _ ho))
+        (λ j c. bit-or (s .two) (bitAnd (s .one) (bitOr p q)) j
+        ∙ ap (λ (z : Bool). bit (s .two) j || z) (bit-and (s .one) (bitOr p q) j ∙ ap (λ (z : Bool). bit (s .one) j && z) (bit-or p q j))) i;
+  }
+
+-- ---- what the variables below some number show
+
+module _ (index : List ℕ) (t f : ℕ) where
+  none-word : (p : ℕ → Bool) → ((j : ℕ) → p j ≡ false) → 0 ≡ wordOf p 64
+  none-word p e = word-is 0 p (pow-pos 64) (λ j c. bit-zero j ∙ sym (e j))
+
+  none-in : (w : ℕ) → record { met = 0; one = 0; two = 0 } ≡ seenIn index t f 0 w
+  unfolding any count
+  none-in w = λ i. record {
+    met = none-word (λ j. any (metBy index t f w j) 0) (λ j. refl) i;
+    one = none-word (λ j. any (freeBy index t f w j) 0) (λ j. refl) i;
+    two = none-word (λ j. leb 2 (count (freeBy index t f w j) 0)) (λ j. refl) i;
+  }
+
+  -- none looked at
+  pub seen-none : _≡_ {A = AllSeen} (record {
+    a = record { met = 0; one = 0; two = 0 };
+    b = record { met = 0; one = 0; two = 0 };
+    c = record { met = 0; one = 0; two = 0 };
+    d = record { met = 0; one = 0; two = 0 };
+    e = record { met = 0; one = 0; two = 0 };
+    f = record { met = 0; one = 0; two = 0 };
+  }) (allSeen index t f 0)
+  seen-none = λ i. record { a = none-in 0 i; b = none-in 1 i; c = none-in 2 i; d = none-in 3 i; e = none-in 4 i; f = none-in 5 i }
+
+  module _ (v w : ℕ) where
+    abbrev seen : Seen
+    seen = seenIn index t f v w
+
+    abbrev next : Seen
+    next = seenIn index t f (suc v) w
+
+    met-next : (x : ℕ → Bool) → ((j : ℕ) → x j ≡ metBy index t f w j v) → wordOf (λ j. bit (seen .met) j || x j) 64 ≡ next .met
+    met-next x e =
+        wordOf-cong _ _ 64
+        (λ j c. ap₂ (λ (a b : Bool). a || b) (bit-wordOf (λ j. any (metBy index t f w j) v) 64 j c) (e j) ∙ sym (any-last (metBy index t f w j) v))
+
+    one-next : (x : ℕ → Bool) → ((j : ℕ) → x j ≡ freeBy index t f w j v) → wordOf (λ j. bit (seen .one) j || x j) 64 ≡ next .one
+    one-next x e =
+        wordOf-cong _ _ 64
+        (λ j c. ap₂ (λ (a b : Bool). a || b) (bit-wordOf (λ j. any (freeBy index t f w j) v) 64 j c) (e j) ∙ sym (any-last (freeBy index t f w j) v))
+
+    two-next : (x : ℕ → Bool) → ((j : ℕ) → x j ≡ freeBy index t f w j v) → wordOf (λ j. bit (seen .two) j || (bit (seen .one) j && x j)) 64 ≡ next .two
+    two-next x e =
+        wordOf-cong _ _ 64
+        (λ j c. ap₂ (λ (a b : Bool). a || (b && x j)) (bit-wordOf (λ j. leb 2 (count (freeBy index t f w j) v)) 64 j c) (bit-wordOf (λ j. any (freeBy index t f w j) v) 64 j c)
+        ∙ ap (λ (b : Bool). leb 2 (count (freeBy index t f w j) v) || (any (freeBy index t f w j) v && b)) (e j) ∙ sym (two-more (freeBy index t f w j) v))
+
+    -- a variable that is set is free in no row
+    module _ (e : free t f v ≡ false) where
+      one-same : seen .one ≡ next .one
+      one-same = sym (wordOf-bit (seen .one) 64 (wordOf-lt (λ j. any (freeBy index t f w j) v) 64))
+          ∙ wordOf-cong _ _ 64 (λ j c. sym (or-false (bit (seen .one) j))) ∙ one-next (λ j. false) (λ j. sym (ap (λ (x : Bool). x && (listed index w j v || listed index w j (32 + v))) e))
+
+      two-same : seen .two ≡ next .two
+      two-same = sym (wordOf-bit (seen .two) 64 (wordOf-lt (λ j. leb 2 (count (freeBy index t f w j) v)) 64))
+          ∙ wordOf-cong _ _ 64 (λ j c. sym (ap (λ (x : Bool). bit (seen .two) j || x) (and-false (bit (seen .one) j)) ∙ or-false (bit (seen .two) j)))
+          ∙ two-next (λ j. false) (λ j. sym (ap (λ (x : Bool). x && (listed index w j v || listed index w j (32 + v))) e))
+
+      set-next : (m : ℕ) → m ≡ next .met → _≡_ {A = Seen} (record { met = m; one = seen .one; two = seen .two }) next
+      set-next m q = λ i. record { met = q i; one = one-same i; two = two-same i }
+
+    abbrev p : ℕ → Bool
+    p j = listed index w j v
+
+    abbrev q : ℕ → Bool
+    q j = listed index w j (32 + v)
+
+    next-free : bit t v ≡ false → bit f v ≡ false → wordFree index v w seen ≡ next
+    next-free x y = λ i. record {
+      met = met-next (λ j. p j && q j) (λ j. sym (rw (x, y) (agree-eq (taut2 (λ p q. agree (p && q || p && false || q && false) (p && q)) refl (p j) (q j))))) i;
+      one = one-next (λ j. p j || q j) (λ j. sym (rw (x, y))) i;
+      two = two-next (λ j. p j || q j) (λ j. sym (rw (x, y))) i;
+    }
+
+    next-true : bit t v ≡ true → bit f v ≡ false → wordMet index v w seen ≡ next
+    next-true x y =
+        set-next (rw x) _ (met-next p (λ j. sym (rw (x, y) (agree-eq (taut2 (λ p q. agree (p && q || p && true || q && false) p) refl (p j) (q j))))))
+
+    next-false : bit t v ≡ false → bit f v ≡ true → wordMet index (32 + v) w seen ≡ next
+    next-false x y =
+        set-next (rw (x, y)) _ (met-next q (λ j. sym (rw (x, y) (agree-eq (taut2 (λ p q. agree (p && q || p && false || q && true) q) refl (p j) (q j))))))
+
+    next-both : bit t v ≡ true → bit f v ≡ true → wordMet index (32 + v) w (wordMet index v w seen) ≡ next
+    next-both x y =
+        set-next (rw x) _
+        (wordOf-cong _ _ 64 (λ j c. ap (λ (b : Bool). b || q j) (bit-wordOf (λ j. bit (seen .met) j || p j) 64 j c)
+        ∙ agree-eq (taut3 (λ m p q. agree ((m || p) || q) (m || (p || q))) refl (bit (seen .met) j) (p j) (q j)))
+        ∙ met-next (λ j. p j || q j) (λ j. sym (rw (x, y) (agree-eq (taut2 (λ p q. agree (p && q || p && true || q && true) (p || q)) refl (p j) (q j))))))
+
+  -- one more looked at
+  pub seen-next : (v : ℕ) (s r : AllSeen) (x y : Bool) → s ≡ allSeen index t f v → x ≡ bit t v → y ≡ bit f v → r ≡ allWith index x y v s → r ≡ allSeen index t f (v + 1)
+  seen-next v s r x y e p q h = h ∙ ap (allWith index x y v) e ∙ go x y (sym p) (sym q) ∙ ap (allSeen index t f) (sym (add-one v))
+    where
+      go : (x y : Bool) → bit t v ≡ x → bit f v ≡ y → allWith index x y v (allSeen index t f v) ≡ allSeen index t f (suc v)
+      go true true p q = λ i. record { a = next-both v 0 p q i; b = next-both v 1 p q i; c = next-both v 2 p q i; d = next-both v 3 p q i; e = next-both v 4 p q i; f = next-both v 5 p q i }
+      go true false p q = λ i. record { a = next-true v 0 p q i; b = next-true v 1 p q i; c = next-true v 2 p q i; d = next-true v 3 p q i; e = next-true v 4 p q i; f = next-true v 5 p q i }
+      go false true p q = λ i. record { a = next-false v 0 p q i; b = next-false v 1 p q i; c = next-false v 2 p q i; d = next-false v 3 p q i; e = next-false v 4 p q i; f = next-false v 5 p q i }
+      go false false p q = λ i. record { a = next-free v 0 p q i; b = next-free v 1 p q i; c = next-free v 2 p q i; d = next-free v 3 p q i; e = next-free v 4 p q i; f = next-free v 5 p q i }
+
+  -- all looked at
+  pub seen-all : (v : ℕ) (s : AllSeen) → v ≤ 32 → 32 ≤ v → s ≡ allSeen index t f v → s ≡ allSeen index t f 32
+  seen-all v s g h e = let q : v ≡ 32 = omega arith in e ∙ ap (allSeen index t f) q
+
+-- ---- rows below the count
+
+module _ (count w : ℕ) where
+  abbrev low : ℕ → Bool
+  low j = ltb (64 * w + j) count
+
+  pub below-none : count ≤ 64 * w → 0 ≡ wordOf low 64
+  below-none h = word-is 0 low (pow-pos 64) (λ j c. bit-zero j ∙ sym (le-ltb (64 * w + j) count (omega arith)))
+
+  pub below-all : 64 ≤ count - 64 * w → 18446744073709551615 ≡ wordOf low 64
+  below-all h = word-is 18446744073709551615 low (lit< tt) (λ j c. ones-bit 64 j c ∙ sym (lt-ltb (64 * w + j) count (omega arith)))
+
+  shifted : count - 64 * w < 64 → (1 * 2 ^ (count - 64 * w)) % 18446744073709551616 ≡ 2 ^ (count - 64 * w)
+  shifted h = shl-exact 1 (count - 64 * w) 64 (lit< tt) (omega arith) ∙ one-mul (2 ^ (count - 64 * w))
+
+  pub shifted-pos : count - 64 * w < 64 → 1 ≤ (1 * 2 ^ (count - 64 * w)) % 18446744073709551616
+  shifted-pos h = omega (arith, shifted h, pow-pos (count - 64 * w))
+
+  pub below-some : 64 * w < count → count - 64 * w < 64 → (1 * 2 ^ (count - 64 * w)) % 18446744073709551616 - 1 ≡ wordOf low 64
+  below-some g h =
+      let k = count - 64 * w in
+      let l : 2 ^ k < 2 ^ 64 = pow-lt h in
+      ap (λ (x : ℕ). x - 1) (shifted h)
+      ∙ word-is (2 ^ k - 1) low (omega (arith, l))
+      (λ j c. on (low j)
+      (λ q. ones-bit k j (omega (arith, ltb-true (64 * w + j) count q)) ∙ sym q)
+      (λ q. bit-high k (2 ^ k - 1) j (omega (arith, pow-pos k)) (omega (arith, ltb-false (64 * w + j) count q)) ∙ sym q))
+
+  -- 64 rows from what all variables show of them
+  pub part-of-is : (s : Seen) (x : ℕ) → s .met < 2 ^ 64 → s .one < 2 ^ 64 → s .two < 2 ^ 64 → x ≡ wordOf low 64
+      → _≡_ {A = Part} (record {
+        unsatisfied = bitAnd x (18446744073709551615 - s .met);
+        unit = bitAnd (bitAnd (bitAnd x (18446744073709551615 - s .met)) (s .one)) (18446744073709551615 - s .two);
+        conflict = not (eqb (bitAnd (bitAnd x (18446744073709551615 - s .met)) (18446744073709551615 - s .one)) 0);
+      }) (partOf count w s)
+  part-of-is s x hm ho hw e =
+      λ i. record {
+        unsatisfied = word-is u _ u-low u-bit i;
+        unit = word-is (bitAnd (bitAnd u (s .one)) (18446744073709551615 - s .two)) _ (and-lt-left 64 _ _ (and-lt-left 64 u _ u-low))
+            (λ j c. bit-without (bitAnd u (s .one)) (s .two) j hw c ∙ ap (λ (z : Bool). z && not (bit (s .two) j)) (bit-and u (s .one) j ∙ ap (λ (z : Bool). z && bit (s .one) j) (u-bit j c))) i;
+        conflict = some-is (bitAnd u (18446744073709551615 - s .one)) _ (and-lt-left 64 u _ u-low)
+            (λ j c. bit-without u (s .one) j ho c ∙ ap (λ (z : Bool). z && not (bit (s .one) j)) (u-bit j c)) i;
+      }
+    where
+      u : ℕ
+      u = bitAnd x (18446744073709551615 - s .met)
+
+      u-low : u < 2 ^ 64
+      u-low = and-lt-left 64 x _ (rw e (wordOf-lt low 64))
+
+      u-bit : (j : ℕ) → j < 64 → bit u j ≡ low j && not (bit (s .met) j)
+      u-bit j c = bit-without x (s .met) j hm c ∙ ap (λ (z : Bool). z && not (bit (s .met) j)) (ap (λ (y : ℕ). bit y j) e ∙ bit-wordOf low 64 j c)
+
+-- all 384 rows
+pub survey-is : (index : List ℕ) (n t f : ℕ) (s : AllSeen) → s ≡ allSeen index t f 32 → {a b c d e g : Part}
+    → a ≡ partOf n 0 (s .a) → b ≡ partOf n 1 (s .b) → c ≡ partOf n 2 (s .c) → d ≡ partOf n 3 (s .d) → e ≡ partOf n 4 (s .e) → g ≡ partOf n 5 (s .f)
+    → gathered a b c d e g ≡ surveyed index n t f
+unfolding surveyed
+survey-is index n t f s h p q r u v o =
+    parts-are (λ w. partOf n w (seenIn index t f 32 w))
+    (p ∙ ap (λ (x : AllSeen). partOf n 0 (x .a)) h) (q ∙ ap (λ (x : AllSeen). partOf n 1 (x .b)) h) (r ∙ ap (λ (x : AllSeen). partOf n 2 (x .c)) h)
+    (u ∙ ap (λ (x : AllSeen). partOf n 3 (x .d)) h) (v ∙ ap (λ (x : AllSeen). partOf n 4 (x .e)) h) (o ∙ ap (λ (x : AllSeen). partOf n 5 (x .f)) h)

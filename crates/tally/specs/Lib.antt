@@ -1,0 +1,4 @@
+pub mod Tallies
+pub mod Words
+pub mod Surveys
+pub mod Ruling

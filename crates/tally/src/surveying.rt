@@ -1,0 +1,177 @@
+// All sets of rows anew from the index, T and F: every variable once, and for each the six words.
+use crate::rows::Part;
+ghost use mathlib.Core.Path.{_≡_};
+ghost use Prim.Native.Nat.{_+_, _*_, _<_};
+ghost use lib.Dec.{ltb};
+ghost use Rattle.words.specs.Sets.{wordOf};
+ghost use Rattle.tally.specs.Surveys.{metWith, freeWith, wordMet, wordFree, allMet, allFree, allWith, allSeen, partOf};
+
+// Of 64 rows those that a variable looked at satisfies, those that hold one that is free, and those that hold two.
+pub struct Seen {
+    pub met: u64,
+    pub one: u64,
+    pub two: u64,
+}
+
+// The same for all rows, word by word.
+pub struct AllSeen {
+    pub a: Seen,
+    pub b: Seen,
+    pub c: Seen,
+    pub d: Seen,
+    pub e: Seen,
+    pub f: Seen,
+}
+
+// What is seen of 64 rows with one more literal that is true: `own` are its rows.
+fn met_with(s: Seen, own: u64) -> Seen
+    ensures { λ r. ⌜ r ≡ metWith s own ⌝ }
+{
+    Seen {
+        met: s.met | own,
+        one: s.one,
+        two: s.two,
+    }
+}
+
+// The same with one more variable that is free: these are the rows of its two literals.
+fn free_with(s: Seen, positive: u64, negative: u64) -> Seen
+    ensures { λ r. ⌜ r ≡ freeWith s positive negative ⌝ }
+{
+    let both = positive | negative;
+    Seen {
+        met: s.met | positive & negative,
+        one: s.one | both,
+        two: s.two | s.one & both,
+    }
+}
+
+// The first for rows 64 w to 64 w + 63, with the literal's rows from the index.
+fn word_met(index: &[u64; 384], literal: usize, w: usize, s: Seen) -> Seen
+    requires { ⌜ (literal < 64) × (w < 6) ⌝ }
+    ensures { λ r. ⌜ r ≡ wordMet (now (index .entry)) literal w s ⌝ }
+{
+    met_with(s, index[6 * literal + w])
+}
+
+// The second for these rows.
+fn word_free(index: &[u64; 384], v: usize, w: usize, s: Seen) -> Seen
+    requires { ⌜ (v < 32) × (w < 6) ⌝ }
+    ensures { λ r. ⌜ r ≡ wordFree (now (index .entry)) v w s ⌝ }
+{
+    free_with(s, index[6 * v + w], index[6 * (32 + v) + w])
+}
+
+// What is seen of all rows with one more literal that is true.
+fn all_met(index: &[u64; 384], literal: usize, s: AllSeen) -> AllSeen
+    requires { ⌜ literal < 64 ⌝ }
+    ensures { λ r. ⌜ r ≡ allMet (now (index .entry)) literal s ⌝ }
+{
+    let a = s.a;
+    let b = s.b;
+    let c = s.c;
+    let d = s.d;
+    let e = s.e;
+    let g = s.f;
+    AllSeen {
+        a: word_met(index, literal, 0, a),
+        b: word_met(index, literal, 1, b),
+        c: word_met(index, literal, 2, c),
+        d: word_met(index, literal, 3, d),
+        e: word_met(index, literal, 4, e),
+        f: word_met(index, literal, 5, g),
+    }
+}
+
+// What is seen of all rows with one more variable that is free.
+fn all_free(index: &[u64; 384], v: usize, s: AllSeen) -> AllSeen
+    requires { ⌜ v < 32 ⌝ }
+    ensures { λ r. ⌜ r ≡ allFree (now (index .entry)) v s ⌝ }
+{
+    let a = s.a;
+    let b = s.b;
+    let c = s.c;
+    let d = s.d;
+    let e = s.e;
+    let g = s.f;
+    AllSeen {
+        a: word_free(index, v, 0, a),
+        b: word_free(index, v, 1, b),
+        c: word_free(index, v, 2, c),
+        d: word_free(index, v, 3, d),
+        e: word_free(index, v, 4, e),
+        f: word_free(index, v, 5, g),
+    }
+}
+
+// What is seen of all rows with one more variable, in T and in F or not.
+fn all_with(index: &[u64; 384], t: bool, f: bool, v: usize, s: AllSeen) -> AllSeen
+    requires { ⌜ v < 32 ⌝ }
+    ensures { λ r. ⌜ r ≡ allWith (now (index .entry)) t f v s ⌝ }
+{
+    if t {
+        let met = all_met(index, v, s);
+        if f {
+            return all_met(index, 32 + v, met);
+        }
+        return met;
+    }
+    if f {
+        return all_met(index, 32 + v, s);
+    }
+    all_free(index, v, s)
+}
+
+// What all 32 variables show of the rows.
+pub(crate) fn look(index: &[u64; 384], t: u32, f: u32) -> AllSeen
+    ensures { λ r. ⌜ r ≡ allSeen (now (index .entry)) t f 32 ⌝ }
+{
+    let none = Seen {
+        met: 0,
+        one: 0,
+        two: 0,
+    };
+    let mut seen = AllSeen {
+        a: none,
+        b: none,
+        c: none,
+        d: none,
+        e: none,
+        f: none,
+    };
+    for v in 0..32 {
+        let in_t = words::bit(t, v);
+        let in_f = words::bit(f, v);
+        seen = all_with(index, in_t, in_f, v as usize, seen);
+    }
+    seen
+}
+
+// Of rows 64 w to 64 w + 63 those below the count.
+fn below(count: usize, w: usize) -> u64
+    requires { ⌜ w < 6 ⌝ }
+    ensures { λ r. ⌜ r ≡ wordOf (λ j. ltb (64 * w + j) count) 64 ⌝ }
+{
+    let first = 64 * w;
+    if count <= first {
+        return 0;
+    }
+    let k = count - first;
+    if 64 <= k {
+        return 18446744073709551615;
+    }
+    (1 << k) - 1
+}
+
+// 64 rows from what all variables show of them.
+pub(crate) fn part_of(count: usize, w: usize, s: Seen) -> Part
+    requires { ⌜ w < 6 ⌝ }
+    ensures { λ r. ⌜ r ≡ partOf count w s ⌝ }
+{
+    let unsatisfied = below(count, w) & !s.met;
+    Part {
+        unsatisfied,
+        unit: unsatisfied & s.one & !s.two,
+        conflict: unsatisfied & !s.one != 0,
+    }
+}
