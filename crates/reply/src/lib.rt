@@ -27,7 +27,7 @@ fn answer(tables: TextTables, budget: Budget) -> Solved
                 right: tables.right_rows,
                 public: tables.public_rows,
             };
-            solver::solve(d, &left, &right, &public, steps)
+            indexed::solve_indexed(d, &left, &right, &public, steps)
         }
     }
 }

@@ -16,17 +16,17 @@ enum-known-budget c = search needs
 enum-known-budget-2 : tie.Need-enum-known-budget-2
 enum-known-budget-2 c = search needs
 
-slice-aggregate-solve : tie.Need-slice-aggregate-solve
-slice-aggregate-solve c = search needs
+slice-aggregate-solve-indexed : tie.Need-slice-aggregate-solve-indexed
+slice-aggregate-solve-indexed c = search needs
 
-slice-aggregate-solve-2 : tie.Need-slice-aggregate-solve-2
-slice-aggregate-solve-2 c = search needs
+slice-aggregate-solve-indexed-2 : tie.Need-slice-aggregate-solve-indexed-2
+slice-aggregate-solve-indexed-2 c = search needs
 
-slice-aggregate-solve-3 : tie.Need-slice-aggregate-solve-3
-slice-aggregate-solve-3 c = search needs
+slice-aggregate-solve-indexed-3 : tie.Need-slice-aggregate-solve-indexed-3
+slice-aggregate-solve-indexed-3 c = search needs
 
-solve-requires : tie.Need-solve-requires
-solve-requires c κs = search needs
+solve-indexed-requires : tie.Need-solve-indexed-requires
+solve-indexed-requires c κs = search needs
 
 returns : tie.Need-returns
 returns c =
@@ -36,7 +36,7 @@ returns c =
 returns-2 : tie.Need-returns-2
 returns-2 c =
     let taken = c .before .before .before .before .before in
-    c .solve .ensures .0 ∙ sym (ap (answered (start (taken .before .before) .args .tables)) (taken .budget2 .given .1))
+    c .solve-indexed .ensures .0 ∙ sym (ap (answered (start (taken .before .before) .args .tables)) (taken .budget2 .given .1))
 
 pub answer-spec : {M : Type 1} → statement M
 answer-spec =
@@ -44,9 +44,9 @@ answer-spec =
     (tie.spec
     enum-known-budget
     enum-known-budget-2
-    slice-aggregate-solve
-    slice-aggregate-solve-2
-    slice-aggregate-solve-3
-    solve-requires
+    slice-aggregate-solve-indexed
+    slice-aggregate-solve-indexed-2
+    slice-aggregate-solve-indexed-3
+    solve-indexed-requires
     returns
     returns-2)

@@ -1,0 +1,9 @@
+pub mod Numbers
+pub mod RuleTests
+pub mod TallyAfter
+pub mod Advancing
+pub mod Running
+pub mod Made
+pub mod Entries
+pub mod Checks
+pub mod SameState

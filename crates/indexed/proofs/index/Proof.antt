@@ -1,0 +1,41 @@
+-- `index` meets its contract: the tables' checks decide, and accepted tables have their index.
+-- Assumes nothing.
+use mathlib.Core.Path.{sym, _∙_}
+use Rattle.indexed.proofs.Entries.{index-taken, index-refused}
+use borrow.Author.Needs.{needs}
+use Rattle.indexed.proofs.index.Statement.{statement}
+use Rattle.indexed.proofs.index.Tie as tie
+
+-- where the code starts, from the first call
+abbrev start : tie.After-accept → tie.Start
+start c = c .before .before .before .before
+
+accept-requires : tie.Need-accept-requires
+accept-requires c κs = search needs
+
+enum-known-checked : tie.Need-enum-known-checked
+enum-known-checked c = search needs
+
+enum-told : tie.Need-enum-told
+enum-told c = search needs
+
+make-index-requires : tie.Need-make-index-requires
+make-index-requires c κs = let told = c .before in sym (told .before .before .accept .ensures) ∙ told .enum-told .given .1
+
+returns : tie.Need-returns
+returns c =
+    let at-accept = c .before .before .before in
+    let s = start at-accept in
+    let e = sym (c .before .checked .given .1) ∙ at-accept .accept .ensures in (e, index-refused (s .args .d) _ _ (c .before .checked .given .0 .0) e)
+
+returns-2 : tie.Need-returns-2
+returns-2 c =
+    let told = c .before .before in
+    let at-accept = told .before .before in
+    let s = start at-accept in
+    let e = sym (told .enum-told .given .1) ∙ at-accept .accept .ensures in (e, index-taken (s .args .d) _ _ e _ (c .make-index .ensures .1))
+
+pub index-spec : {M : Type 1} → statement M
+index-spec =
+    tie.close
+    (tie.spec accept-requires enum-known-checked enum-told make-index-requires returns returns-2)

@@ -1,0 +1,100 @@
+// A run with its tally beside it: the giant step by the index, and the run to its close.
+use scan::Rule;
+use solver::Answer;
+use state::Run;
+use state::Standing;
+use tally::Tally;
+ghost use mathlib.Core.Path.{_≡_};
+ghost use Rattle.tables.specs.Rows.{rowsFrom};
+ghost use Rattle.state.specs.State.{stateOf};
+ghost use Rattle.solver.specs.Step.{always, step};
+ghost use Rattle.solver.specs.Entries.{answerOf};
+ghost use Rattle.indexed.specs.Held.{heldOf, Indexed, Exact, tallyBy};
+
+// A run and its tally.
+pub(crate) struct Held {
+    pub(crate) run: Run,
+    pub(crate) tally: Tally,
+}
+
+// The tally after a rule, from T and F as they were and as they are then.
+fn tally_after(
+    words: &[u32; 768],
+    rows: usize,
+    index: &[u64; 384],
+    t: u32,
+    f: u32,
+    next_t: u32,
+    next_f: u32,
+    rule: Rule,
+    tally: Tally,
+) -> Tally
+    ensures { λ r. ⌜ r ≡ tallyBy (now (words .entry)) rows (now (index .entry)) t f «next_t» «next_f» rule tally ⌝ }
+{
+    match rule {
+        Rule::AllSatisfied => tally,
+        Rule::Conflict => tally::survey(index, rows, next_t, next_f),
+        Rule::Unit(variable, positive) => {
+            tally::set_literal(words, index, t, f, variable, positive, tally)
+        }
+        Rule::Choice(variable) => tally::set_literal(words, index, t, f, variable, true, tally),
+    }
+}
+
+// One giant step: the rule is read off the tally, and a newly set variable leads to its own rows only. After a removed level all sets are made anew.
+pub(crate) fn advance(words: &[u32; 768], rows: usize, index: &[u64; 384], held: Held) -> Held
+    requires { ⌜ Indexed (held .run .n) (now words) rows (now index) ⌝ }
+    requires { ⌜ Exact (rowsFrom (now words) 0 rows) held ⌝ }
+    ensures { λ r. ⌜ r ≡ heldOf (held .run .n) (rowsFrom (now (words .entry)) 0 rows) (step (held .run .n) (rowsFrom (now (words .entry)) 0 rows) (stateOf (held .run))) ⌝ }
+{
+    let run = held.run;
+    let tally = held.tally;
+    let standing = run.standing;
+    match standing {
+        Standing::Open => {
+            let rule = tally::rule(words, index, run.t, run.f, tally);
+            let next = rules::follow(run, rule);
+            Held {
+                run: next,
+                tally: tally_after(
+                    words,
+                    rows,
+                    index,
+                    run.t,
+                    run.f,
+                    next.t,
+                    next.f,
+                    rule,
+                    tally,
+                ),
+            }
+        }
+        Standing::Satisfied => held,
+        Standing::Refuted => held,
+    }
+}
+
+// The answer of a fresh run over rows and their index.
+pub(crate) fn run_to_close(
+    n: u8,
+    words: &[u32; 768],
+    rows: usize,
+    index: &[u64; 384],
+    budget: u64,
+) -> Answer
+    requires { ⌜ Indexed n (now words) rows (now index) ⌝ }
+    ensures { λ r. ⌜ r ≡ answerOf n (always (rowsFrom (now (words .entry)) 0 rows)) budget ⌝ }
+{
+    let run = Run::fresh(n);
+    let tally = tally::survey(index, rows, run.t, run.f);
+    let mut held = Held { run, tally };
+    let mut count = 0;
+    while verdicts::goes_on(held.run, count, budget) {
+        held = advance(words, rows, index, held);
+        count += 1;
+    }
+    Answer {
+        count,
+        verdict: verdicts::verdict_of(held.run),
+    }
+}

@@ -1,0 +1,242 @@
+// The giant step and the budgeted run with an index and a tally beside them (document 02, "Which rows does a variable touch"): the same states as the plain scan gives.
+mod beside;
+
+use beside::Held;
+use dimensions::Dimensions;
+use refusals::Outcome;
+use refusals::Refusal;
+use solver::Answer;
+use solver::Solved;
+use state::Run;
+ghost use mathlib.Core.Path.{_≡_};
+ghost use mathlib.Core.List.{[], _∷_, _++_};
+ghost use Rattle.refusals.specs.Checks.{outcome};
+ghost use Rattle.refusals.specs.Numbers.{said};
+ghost use Rattle.refusals.specs.declared.Outcome.the-variants.{Taken};
+ghost use Rattle.dimensions.specs.Sizes.{rowCount};
+ghost use Rattle.tables.specs.Tables.{allTables};
+ghost use Rattle.tables.specs.Acceptance.{tableChecks};
+ghost use Rattle.tables.specs.Rows.{rowsFrom, rowsOf};
+ghost use Rattle.state.specs.WellFormed.{stateChecks};
+ghost use Rattle.solver.specs.Step.{always};
+ghost use Rattle.solver.specs.Entries.{answerOf, answerNumbers, solved, solvedCode, solvedNumbers};
+ghost use Rattle.occurrences.specs.Index.{indexOf};
+ghost use Rattle.tally.specs.Tallies.{unsatisfiedRows};
+ghost use Rattle.indexed.specs.Entries.{indexAfter, counted, countedCode, countedNumbers, indexedChecks, numberAfter, steppedIndexed, steppedSaid, saidOr};
+ghost use Rattle.indexed.specs.Held.{Indexed, keptChecks, steppedOver};
+
+// How many rows are unsatisfied, or why it is not said.
+pub enum Counted {
+    Of(u32),
+    Refused(Refusal),
+}
+
+// A run after one step and its number of unsatisfied rows, or both as they were with the refusal.
+pub struct SteppedIndexed {
+    pub outcome: Outcome,
+    pub run: Run,
+    pub number: u64,
+}
+
+// ---- the index
+
+// Makes the index of accepted tables, and gives the words of their rows.
+fn make_index(
+    d: Dimensions,
+    left: &[u32],
+    right: &[u32],
+    public: &[u32],
+    index: &mut [u64; 384],
+) -> [u32; 768]
+    requires { ⌜ outcome (tableChecks d (allTables (now left) (now right) (now public))) ≡ Taken ⌝ }
+    ensures { λ r. ⌜ rowsFrom r 0 (rowCount d) ≡ rowsOf d (allTables (now (left .entry)) (now (right .entry)) (now (public .entry))) ⌝ }
+    ensures { λ _. ⌜ now (index .exit) ≡ indexOf (rowsOf d (allTables (now (left .entry)) (now (right .entry)) (now (public .entry)))) ⌝ }
+{
+    let words = occurrences::row_words(d, left, right, public);
+    occurrences::fill(&words, d.rows(), index);
+    words
+}
+
+// Makes the index of the tables; 1, 2, 4 or 3 leave it as it was.
+pub fn index(
+    d: Dimensions,
+    left: &[u32],
+    right: &[u32],
+    public: &[u32],
+    index: &mut [u64; 384],
+) -> Outcome
+    ensures { λ r. ⌜ r ≡ outcome (tableChecks d (allTables (now (left .entry)) (now (right .entry)) (now (public .entry)))) ⌝ }
+    ensures { λ _. ⌜ now (index .exit) ≡ indexAfter d (allTables (now (left .entry)) (now (right .entry)) (now (public .entry))) (now (index .entry)) ⌝ }
+{
+    let checked = tables::accept(d, left, right, public);
+    match checked {
+        Outcome::Refused(refusal) => Outcome::Refused(refusal),
+        Outcome::Taken => {
+            make_index(d, left, right, public, index);
+            Outcome::Taken
+        }
+    }
+}
+
+// ---- the budgeted run
+
+// The answer of a fresh run over accepted tables: their index is made once.
+fn run_indexed(d: Dimensions, left: &[u32], right: &[u32], public: &[u32], budget: u64) -> Answer
+    requires { ⌜ outcome (tableChecks d (allTables (now left) (now right) (now public))) ≡ Taken ⌝ }
+    ensures { λ r. ⌜ r ≡ answerOf (d .n) (always (rowsOf d (allTables (now (left .entry)) (now (right .entry)) (now (public .entry))))) budget ⌝ }
+{
+    let mut index = [0u64; 384];
+    let words = make_index(d, left, right, public, &mut index);
+    beside::run_to_close(d.n, &words, d.rows(), &index, budget)
+}
+
+// The answer of a fresh run that stops when it is closed or the budget is spent, as `solver::solve` gives it; 1, 2, 4 or 3 if the tables are not accepted.
+pub fn solve_indexed(
+    d: Dimensions,
+    left: &[u32],
+    right: &[u32],
+    public: &[u32],
+    budget: u64,
+) -> Solved
+    ensures { λ r. ⌜ r ≡ solved d (allTables (now (left .entry)) (now (right .entry)) (now (public .entry))) budget ⌝ }
+    ensures { λ r. ⌜ solvedCode r ∷ solvedNumbers r ≡ said (outcome (tableChecks d (allTables (now (left .entry)) (now (right .entry)) (now (public .entry))))) (answerNumbers (answerOf (d .n) (always (rowsOf d (allTables (now (left .entry)) (now (right .entry)) (now (public .entry))))) budget)) ⌝ }
+{
+    let checked = tables::accept(d, left, right, public);
+    match checked {
+        Outcome::Refused(refusal) => Solved::Refused(refusal),
+        Outcome::Taken => Solved::Of(run_indexed(d, left, right, public, budget)),
+    }
+}
+
+// ---- the number of unsatisfied rows
+
+// How many rows of accepted tables are unsatisfied under T and F.
+fn count_unsatisfied(
+    d: Dimensions,
+    left: &[u32],
+    right: &[u32],
+    public: &[u32],
+    t: u32,
+    f: u32,
+) -> u32
+    requires { ⌜ outcome (tableChecks d (allTables (now left) (now right) (now public))) ≡ Taken ⌝ }
+    ensures { λ r. ⌜ r ≡ unsatisfiedRows (d .n) (rowsOf d (allTables (now (left .entry)) (now (right .entry)) (now (public .entry)))) t f ⌝ }
+{
+    let mut index = [0u64; 384];
+    make_index(d, left, right, public, &mut index);
+    let tally = tally::survey(&index, d.rows(), t, f);
+    tally.number
+}
+
+// How many rows are unsatisfied under the run's T and F, whatever its standing; 1, 2, 4, 3, 12 or 13 if the call is turned back.
+pub fn unsatisfied(d: Dimensions, left: &[u32], right: &[u32], public: &[u32], run: Run) -> Counted
+    ensures { λ r. ⌜ r ≡ counted d (allTables (now (left .entry)) (now (right .entry)) (now (public .entry))) run ⌝ }
+    ensures { λ r. ⌜ countedCode r ∷ countedNumbers r ≡ said (outcome (tableChecks d (allTables (now (left .entry)) (now (right .entry)) (now (public .entry))) ++ stateChecks d run)) (unsatisfiedRows (d .n) (rowsOf d (allTables (now (left .entry)) (now (right .entry)) (now (public .entry)))) (run .t) (run .f) ∷ []) ⌝ }
+{
+    match tables::accept(d, left, right, public) {
+        Outcome::Taken => {}
+        Outcome::Refused(refusal) => return Counted::Refused(refusal),
+    }
+    match state::check_state(d, run) {
+        Outcome::Taken => { Counted::Of(count_unsatisfied(d, left, right, public, run.t, run.f)) }
+        Outcome::Refused(refusal) => Counted::Refused(refusal),
+    }
+}
+
+// ---- the step
+
+// Whether a run may be stepped with an index and a number that are `exact` and `right` or not: 12 for each of the three, then 13.
+fn check_kept(n: u8, run: Run, exact: bool, right: bool) -> Outcome
+    ensures { λ r. ⌜ r ≡ outcome (keptChecks n run exact right) ⌝ }
+{
+    if !state::well_formed(run) {
+        return Outcome::Refused(Refusal::State);
+    }
+    if !exact {
+        return Outcome::Refused(Refusal::State);
+    }
+    if !right {
+        return Outcome::Refused(Refusal::State);
+    }
+    if run.n != n {
+        return Outcome::Refused(Refusal::OtherVariables);
+    }
+    Outcome::Taken
+}
+
+// The step over rows whose index is `sets`, with the index and the number that were handed over.
+fn step_rows(
+    n: u8,
+    words: &[u32; 768],
+    rows: usize,
+    sets: &[u64; 384],
+    index: &[u64; 384],
+    run: Run,
+    number: u64,
+) -> SteppedIndexed
+    requires { ⌜ Indexed n (now words) rows (now sets) ⌝ }
+    ensures { λ r. ⌜ r ≡ steppedOver n (rowsFrom (now (words .entry)) 0 rows) (now (index .entry)) run number ⌝ }
+{
+    let tally = tally::survey(sets, rows, run.t, run.f);
+    let exact = occurrences::same(index, sets);
+    let outcome = check_kept(n, run, exact, number == tally.number as u64);
+    match outcome {
+        Outcome::Taken => {
+            let next = beside::advance(words, rows, sets, Held { run, tally });
+            let run = next.run;
+            let tally = next.tally;
+            SteppedIndexed {
+                outcome,
+                run,
+                number: tally.number as u64,
+            }
+        }
+        Outcome::Refused(_) => SteppedIndexed {
+            outcome,
+            run,
+            number,
+        },
+    }
+}
+
+// The step over accepted tables.
+fn step_accepted(
+    d: Dimensions,
+    left: &[u32],
+    right: &[u32],
+    public: &[u32],
+    index: &[u64; 384],
+    run: Run,
+    number: u64,
+) -> SteppedIndexed
+    requires { ⌜ outcome (tableChecks d (allTables (now left) (now right) (now public))) ≡ Taken ⌝ }
+    ensures { λ r. ⌜ r ≡ steppedOver (d .n) (rowsOf d (allTables (now (left .entry)) (now (right .entry)) (now (public .entry)))) (now (index .entry)) run number ⌝ }
+{
+    let mut sets = [0u64; 384];
+    let words = make_index(d, left, right, public, &mut sets);
+    step_rows(d.n, &words, d.rows(), &sets, index, run, number)
+}
+
+// The run after one giant step, with its number of unsatisfied rows; both as they were where the call is turned back: 1, 2, 4, 3, 12, 13.
+pub fn step_indexed(
+    d: Dimensions,
+    left: &[u32],
+    right: &[u32],
+    public: &[u32],
+    index: &[u64; 384],
+    run: Run,
+    number: u64,
+) -> SteppedIndexed
+    ensures { λ r. ⌜ r ≡ steppedIndexed d (allTables (now (left .entry)) (now (right .entry)) (now (public .entry))) (now (index .entry)) run number ⌝ }
+    ensures { λ r. ⌜ steppedSaid r ≡ saidOr (outcome (tableChecks d (allTables (now (left .entry)) (now (right .entry)) (now (public .entry))) ++ indexedChecks (d .n) (rowsOf d (allTables (now (left .entry)) (now (right .entry)) (now (public .entry)))) (now (index .entry)) run number)) (numberAfter (d .n) (rowsOf d (allTables (now (left .entry)) (now (right .entry)) (now (public .entry)))) run) number ⌝ }
+{
+    let outcome = tables::accept(d, left, right, public);
+    match outcome {
+        Outcome::Taken => step_accepted(d, left, right, public, index, run, number),
+        Outcome::Refused(_) => SteppedIndexed {
+            outcome,
+            run,
+            number,
+        },
+    }
+}
