@@ -1,8 +1,8 @@
 /*
  * Forkhemit for hosts in C and C++: two stations' clause tables and the public one, the giant step, its circuit and the texts.
- * Every function is proved to meet its contract, which stands in crates/host_runs, host_circuits and host_texts. `make lib` writes the
- * archive to link, target/lib/libforkhemit.a, for x86-64 Linux; it needs C's memcpy and memset and nothing else. docs/GUIDE.md has the
- * calls in the order in which a host makes them, examples/host a host in C and one in Rust.
+ * Every function is proved to meet its contract, which stands in crates/host_runs, host_indexed, host_circuits and host_texts. `make lib`
+ * writes the archive to link, target/lib/libforkhemit.a, for x86-64 Linux; it needs C's memcpy and memset and nothing else. docs/GUIDE.md
+ * has the calls in the order in which a host makes them, examples/host a host in C and one in Rust.
  *
  * Rules for every call
  * - An array, as `uint64_t sizes[4]`, is lent as a pointer: it has at least so many elements. Any other buffer is lent as a pointer and
@@ -45,7 +45,7 @@ enum forkhemit_refusal_number {
     FORKHEMIT_GATES = 9,            /* words that are no gates */
     FORKHEMIT_WIRES = 10,           /* wire buffer too short, or an input byte that is not 0 or 1 */
     FORKHEMIT_LINE_BUFFER = 11,     /* text line longer than the lent bytes */
-    FORKHEMIT_STATE = 12,           /* state not well-formed */
+    FORKHEMIT_STATE = 12,           /* state not well-formed, or an index or a number that is not the one of tables and state */
     FORKHEMIT_OTHER_VARIABLES = 13, /* state made for another n */
     FORKHEMIT_NO_MODEL = 14         /* model wanted while open or refuted */
 };
@@ -109,6 +109,46 @@ uint8_t forkhemit_solve(uint64_t n, uint64_t left_rows, uint64_t right_rows, uin
 
 /* model: the variables that a satisfied run makes true, as a word. 12, 14. */
 uint8_t forkhemit_model(const uint32_t run[FORKHEMIT_RUN_WORDS], uint64_t model[1]);
+
+/* ---- runs with an index */
+
+/*
+ * The index of tables: FORKHEMIT_INDEX_WORDS words of 64 bits, for each of 64 literals the set of rows that hold it, in six words.
+ *   literal i - 1       variable i; literal 32 + i - 1 its negation
+ *   word 6 * literal    its rows 0 to 63; the next word rows 64 to 127, and so on up to row 383
+ * Rows count from 0: the left ones, then the right ones, then the public ones. Row r is bit r % 64 of word 6 * literal + r / 64. Bits of
+ * variables above n and of rows past the last are zero.
+ *
+ * Keep one beside tables that do not change, while you ask which rows a variable touches or want a run's number of unsatisfied rows after
+ * every step. A call that judges a lent index reads all rows for it and is slower than forkhemit_step; where only the answer counts, call
+ * forkhemit_solve_indexed, which makes its own index once and keeps it to the end of the run.
+ */
+#define FORKHEMIT_INDEX_WORDS 384
+
+/* index: the index of the three tables. 1, 2, 4, 3. */
+uint8_t forkhemit_index(uint64_t n, uint64_t left_rows, uint64_t right_rows, uint64_t public_rows,
+                        const uint32_t *left, size_t left_length, const uint32_t *right, size_t right_length,
+                        const uint32_t *public_table, size_t public_length, uint64_t index[FORKHEMIT_INDEX_WORDS]);
+
+/* number: how many rows are unsatisfied under the run's T and F, whatever its standing; padding is satisfied. 1, 2, 4, 3, 12, 13. */
+uint8_t forkhemit_unsatisfied(uint64_t n, uint64_t left_rows, uint64_t right_rows, uint64_t public_rows,
+                              const uint32_t *left, size_t left_length, const uint32_t *right, size_t right_length,
+                              const uint32_t *public_table, size_t public_length,
+                              const uint32_t run[FORKHEMIT_RUN_WORDS], uint64_t number[1]);
+
+/* run: after one giant step, in place, as forkhemit_step leaves it. number: lent, how many rows are unsatisfied under the run, as
+ * forkhemit_unsatisfied counts them; after the call, how many are under the run after the step. Each call judges the whole index and the
+ * number against tables and run. 1, 2, 4, 3, 12 (the run is not well-formed, the index is not the tables', or the number is not the
+ * run's), 13. */
+uint8_t forkhemit_step_indexed(uint64_t n, uint64_t left_rows, uint64_t right_rows, uint64_t public_rows,
+                               const uint32_t *left, size_t left_length, const uint32_t *right, size_t right_length,
+                               const uint32_t *public_table, size_t public_length, const uint64_t index[FORKHEMIT_INDEX_WORDS],
+                               uint32_t run[FORKHEMIT_RUN_WORDS], uint64_t number[1]);
+
+/* answer: as forkhemit_solve, which reads every row in every step; here a variable that is set leads to its own rows only. 1, 2, 4, 3. */
+uint8_t forkhemit_solve_indexed(uint64_t n, uint64_t left_rows, uint64_t right_rows, uint64_t public_rows,
+                                const uint32_t *left, size_t left_length, const uint32_t *right, size_t right_length,
+                                const uint32_t *public_table, size_t public_length, uint64_t budget, uint64_t answer[3]);
 
 /* ---- the circuit */
 

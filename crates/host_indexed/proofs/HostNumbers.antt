@@ -1,0 +1,81 @@
+-- What the index, the number of unsatisfied rows, the step and the run that go by them give on a host's numbers as bytes is what they give on the
+-- numbers: refused sizes are refused alike, since the checks begin with those.
+-- Assumes nothing.
+use mathlib.Core.Path.{_≡_, sym, ap, _∙_}
+use mathlib.Core.List.{List}
+use Prim.Native.Nat.{ℕ}
+use lib.ListN.{getD}
+use Rattle.refusals.specs.Checks.{outcome}
+use Rattle.refusals.specs.declared.Refusal.{Refusal}
+use Rattle.refusals.specs.declared.Outcome.{Outcome}
+use Rattle.refusals.specs.declared.Outcome.the-variants.{Refused}
+use Rattle.refusals.proofs.Outcomes.{outcome-refused}
+use Rattle.dimensions.specs.declared.Dimensions.{Dimensions}
+use Rattle.dimensions.specs.Sizes.{sizeChecks}
+use Rattle.tables.specs.Tables.{Tables}
+use Rattle.tables.specs.Rows.{rowsOf}
+use Rattle.tables.specs.Acceptance.{tableChecks}
+use Rattle.tables.proofs.Accepted.{refuse-size}
+use Rattle.state.specs.declared.Run.{Run}
+use Rattle.state.specs.WellFormed.{stateChecks}
+use Rattle.solver.specs.declared.Solved.{Solved}
+use Rattle.solver.specs.declared.Solved.the-variants as solved′
+use Rattle.solver.specs.Entries.{solved}
+use Rattle.indexed.specs.declared.Counted.{Counted}
+use Rattle.indexed.specs.declared.Counted.the-variants as counted′
+use Rattle.indexed.specs.declared.SteppedIndexed.{SteppedIndexed}
+use Rattle.indexed.specs.Entries.{indexAfter, counted, indexedChecks, steppedBy, steppedIndexed}
+use Rattle.stored.specs.Words.{runIn}
+use Rattle.codes.proofs.AsBytes.{asBytes, on-numbers}
+use Rattle.host_indexed.specs.Steps.{stepIn}
+
+-- ---- refused sizes
+
+module _ (tables : Tables) (d : Dimensions) (q : Refusal) (h : outcome (sizeChecks d) ≡ Refused q) where
+  accept-refused : outcome (tableChecks d tables) ≡ Refused q
+  accept-refused = sym (refuse-size d tables q h)
+
+  index-refused : (index : List ℕ) → indexAfter d tables index ≡ index
+  unfolding indexAfter
+  index-refused index = rw accept-refused
+
+  count-refused : (run : Run) → counted d tables run ≡ counted′.Refused q
+  unfolding counted
+  count-refused run = rw (outcome-refused (tableChecks d tables) (stateChecks d run) q accept-refused)
+
+  step-refused : (index : List ℕ) (run : Run) (number : ℕ)
+      → steppedIndexed d tables index run number ≡ record { outcome = Refused q; run = run; number = number }
+  unfolding steppedIndexed
+  step-refused index run number =
+      let rows = rowsOf d tables in
+      ap (λ (o : Outcome). steppedBy o (d .n) rows run number)
+      (outcome-refused (tableChecks d tables) (indexedChecks (d .n) rows index run number) q accept-refused)
+
+  solve-refused : (budget : ℕ) → solved d tables budget ≡ solved′.Refused q
+  unfolding solved
+  solve-refused budget = rw accept-refused
+
+-- ---- any sizes
+
+module _ (asked d : Dimensions) (e : d ≡ asBytes asked) (tables : Tables) where
+  pub accept-is : (o : Outcome) → o ≡ outcome (tableChecks d tables) → o ≡ outcome (tableChecks asked tables)
+  accept-is = on-numbers asked (λ x. outcome (tableChecks x tables)) Refused (accept-refused tables) d e
+
+  pub index-is : (index after : List ℕ) → after ≡ indexAfter d tables index → after ≡ indexAfter asked tables index
+  index-is index = on-numbers asked (λ x. indexAfter x tables index) (λ q. index) (λ x q h. index-refused tables x q h index) d e
+
+  pub count-is : (words : List ℕ) (run : Run) → run ≡ runIn words → (k : Counted) → k ≡ counted d tables run → k ≡ counted asked tables (runIn words)
+  count-is words run held k r =
+      on-numbers asked (λ x. counted x tables run) counted′.Refused (λ x q h. count-refused tables x q h run) d e k r
+      ∙ ap (λ (x : Run). counted asked tables x) held
+
+  pub step-is : (index words number : List ℕ) (run : Run) → run ≡ runIn words
+      → (s : SteppedIndexed) → s ≡ steppedIndexed d tables index run (getD number 0 0) → s ≡ stepIn asked tables index words number
+  step-is index words number run held s r =
+      let k = getD number 0 0 in
+      on-numbers asked (λ x. steppedIndexed x tables index run k) (λ q. record { outcome = Refused q; run = run; number = k })
+      (λ x q h. step-refused tables x q h index run k) d e s r
+      ∙ ap (λ (x : Run). steppedIndexed asked tables index x k) held
+
+  pub solve-is : (budget : ℕ) (s : Solved) → s ≡ solved d tables budget → s ≡ solved asked tables budget
+  solve-is budget = on-numbers asked (λ x. solved x tables budget) solved′.Refused (λ x q h. solve-refused tables x q h budget) d e

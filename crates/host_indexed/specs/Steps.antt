@@ -1,0 +1,13 @@
+-- What one giant step of a run in lent words gives, with a lent index and a lent number of unsatisfied rows.
+use Prim.Native.Nat.{ℕ}
+use mathlib.Core.List.{List}
+use lib.ListN.{getD}
+use Rattle.dimensions.specs.declared.Dimensions.{Dimensions}
+use Rattle.tables.specs.Tables.{Tables}
+use Rattle.indexed.specs.declared.SteppedIndexed.{SteppedIndexed}
+use Rattle.indexed.specs.Entries.{steppedIndexed}
+use Rattle.stored.specs.Words.{runIn}
+
+-- index, run and number in lent words; the number is the one word of its array
+abbrev pub stepIn : Dimensions → Tables → List ℕ → List ℕ → List ℕ → SteppedIndexed
+stepIn d tables index run number = steppedIndexed d tables index (runIn run) (getD number 0 0)

@@ -1,0 +1,122 @@
+// For hosts in C and Rust: the rows of each literal as an index, the number of unsatisfied rows, and the step and the budgeted run that go by them.
+// Each function is a thin call of a proved entry. A slice passes as a pointer and then a length, an array as a pointer.
+// It returns 0 where the call is taken, else the refusal's number, and then all lent memory is as it was.
+use indexed::Counted;
+use solver::Solved;
+ghost use mathlib.Core.Path.{_≡_};
+ghost use mathlib.Core.List.{[], _∷_};
+ghost use Rattle.refusals.specs.Checks.{outcome};
+ghost use Rattle.refusals.specs.Numbers.{codeOf};
+ghost use Rattle.dimensions.specs.Sizes.{dimensions};
+ghost use Rattle.tables.specs.Tables.{allTables};
+ghost use Rattle.tables.specs.Acceptance.{tableChecks};
+ghost use Rattle.solver.specs.Entries.{solved, solvedCode, solvedNumbers};
+ghost use Rattle.indexed.specs.Entries.{indexAfter, counted, countedCode, countedNumbers};
+ghost use Rattle.stored.specs.Words.{runIn};
+ghost use Rattle.lent.specs.Lent.{numbersOr, storedIf};
+ghost use Rattle.host_indexed.specs.Steps.{stepIn};
+
+// The index of three tables; 1, 2, 4 or 3 where it is turned back.
+#[no_mangle]
+pub extern "C" fn forkhemit_index(
+    n: u64,
+    left_rows: u64,
+    right_rows: u64,
+    public_rows: u64,
+    left: &[u32],
+    right: &[u32],
+    public: &[u32],
+    index: &mut [u64; 384],
+) -> u8
+    ensures { λ r. ⌜ r ≡ codeOf (outcome (tableChecks (dimensions n «left_rows» «right_rows» «public_rows») (allTables (now (left .entry)) (now (right .entry)) (now (public .entry))))) ⌝ }
+    ensures { λ _. ⌜ now (index .exit) ≡ indexAfter (dimensions n «left_rows» «right_rows» «public_rows») (allTables (now (left .entry)) (now (right .entry)) (now (public .entry))) (now (index .entry)) ⌝ }
+{
+    let d = codes::dimensions(n, left_rows, right_rows, public_rows);
+    codes::code(indexed::index(d, left, right, public, index))
+}
+
+// How many rows are unsatisfied under the T and F of the run in the lent words; 1, 2, 4, 3, 12 or 13 where it is turned back.
+#[no_mangle]
+pub extern "C" fn forkhemit_unsatisfied(
+    n: u64,
+    left_rows: u64,
+    right_rows: u64,
+    public_rows: u64,
+    left: &[u32],
+    right: &[u32],
+    public: &[u32],
+    run: &[u32; 101],
+    number: &mut [u64; 1],
+) -> u8
+    ensures { λ r. ⌜ r ≡ countedCode (counted (dimensions n «left_rows» «right_rows» «public_rows») (allTables (now (left .entry)) (now (right .entry)) (now (public .entry))) (runIn (now (run .entry)))) ⌝ }
+    ensures { λ _. ⌜ now (number .exit) ≡ numbersOr (countedNumbers (counted (dimensions n «left_rows» «right_rows» «public_rows») (allTables (now (left .entry)) (now (right .entry)) (now (public .entry))) (runIn (now (run .entry))))) (now (number .entry)) ⌝ }
+{
+    let d = codes::dimensions(n, left_rows, right_rows, public_rows);
+    match indexed::unsatisfied(d, left, right, public, stored::load(*run)) {
+        Counted::Of(rows) => {
+            *number = [rows as u64];
+            return 0;
+        }
+        Counted::Refused(refusal) => return refusals::number(refusal),
+    }
+}
+
+// One giant step of the run in the lent words, with its number of unsatisfied rows; 1, 2, 4, 3, 12 or 13 where it is turned back: then the step's number is the one that was lent.
+#[no_mangle]
+pub extern "C" fn forkhemit_step_indexed(
+    n: u64,
+    left_rows: u64,
+    right_rows: u64,
+    public_rows: u64,
+    left: &[u32],
+    right: &[u32],
+    public: &[u32],
+    index: &[u64; 384],
+    run: &mut [u32; 101],
+    number: &mut [u64; 1],
+) -> u8
+    ensures { λ r. ⌜ r ≡ codeOf (stepIn (dimensions n «left_rows» «right_rows» «public_rows») (allTables (now (left .entry)) (now (right .entry)) (now (public .entry))) (now (index .entry)) (now (run .entry)) (now (number .entry)) .outcome) ⌝ }
+    ensures { λ _. ⌜ now (run .exit) ≡ storedIf (stepIn (dimensions n «left_rows» «right_rows» «public_rows») (allTables (now (left .entry)) (now (right .entry)) (now (public .entry))) (now (index .entry)) (now (run .entry)) (now (number .entry)) .outcome) (stepIn (dimensions n «left_rows» «right_rows» «public_rows») (allTables (now (left .entry)) (now (right .entry)) (now (public .entry))) (now (index .entry)) (now (run .entry)) (now (number .entry)) .run) (now (run .entry)) ⌝ }
+    ensures { λ _. ⌜ now (number .exit) ≡ stepIn (dimensions n «left_rows» «right_rows» «public_rows») (allTables (now (left .entry)) (now (right .entry)) (now (public .entry))) (now (index .entry)) (now (run .entry)) (now (number .entry)) .number ∷ [] ⌝ }
+{
+    let d = codes::dimensions(n, left_rows, right_rows, public_rows);
+    let held = stored::load(*run);
+    let kept = number[0];
+    let stepped = indexed::step_indexed(d, left, right, public, index, held, kept);
+    let outcome = stepped.outcome;
+    let next = stepped.run;
+    lent::store_if(outcome, next, run);
+    *number = [stepped.number];
+    codes::code(outcome)
+}
+
+// The answer of a fresh run under a budget by the indexed run: count, verdict, model; 1, 2, 4 or 3 where it is turned back.
+#[no_mangle]
+pub extern "C" fn forkhemit_solve_indexed(
+    n: u64,
+    left_rows: u64,
+    right_rows: u64,
+    public_rows: u64,
+    left: &[u32],
+    right: &[u32],
+    public: &[u32],
+    budget: u64,
+    answer: &mut [u64; 3],
+) -> u8
+    ensures { λ r. ⌜ r ≡ solvedCode (solved (dimensions n «left_rows» «right_rows» «public_rows») (allTables (now (left .entry)) (now (right .entry)) (now (public .entry))) budget) ⌝ }
+    ensures { λ _. ⌜ now (answer .exit) ≡ numbersOr (solvedNumbers (solved (dimensions n «left_rows» «right_rows» «public_rows») (allTables (now (left .entry)) (now (right .entry)) (now (public .entry))) budget)) (now (answer .entry)) ⌝ }
+{
+    let d = codes::dimensions(n, left_rows, right_rows, public_rows);
+    match indexed::solve_indexed(d, left, right, public, budget) {
+        Solved::Of(given) => {
+            let verdict = given.verdict;
+            *answer = [
+                given.count,
+                codes::verdict_number(verdict),
+                codes::model_word(verdict),
+            ];
+            return 0;
+        }
+        Solved::Refused(refusal) => return refusals::number(refusal),
+    }
+}
