@@ -19,6 +19,8 @@ extern "C" {
         right: *const u32, right_length: usize, public_table: *const u32, public_length: usize, run: &mut [u32; 101]) -> u8;
     fn forkhemit_solve(n: u64, left_rows: u64, right_rows: u64, public_rows: u64, left: *const u32, left_length: usize,
         right: *const u32, right_length: usize, public_table: *const u32, public_length: usize, budget: u64, answer: &mut [u64; 3]) -> u8;
+    fn forkhemit_solve_indexed(n: u64, left_rows: u64, right_rows: u64, public_rows: u64, left: *const u32, left_length: usize,
+        right: *const u32, right_length: usize, public_table: *const u32, public_length: usize, budget: u64, answer: &mut [u64; 3]) -> u8;
     fn forkhemit_generate(n: u64, left_rows: u64, right_rows: u64, public_rows: u64, gates: *mut u32, gates_length: usize,
         count: &mut [u64; 1]) -> u8;
     fn forkhemit_write_lines(n: u64, left_rows: u64, right_rows: u64, public_rows: u64, gates: *const u32, gates_length: usize,
@@ -47,13 +49,22 @@ fn hard(n: usize, m: usize, padding: usize, seed: u64) -> [Vec<u32>; 3] {
     [&rows[..left], &rows[left..left + right], &rows[left + right..]].map(memory::row_words)
 }
 
-/// The library's budgeted run, its budget the greatest.
-fn solve(n: usize, [left, right, public]: &[Vec<u32>; 3]) -> [u64; 3] {
+/// A budgeted run of the library.
+#[rustfmt::skip]
+type Solve = unsafe extern "C" fn(u64, u64, u64, u64, *const u32, usize, *const u32, usize, *const u32, usize, u64, &mut [u64; 3]) -> u8;
+
+/// The library's run by the scan, its budget the greatest.
+fn solve(n: usize, tables: &[Vec<u32>; 3]) -> [u64; 3] {
+    solve_by(forkhemit_solve, n, tables, u64::MAX)
+}
+
+/// A run of the library within a budget.
+fn solve_by(solve: Solve, n: usize, [left, right, public]: &[Vec<u32>; 3], budget: u64) -> [u64; 3] {
     let mut answer = [0; 3];
     let [l, r, p] = [left, right, public].map(|words| words.len() as u64 / 2);
     // The tables and the answer are lent for the call.
     let number = unsafe {
-        forkhemit_solve(
+        solve(
             n as u64,
             l,
             r,
@@ -64,7 +75,7 @@ fn solve(n: usize, [left, right, public]: &[Vec<u32>; 3]) -> [u64; 3] {
             right.len(),
             public.as_ptr(),
             public.len(),
-            u64::MAX,
+            budget,
             &mut answer,
         )
     };
@@ -113,6 +124,36 @@ fn steps(n: usize, m: usize, padding: usize) {
         "giant step, n = {n}, m = {m}{padded}: {a:.0} ns, plain Rust {b:.0} ns, ratio {:.2} ({count} steps of {TABLES} tables)",
         a / b
     );
+}
+
+/// The run by the index beside the one by the scan: whole runs, judging and the making of the index included; the same divided by the
+/// steps; and steps alone, without what a run of no steps takes.
+fn indexed(n: usize, m: usize, padding: usize) {
+    let all: Vec<[Vec<u32>; 3]> = (0..TABLES).map(|k| hard(n, m, padding, SEED + k as u64)).collect();
+    let ways: [(Solve, u64); 4] = [
+        (forkhemit_solve_indexed, u64::MAX),
+        (forkhemit_solve, u64::MAX),
+        (forkhemit_solve_indexed, 0),
+        (forkhemit_solve, 0),
+    ];
+    let mut times = [vec![], vec![], vec![], vec![]];
+    let mut count = 0;
+    for _ in 0..RUNS {
+        let made = ways.map(|(way, budget)| {
+            clock::of(|| all.iter().map(|tables| solve_by(way, n, tables, budget)).collect::<Vec<_>>())
+        });
+        assert_eq!(made[0].0, made[1].0, "both give the same counts, verdicts and models");
+        count = made[0].0.iter().map(|answer| answer[0]).sum();
+        times.iter_mut().zip(&made).for_each(|(times, (_, time))| times.push(time * 1e3));
+    }
+    let [a, b, c, d] = times.map(median);
+    let padded = if padding > 0 { format!(", {padding} of them padding") } else { String::new() };
+    let each = |time: f64| time / count as f64;
+    let whole = |time: f64| time / TABLES as f64 / 1e3;
+    println!("a step of the indexed run, n = {n}, m = {m}{padded}: {:.0} ns, the scan's {:.0} ns, ratio {:.2}; without what a run of no steps takes {:.0} ns, {:.0} ns, ratio {:.2} ({count} steps of {TABLES} tables)",
+        each(a), each(b), a / b, each(a - c), each(b - d), (a - c) / (b - d));
+    println!("a whole indexed run, n = {n}, m = {m}{padded}: {:.2} us, the scan's {:.2} us, ratio {:.2}; the index is made in {:.2} us",
+        whole(a), whole(b), a / b, whole(c - d));
 }
 
 /// Steps that are called one by one beside plain Rust that judges tables and run before each step too.
@@ -308,6 +349,11 @@ fn main() {
         steps(n, m, 0);
     }
     steps(32, 384, 246);
+    for (n, m, padding) in
+        [(20, 86, 0), (26, 112, 0), (32, 138, 0), (32, 256, 0), (32, 384, 0), (32, 256, 118), (32, 384, 246)]
+    {
+        indexed(n, m, padding);
+    }
     single_steps(32, 138, 0);
     single_steps(32, 384, 0);
     reader("literals again and again", repeated);

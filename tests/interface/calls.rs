@@ -18,6 +18,15 @@ mod library {
             right: *const u32, right_length: usize, public_table: *const u32, public_length: usize, run: *mut u32) -> u8;
         pub fn forkhemit_solve(n: u64, left_rows: u64, right_rows: u64, public_rows: u64, left: *const u32, left_length: usize,
             right: *const u32, right_length: usize, public_table: *const u32, public_length: usize, budget: u64, answer: *mut u64) -> u8;
+        pub fn forkhemit_index(n: u64, left_rows: u64, right_rows: u64, public_rows: u64, left: *const u32, left_length: usize,
+            right: *const u32, right_length: usize, public_table: *const u32, public_length: usize, index: *mut u64) -> u8;
+        pub fn forkhemit_unsatisfied(n: u64, left_rows: u64, right_rows: u64, public_rows: u64, left: *const u32, left_length: usize,
+            right: *const u32, right_length: usize, public_table: *const u32, public_length: usize, run: *const u32, number: *mut u64) -> u8;
+        pub fn forkhemit_step_indexed(n: u64, left_rows: u64, right_rows: u64, public_rows: u64, left: *const u32, left_length: usize,
+            right: *const u32, right_length: usize, public_table: *const u32, public_length: usize, index: *const u64,
+            run: *mut u32, number: *mut u64) -> u8;
+        pub fn forkhemit_solve_indexed(n: u64, left_rows: u64, right_rows: u64, public_rows: u64, left: *const u32, left_length: usize,
+            right: *const u32, right_length: usize, public_table: *const u32, public_length: usize, budget: u64, answer: *mut u64) -> u8;
         pub fn forkhemit_model(run: *const u32, model: *mut u64) -> u8;
         pub fn forkhemit_generate(n: u64, left_rows: u64, right_rows: u64, public_rows: u64, gates: *mut u32, gates_length: usize,
             count: *mut u64) -> u8;
@@ -48,6 +57,10 @@ pub enum Function {
     Fresh,
     Step,
     Solve,
+    Index,
+    Unsatisfied,
+    StepIndexed,
+    SolveIndexed,
     Model,
     Generate,
     Pack,
@@ -60,13 +73,17 @@ pub enum Function {
     Answer,
 }
 
-pub const ALL: [Function; 16] = [
+pub const ALL: [Function; 20] = [
     Function::Sizes,
     Function::ReadTables,
     Function::Accept,
     Function::Fresh,
     Function::Step,
     Function::Solve,
+    Function::Index,
+    Function::Unsatisfied,
+    Function::StepIndexed,
+    Function::SolveIndexed,
     Function::Model,
     Function::Generate,
     Function::Pack,
@@ -116,6 +133,14 @@ impl Lent {
         match self {
             Lent::Words(words) | Lent::Run(words) => words,
             _ => panic!("the buffer holds no words"),
+        }
+    }
+
+    /// The buffer's numbers.
+    pub fn numbers(&self) -> &[u64] {
+        match self {
+            Lent::Numbers(numbers) => numbers,
+            _ => panic!("the buffer holds no numbers"),
         }
     }
 
@@ -249,6 +274,11 @@ impl Call {
                 Function::Fresh => forkhemit_fresh(x(0), w(0)),
                 Function::Step => forkhemit_step(x(0), x(1), x(2), x(3), w(0), l(0), w(1), l(1), w(2), l(2), w(3)),
                 Function::Solve => forkhemit_solve(x(0), x(1), x(2), x(3), w(0), l(0), w(1), l(1), w(2), l(2), x(4), n(3)),
+                Function::Index => forkhemit_index(x(0), x(1), x(2), x(3), w(0), l(0), w(1), l(1), w(2), l(2), n(3)),
+                Function::Unsatisfied => forkhemit_unsatisfied(x(0), x(1), x(2), x(3), w(0), l(0), w(1), l(1), w(2), l(2), w(3), n(4)),
+                Function::StepIndexed => forkhemit_step_indexed(x(0), x(1), x(2), x(3), w(0), l(0), w(1), l(1), w(2), l(2),
+                    n(3), w(4), n(5)),
+                Function::SolveIndexed => forkhemit_solve_indexed(x(0), x(1), x(2), x(3), w(0), l(0), w(1), l(1), w(2), l(2), x(4), n(3)),
                 Function::Model => forkhemit_model(w(0), n(1)),
                 Function::Generate => forkhemit_generate(x(0), x(1), x(2), x(3), w(0), l(0), n(1)),
                 Function::Pack => forkhemit_pack(x(0), x(1), x(2), x(3), w(0), l(0), w(1), l(1), w(2), l(2), w(3), b(4), l(4)),

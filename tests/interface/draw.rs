@@ -2,7 +2,7 @@
 
 use crate::calls::{numbers, Call, Function, Lent};
 use crate::circuits::Circuits;
-use forkhemit_tests::memory::{self, RUN_WORDS};
+use forkhemit_tests::memory::{self, INDEX_WORDS, RUN_WORDS};
 use forkhemit_tests::model::{self, Row, Size, TEXT_LIMIT};
 use forkhemit_tests::random::Random;
 use forkhemit_tests::{damage, layout, states, tables, wires};
@@ -291,14 +291,23 @@ fn answer(random: &mut Random) -> Call {
     Call { function: Function::Answer, numbers: vec![n, count, verdict, model], lent }
 }
 
+/// The index of the tables, the run, and its number.
+pub fn indexed(size: Size, tables: &[Lent], run: Vec<u32>) -> [Lent; 3] {
+    let rows = memory::accepted(size, [0, 1, 2].map(|k| tables[k].words())).expect("the tables are accepted");
+    let number = memory::run_of(&run).expect("the run is well-formed").unsatisfied(&rows);
+    [Lent::Numbers(memory::index(&rows)), Lent::Run(run), Lent::Numbers(vec![number])]
+}
+
 /// Tables, and what a call over them lends besides.
 fn over_tables(function: Function, size: Size, random: &mut Random) -> Vec<Lent> {
     let (mut lent, run) = tables_and_run(size, random);
-    if function != Function::Accept {
-        lent.push(Lent::Run(run));
-    }
-    if function == Function::Pack {
-        lent.push(bytes_for(memory::input_wires(size), random));
+    match function {
+        Function::Accept => (),
+        Function::Index => lent.push(numbers_for(INDEX_WORDS, random)),
+        Function::Unsatisfied => lent.extend([Lent::Run(run), numbers_for(1, random)]),
+        Function::StepIndexed => lent.extend(indexed(size, &lent, run)),
+        Function::Pack => lent.extend([Lent::Run(run), bytes_for(memory::input_wires(size), random)]),
+        _ => lent.push(Lent::Run(run)),
     }
     lent
 }
@@ -332,9 +341,14 @@ pub fn of_size(function: Function, size: Size, circuits: &Circuits, random: &mut
     match function {
         Function::Sizes => call(numbers(size), vec![numbers_for(4, random)]),
         Function::ReadTables => call(vec![], texts(random)),
-        Function::Accept | Function::Step | Function::Pack => call(numbers(size), over_tables(function, size, random)),
+        Function::Accept
+        | Function::Step
+        | Function::Index
+        | Function::Unsatisfied
+        | Function::StepIndexed
+        | Function::Pack => call(numbers(size), over_tables(function, size, random)),
         Function::Fresh => call(vec![size.n as u64], vec![room_for_run(random)]),
-        Function::Solve => {
+        Function::Solve | Function::SolveIndexed => {
             let (budget, lent) = solving(size, random);
             call([numbers(size), vec![budget]].concat(), lent)
         }
@@ -401,6 +415,12 @@ fn strike_element(lent: &mut Lent, random: &mut Random) {
             let near = [words[at] ^ 1 << random.below(32), words[at].wrapping_add(1), words[at].wrapping_sub(1)];
             words[at] = one(&[near[0], near[0], near[1], near[2], 0, 3, 1 << 31, u32::MAX], random);
         }
+        Lent::Numbers(numbers) => {
+            let at = random.below(numbers.len());
+            let number = numbers[at];
+            let near = [number ^ 1 << random.below(64), number.wrapping_add(1), number.wrapping_sub(1)];
+            numbers[at] = one(&[near[0], near[1], near[2], one(&ODD, random)], random);
+        }
         _ => (),
     }
 }
@@ -412,7 +432,7 @@ fn strike(call: &mut Call, random: &mut Random) {
         let k = random.below(call.numbers.len());
         let number = call.numbers[k];
         // a number of steps stays one in which the model comes to an end
-        if !matches!(call.function, Function::Solve | Function::Repeat) || k < 4 {
+        if !matches!(call.function, Function::Solve | Function::SolveIndexed | Function::Repeat) || k < 4 {
             call.numbers[k] = one(&[number.wrapping_sub(1), number.wrapping_add(1), one(&ODD, random)], random);
         }
         return;

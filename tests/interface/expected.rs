@@ -51,6 +51,11 @@ impl Call {
         self.lent[k].words()
     }
 
+    /// The numbers of buffer k.
+    fn lent_numbers(&self, k: usize) -> &[u64] {
+        self.lent[k].numbers()
+    }
+
     /// The first four numbers as a size, or 1 or 2.
     fn size(&self) -> Result<Size, u8> {
         Size::new([0, 1, 2, 3].map(|k| self.numbers[k]))
@@ -69,7 +74,10 @@ impl Call {
             Function::Accept => self.size().and_then(|size| memory::accepted(size, self.tables())).map(|_| vec![]),
             Function::Fresh => self.fresh(),
             Function::Step => self.step(),
-            Function::Solve => self.solve(),
+            Function::Solve | Function::SolveIndexed => self.solve(),
+            Function::Index => self.index(),
+            Function::Unsatisfied => self.unsatisfied(),
+            Function::StepIndexed => self.step_indexed(),
             Function::Model => self.model(),
             Function::Generate => match self.size().and_then(|size| self.room_for_gates(size, 0)) {
                 Ok(size) => {
@@ -148,6 +156,36 @@ impl Call {
         };
         let model = answer.model.iter().enumerate().fold(0, |word, (v, &value)| word | u64::from(value) << v);
         Ok(vec![(3, Lent::Numbers(vec![answer.steps, verdict, model]))])
+    }
+
+    /// For each literal the rows that hold it.
+    fn index(&self) -> Result<Writes, u8> {
+        let rows = memory::accepted(self.size()?, self.tables())?;
+        Ok(vec![(3, Lent::Numbers(memory::index(&rows)))])
+    }
+
+    /// How many rows are not satisfied under the run.
+    fn unsatisfied(&self) -> Result<Writes, u8> {
+        let size = self.size()?;
+        let rows = memory::accepted(size, self.tables())?;
+        let run = memory::run_for(size.n, self.words(3))?;
+        Ok(vec![(4, Lent::Numbers(vec![run.unsatisfied(&rows)]))])
+    }
+
+    /// The run after one giant step, and its number: 12 where run, index or number is not right, then 13.
+    fn step_indexed(&self) -> Result<Writes, u8> {
+        let size = self.size()?;
+        let rows = memory::accepted(size, self.tables())?;
+        let mut run = memory::run_of(self.words(4))?;
+        if self.lent_numbers(3) != memory::index(&rows) || self.lent_numbers(5) != [run.unsatisfied(&rows)] {
+            return Err(12);
+        }
+        if run.values.len() != size.n {
+            return Err(13);
+        }
+        run.step(&rows);
+        let number = run.unsatisfied(&rows);
+        Ok(vec![(4, Lent::Run(memory::run_words(&run))), (5, Lent::Numbers(vec![number]))])
     }
 
     /// The model as a word; 12, 14.

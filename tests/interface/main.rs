@@ -1,6 +1,6 @@
 //! Tests of the library as hosts call it. Use: interface CALLS [exact]
-//! Every refusal as it was written by hand, alone and two at once, then calls at the limits of size, then random calls over all functions:
-//! each result and every lent buffer is held to the model. With `exact` each buffer has an allocation of its own of exactly its length, for a memory checker;
+//! Every refusal as it was written by hand, alone and two at once, then calls at the limits of size, then runs with index and number beside
+//! the plain ones, then random calls over all functions: each result and every lent buffer is held to the model. With `exact` each buffer has an allocation of its own of exactly its length, for a memory checker;
 //! else it stands between guards. The last line is `N passed, M failed`, and the status 0 where M is 0.
 
 mod calls;
@@ -8,6 +8,7 @@ mod circuits;
 mod draw;
 mod expected;
 mod extremes;
+mod indexed;
 mod refusals;
 
 use calls::{Call, Given, ALL};
@@ -121,6 +122,10 @@ fn main() -> ExitCode {
     let circuits = Circuits::new();
     let mut total = refused(&circuits, guard);
     total.add(largest(&circuits, guard));
+    total.add(indexed::runs(guard));
+    total.add(indexed::handed_over(guard));
+    total.add(indexed::damaged(&circuits, guard));
+    total.add(indexed::solved(guard));
     total.add(drawn(count, &circuits, guard));
     total.add(circuits.close());
     println!("{} passed, {} failed", total.passed, total.failed);

@@ -2,7 +2,7 @@
 
 use crate::calls::{numbers, Call, Function, Lent};
 use crate::circuits::Circuits;
-use forkhemit_tests::memory::{self, RUN_WORDS};
+use forkhemit_tests::memory::{self, INDEX_WORDS, RUN_WORDS};
 use forkhemit_tests::model::{Size, TEXT_LIMIT};
 use std::rc::Rc;
 
@@ -43,6 +43,15 @@ fn run() -> Vec<u32> {
     words
 }
 
+/// The index of the tables: variable 1 is in row 0, variable 2 in rows 0 and 2, the negation of variable 1 in rows 1 and 2.
+fn index() -> Vec<u64> {
+    let mut words = vec![0; INDEX_WORDS];
+    words[0] = 0b001;
+    words[6] = 0b101;
+    words[192] = 0b110;
+    words
+}
+
 /// A call of the function that is taken.
 fn base(function: Function, circuits: &Circuits) -> Result<Call, String> {
     let d = numbers(SIZE);
@@ -68,7 +77,13 @@ fn base(function: Function, circuits: &Circuits) -> Result<Call, String> {
         Function::Accept => (d, tables()),
         Function::Fresh => (vec![2], vec![Lent::Run(vec![7; RUN_WORDS])]),
         Function::Step => (d, [tables(), vec![Lent::Run(run())]].concat()),
-        Function::Solve => (and(9), [tables(), vec![numbers(3)]].concat()),
+        Function::Solve | Function::SolveIndexed => (and(9), [tables(), vec![numbers(3)]].concat()),
+        Function::Index => (d, [tables(), vec![numbers(INDEX_WORDS)]].concat()),
+        Function::Unsatisfied => (d, [tables(), vec![Lent::Run(run()), numbers(1)]].concat()),
+        // rows 1 and 2 are not satisfied
+        Function::StepIndexed => {
+            (d, [tables(), vec![Lent::Numbers(index()), Lent::Run(run()), Lent::Numbers(vec![2])]].concat())
+        }
         Function::Model => (vec![], vec![Lent::Run(satisfied), numbers(1)]),
         Function::Generate => (d, vec![words(3 * SIZE.ceiling()), numbers(1)]),
         Function::Pack => (d, [tables(), vec![Lent::Run(run()), bytes(inputs)]].concat()),
@@ -123,6 +138,14 @@ fn word(k: usize, at: usize, to: u32) -> Change {
     Change::new(Place::Lent(k), move |call| match &mut call.lent[k] {
         Lent::Words(words) | Lent::Run(words) => words[at] = to,
         _ => panic!("the buffer holds no words"),
+    })
+}
+
+/// Another number in buffer k.
+fn entry(k: usize, at: usize, to: u64) -> Change {
+    Change::new(Place::Lent(k), move |call| match &mut call.lent[k] {
+        Lent::Numbers(numbers) => numbers[at] = to,
+        _ => panic!("the buffer holds no numbers"),
     })
 }
 
@@ -283,6 +306,48 @@ fn step(list: &mut Changes) {
     run_at(3, list);
 }
 
+/// 12 by the index and by the number, and a run's 12 and 13.
+fn step_indexed(list: &mut Changes) {
+    for (what, at, to) in [
+        ("without a row of variable 1", 0, 0),
+        ("with a row more of variable 1", 0, 0b011),
+        ("without the public row of variable 2", 6, 0b001),
+        ("without the public row of variable 1's negation", 192, 0b010),
+        ("with a row past the last", 6, 0b1101),
+        ("with a row in the second word", 1, 1),
+        ("with a row in a sixth word", 11, 1 << 63),
+        ("with a row of variable 3", 12, 1),
+        ("with a row of variable 32", 191, 1 << 63),
+        ("with a row of variable 2's negation", 198, 0b001),
+        ("with a last word", 383, 1 << 63),
+    ] {
+        add(list, &format!("an index {what}"), 12, entry(3, at, to));
+    }
+    add(list, "an index with two variables exchanged", 12, both(entry(3, 0, 0b101), entry(3, 6, 0b001)));
+    for number in [0, 1, 3, 4, 258, (1 << 32) + 2, u64::MAX] {
+        add(list, &format!("the number {number}"), 12, entry(5, 0, number));
+    }
+    // the index and the number are then another table's or another run's
+    add(list, "another left row", 12, word(0, 0, 0b01));
+    add(list, "padding as the public row", 12, word(2, 0, 0b11));
+    add(list, "no public rows, and an index with one", 12, both(no_public_rows(), entry(5, 0, 1)));
+    add(list, "no public rows, and the number with one", 12, both(no_public_rows(), without_public_row()));
+    add(list, "a run with variable 2 true", 12, word(4, 2, 0b11));
+    add(list, "a closed run and another number", 12, both(word(4, 1, 2), entry(5, 0, 1)));
+    add(list, "a run of n 3 and another number", 12, both(word(4, 0, 3), entry(5, 0, 1)));
+    run_at(4, list);
+}
+
+/// A public row count of 0, after which the public words are not looked at.
+fn no_public_rows() -> Change {
+    Change { places: vec![Place::Number(3), Place::Lent(2)], ..number(3, 0) }
+}
+
+/// The index as it is without public rows.
+fn without_public_row() -> Change {
+    both(entry(3, 6, 0b001), entry(3, 192, 0b010))
+}
+
 /// 14, and a run's 12.
 fn model_wanted(list: &mut Changes) {
     add(list, "an open run", 14, word(0, 1, 0));
@@ -360,9 +425,10 @@ fn changes(function: Function) -> Changes {
     let groups: &[fn(&mut Changes)] = match function {
         Function::Sizes => &[sizes],
         Function::ReadTables => &[read_tables],
-        Function::Accept | Function::Solve => &[sizes, tables],
+        Function::Accept | Function::Solve | Function::Index | Function::SolveIndexed => &[sizes, tables],
         Function::Fresh | Function::Answer => &[variables],
-        Function::Step => &[sizes, tables, step],
+        Function::Step | Function::Unsatisfied => &[sizes, tables, step],
+        Function::StepIndexed => &[sizes, tables, step_indexed],
         Function::Model => &[model_wanted],
         Function::Generate => &[sizes, generate],
         Function::Pack => &[sizes, tables, pack],
@@ -383,11 +449,28 @@ fn harmless(function: Function) -> Vec<(String, Change)> {
     let other = |k: usize| text(k, OTHER_N.to_vec());
     let list = match function {
         Function::Sizes | Function::Generate => vec![("no public rows", number(3, 0))],
-        Function::Accept | Function::Step | Function::Solve | Function::Pack | Function::Repeat => vec![
+        Function::Accept
+        | Function::Step
+        | Function::Solve
+        | Function::Index
+        | Function::Unsatisfied
+        | Function::SolveIndexed
+        | Function::Pack
+        | Function::Repeat => vec![
             ("no public rows, and words of some", number(3, 0)),
             ("no public rows, and words that would be refused", both(number(3, 0), word(2, 1, u32::MAX))),
             ("no public rows and no words", both(number(3, 0), cut(2, 0))),
         ],
+        Function::StepIndexed => {
+            let none = || both(no_public_rows(), both(without_public_row(), entry(5, 0, 1)));
+            vec![
+                ("no public rows, and words of some", none()),
+                ("no public rows, and words that would be refused", both(none(), word(2, 1, u32::MAX))),
+                ("no public rows and no words", both(none(), cut(2, 0))),
+                ("a satisfied run", word(4, 1, 1)),
+                ("a refuted run", word(4, 1, 2)),
+            ]
+        }
         Function::ReadTables => vec![
             ("no public rows", none()),
             ("no public rows and no words", both(none(), cut(5, 0))),

@@ -7,6 +7,7 @@ use crate::model::{self, Row, Run, Size, Standing, Value};
 use crate::wires;
 
 pub const RUN_WORDS: usize = 101;
+pub const INDEX_WORDS: usize = 384;
 const LEVELS: usize = 32;
 
 /// A number of variables within the limits, or 1.
@@ -47,6 +48,15 @@ pub fn accepted(size: Size, tables: [&[u32]; 3]) -> Result<Vec<Row>, u8> {
         return Err(3);
     }
     Ok(words.chunks(2).map(|pair| row(pair[0], pair[1])).collect())
+}
+
+/// For each literal the set of rows that hold it, six words each: variables 1 to 32, then their negations. Row r from 0 is bit
+/// r mod 64 of word r / 64.
+pub fn index(rows: &[Row]) -> Vec<u64> {
+    let literals = (1..=32).chain((1..=32).map(|variable: i64| -variable));
+    let bit = |literal: i64, row: usize| rows.get(row).map_or(false, |row| row.contains(&literal));
+    let word = |literal: i64, w: usize| (0..64).filter(|b| bit(literal, 64 * w + b)).fold(0, |word, b| word | 1 << b);
+    literals.flat_map(|literal| (0..INDEX_WORDS / 64).map(move |w| word(literal, w))).collect()
 }
 
 // ---- Runs

@@ -224,7 +224,12 @@ impl Run {
 
     /// Whether the row is satisfied; padding always is.
     fn satisfied(&self, row: &[i64]) -> bool {
-        row.iter().any(|&l| row.contains(&-l) || self.values[variable(l)] == Some(l > 0))
+        row.iter().any(|&l| row.contains(&-l) || self.values.get(variable(l)) == Some(&Some(l > 0)))
+    }
+
+    /// How many rows are not satisfied, whatever the standing; a variable that the run does not have is free.
+    pub fn unsatisfied(&self, rows: &[Row]) -> u64 {
+        rows.iter().filter(|row| !self.satisfied(row)).count() as u64
     }
 
     /// Whether each level's values lie within the next ones, the variable chosen there being free and then true.

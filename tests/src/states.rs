@@ -22,8 +22,13 @@ fn state(standing: Standing, chosen: &[usize], others: &[Option<(usize, bool)>])
 
 /// A state of n variables: any depth, one in four closed.
 pub fn random(n: usize, random: &mut Random) -> Run {
-    let mut variables: Vec<usize> = (0..n).collect();
     let depth = random.between(0, n);
+    at_depth(n, depth, random)
+}
+
+/// The same at a depth.
+pub fn at_depth(n: usize, depth: usize, random: &mut Random) -> Run {
+    let mut variables: Vec<usize> = (0..n).collect();
     let chosen: Vec<usize> = (0..depth).map(|_| variables.swap_remove(random.below(variables.len()))).collect();
     let scarce = random.between(1, 4);
     let other = |_| (!random.once_in(scarce)).then(|| (random.between(0, depth), random.once_in(2)));
