@@ -8,7 +8,7 @@ trap 'rm -rf "$room"' EXIT
 cp -r crates crates.txt "$room"
 cd "$room" || exit
 TIMEFORMAT='%1R %1U'
-for name in $(sed -n 's/^\([a-z_]*\):.*/\1/p' crates.txt); do
+for name in $(sed -n 's/^\([a-z0-9_]*\):.*/\1/p' crates.txt); do
     if ! { time rt check "$name" >log 2>&1; } 2>spent; then
         cat log
         exit 1

@@ -1,5 +1,5 @@
--- Demand 3 of three texts that were read: their tables are accepted, so it holds of them, and a host that repeats the circuit over them to the end sees the very
--- bytes that the pair program prints for the texts and a budget. From what the reply's proofs say of texts that were read, and from what follows from the demand.
+-- Demands 2 and 3 of three texts that were read: their tables are accepted, so they hold of them, and a host that repeats the circuit over them to the end sees the
+-- very bytes that the pair program prints for the texts and a budget. From what the reply's proofs say of texts that were read, and from what follows from the demand.
 -- Assumes nothing.
 use mathlib.Core.Path.{_≡_, refl, sym, ap, _∙_}
 use mathlib.Core.List.{List}
@@ -11,15 +11,18 @@ use Rattle.tables.specs.Tables.{Tables}
 use Rattle.dimacs.specs.declared.TextTables.{TextTables}
 use Rattle.dimacs.specs.ThreeTexts.{textTables}
 use Rattle.dimacs.proofs.Accepted.{accepted-texts}
+use Rattle.solver.specs.Entries.{answerOf}
 use Rattle.lines.specs.Numbers.{budgetOf}
 use Rattle.lines.specs.declared.Budget.the-variants as budget
 use Rattle.answers.specs.Printed.{answerText, solvedText}
 use Rattle.reply.specs.Reply.{dimensionsOf, tablesIn, replyText}
-use Rattle.reply.proofs.Accepted.{n-high, tables-taken, reply-answers}
+use Rattle.reply.proofs.Accepted.{n-high, tables-taken, rowsRead, reply-answers}
+use Rattle.demand2.specs.Demand2.{Demand2}
+use Rattle.demand2.proofs.Demand2.{demand2}
 use Rattle.repeats.specs.Repeats.{Attempt, longOnes}
-use Rattle.repeats.specs.Demand3.{historyOf, answerFor, Follows, seen, AllAccepts}
-use Rattle.repeats.proofs.Demand3.{demand3}
-use Rattle.repeats.proofs.Consequences.{answer-is}
+use Rattle.demand3.specs.Demand3.{historyOf, answerFor, Follows, seen, AllAccepts}
+use Rattle.demand3.proofs.Demand3.{demand3}
+use Rattle.demand3.proofs.Consequences.{answer-is}
 
 module _ (left right public : List ℕ) (taken : textTables left right public .outcome ≡ Taken) where
   abbrev pub read : TextTables
@@ -34,6 +37,10 @@ module _ (left right public : List ℕ) (taken : textTables left right public .o
 
   pub read-accepted : AllAccepts sizes tables
   read-accepted i = tables-taken read (accepted-texts left right public taken)
+
+  -- the budgeted run over the rows that were read
+  pub reply-demand2 : (steps : ℕ) → Demand2 (read .n) (rowsRead left right public) steps (answerOf (read .n) (rowsRead left right public) steps)
+  reply-demand2 steps = demand2 sizes (tablesIn read) steps (read-accepted 0)
 
   -- after every repeat, the plain run over the rows that were read
   pub reply-history : (budget : ℕ) (attempts : List Attempt) → Follows sizes tables budget (historyOf sizes tables budget attempts)

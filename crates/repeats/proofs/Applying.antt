@@ -43,8 +43,7 @@ use Rattle.netlist.specs.Netlist.{gatesOn}
 use Rattle.netlist.specs.Outputs.{closed, outputBits, outputsIn}
 use Rattle.netlist.proofs.EveryState.{gates-accepted, outputs-filled}
 use Rattle.repeats.specs.Application.{Applied, turnedBack, nextRun, judged, wiresAfter, applied}
-use Rattle.repeats.specs.Repeats.{Attempt, Lent, Otherwise, Repeat, circuitWords, attempted, comesOf, longEnough}
-use Rattle.repeats.specs.Demand3.{returned, Accepts}
+use Rattle.repeats.specs.Repeats.{Accepts, Attempt, Lent, Otherwise, Repeat, returned, circuitWords, attempted, comesOf, longEnough}
 use Rattle.repeats.proofs.Judging.{refused, refuse-packing, refuse-wires, take-all, wires-then}
 
 -- ---- the circuit in memory

@@ -28,8 +28,7 @@ use Rattle.wires.proofs.Checks.{pack-taken}
 use Rattle.netlist.specs.Netlist.{gatesOn}
 use Rattle.netlist.specs.Outputs.{closed}
 use Rattle.repeats.specs.Application.{wiresAfter, applied}
-use Rattle.repeats.specs.Repeats.{circuitWords}
-use Rattle.repeats.specs.Demand3.{Accepts}
+use Rattle.repeats.specs.Repeats.{Accepts, circuitWords}
 use Rattle.repeats.proofs.Applying.{packs, formed, wires-are, next-is, fine}
 
 -- one length, and the same from place k on

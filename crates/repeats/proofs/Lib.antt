@@ -1,10 +1,5 @@
 pub mod Judging
 pub mod Applying
-pub mod Histories
-pub mod Demand3
-pub mod Consequences
-pub mod Examples
 pub mod RepeatChecks
 pub mod Buffers
 pub mod Repeating
-pub mod Answering

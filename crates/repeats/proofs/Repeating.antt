@@ -26,9 +26,8 @@ use Rattle.netlist.specs.Netlist.{gatesOn}
 use Rattle.netlist.specs.Outputs.{closed}
 use Rattle.repeats.specs.declared.Repeated.{Repeated}
 use Rattle.repeats.specs.Application.{Applied, wiresAfter, applied}
-use Rattle.repeats.specs.Repeats.{Repeat, circuitWords, lastRun, comesOf, repeats}
+use Rattle.repeats.specs.Repeats.{Repeat, returned, circuitWords, lastRun, comesOf, repeats}
 use Rattle.repeats.specs.Repeating.{whole, made, runBefore, bytesLeft, wiresLeft, repeatedBy}
-use Rattle.repeats.specs.Demand3.{returned}
 use Rattle.repeats.proofs.Buffers.{Agree, agree-refl, Ready, packed-agrees, filled-agrees, next, applied-is, next-fine, ready-same, packed-same, filled-same}
 
 -- ---- one repeat more behind others

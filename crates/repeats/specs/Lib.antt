@@ -1,4 +1,3 @@
 pub mod Application
 pub mod Repeats
 pub mod Repeating
-pub mod Demand3

@@ -1,23 +1,32 @@
 -- The repeats of a circuit over three tables: document 01, "Circuit", second paragraph; each reads the rows as they stand when it begins (document 02, Req 06).
 use Prim.Native.Nat.{ℕ, zero, suc, _+_}
+use mathlib.Core.Path.{_≡_}
 use mathlib.Core.Bool.{Bool, false, _||_, _&&_, cond}
 use mathlib.Core.List.{List, [], _∷_, map}
 use lib.Dec.{eqb, leb}
 use lib.ListN.{length, getD}
-use Rattle.refusals.specs.Checks.{given}
+use Rattle.refusals.specs.Checks.{outcome, given}
+use Rattle.refusals.specs.declared.Outcome.the-variants.{Taken}
 use Rattle.refusals.specs.declared.Refusal.{Refusal}
 use Rattle.words.specs.Sets.{any}
 use Rattle.dimensions.specs.declared.Dimensions.{Dimensions}
 use Rattle.dimensions.specs.Sizes.{stateWires, inputWires}
 use Rattle.tables.specs.Tables.{Tables}
+use Rattle.tables.specs.Acceptance.{tableChecks}
 use Rattle.state.specs.declared.Run.{Run}
+use Rattle.state.specs.State.{State, runOf}
 use Rattle.gates.specs.Memory.{wordsOf}
 use Rattle.netlist.specs.Netlist.{gatesOn}
+use Rattle.netlist.specs.Outputs.{closed}
 use Rattle.repeats.specs.Application.{Applied, turnedBack, applied}
 
 -- the generated circuit in memory: it is made from n and the row counts alone
 unfoldable pub circuitWords : Dimensions → List ℕ
 circuitWords d = wordsOf (gatesOn d)
+
+-- tables of these dimensions that none of 1 to 4 turns back
+abbrev pub Accepts : Dimensions → Tables → Type 0
+Accepts d tables = outcome (tableChecks d tables) ≡ Taken
 
 -- an attempt to apply the circuit: with the buffers that the host lends and so many of the output wires handed to the read-back, or turned back for any other cause
 pub data Attempt : Type 0 where
@@ -33,6 +42,10 @@ attempted d tables run (Otherwise refusal) = turnedBack run refusal
 pub record Repeat : Type 0 where
   pub run : Run
   pub mark : Bool
+
+-- a state as a repeat returns it: its run, and as the mark whether it is closed
+abbrev pub returned : ℕ → State → Repeat
+returned n s = record { run = runOf n s; mark = closed s }
 
 -- the marks in order
 abbrev pub marks : List Repeat → List Bool

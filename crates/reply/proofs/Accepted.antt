@@ -25,8 +25,6 @@ use Rattle.solver.specs.declared.Solved.{Solved}
 use Rattle.solver.specs.declared.Solved.the-variants as solved′
 use Rattle.solver.specs.Step.{always}
 use Rattle.solver.specs.Entries.{answerOf, solved}
-use Rattle.solver.specs.Demand2.{Demand2}
-use Rattle.solver.proofs.Demand2.{demand2}
 use Rattle.lines.specs.Numbers.{budgetOf}
 use Rattle.answers.specs.Printed.{solvedText}
 use Rattle.lines.specs.declared.Budget.the-variants as budget
@@ -95,10 +93,6 @@ module _ (left right public : List ℕ) where
       ∙ ap (answered texts) e
       ∙ ap (λ (o : Outcome). given o (solved′.Of (answerOf (texts .n) rowsRead steps)) solved′.Refused)
       (tables-taken texts (accepted-texts left right public taken))
-
-  -- and demand 2 holds of it
-  pub reply-demand2 : (steps : ℕ) → texts .outcome ≡ Taken → Demand2 (texts .n) rowsRead steps (answerOf (texts .n) rowsRead steps)
-  reply-demand2 steps taken = demand2 (dimensionsOf texts) (tablesIn texts) steps (tables-taken texts (accepted-texts left right public taken))
 
   -- ---- the text
 

@@ -5,15 +5,6 @@ pub mod AcceptedRule
 pub mod SettingLaws
 pub mod StepLaws
 pub mod RunLaws
-pub mod TruthLaws
-pub mod Satisfaction
-pub mod Refutation
-pub mod Growth
-pub mod Bound
-pub mod Demand2
-pub mod Consequences
-pub mod Marked
-pub mod MarkedColumns
 pub mod HeldRules
 pub mod HeldStep
 pub mod BudgetedRun

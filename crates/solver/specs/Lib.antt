@@ -2,4 +2,3 @@ pub mod Step
 pub mod Late
 pub mod Entries
 pub mod Truth
-pub mod Demand2

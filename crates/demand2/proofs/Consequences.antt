@@ -22,12 +22,12 @@ use Rattle.verdicts.specs.declared.Verdict.{Verdict}
 use Rattle.verdicts.specs.declared.Verdict.the-variants.{Satisfiable, Unsatisfiable, Unknown}
 use Rattle.scan.specs.Rules.{allRows}
 use Rattle.scan.proofs.RowLaws.{In, not-all-rows}
 use Rattle.solver.specs.declared.Answer.{Answer}
 use Rattle.solver.specs.Step.{always, after}
 use Rattle.solver.specs.Truth.{rowTrue, allTrue, occurring}
 use Rattle.solver.specs.Entries.{answerOf}
-use Rattle.solver.specs.Demand2.{atEnd, Demand2}
-use Rattle.solver.proofs.Demand2.{demand2}
+use Rattle.demand2.specs.Demand2.{atEnd, Demand2}
+use Rattle.demand2.proofs.Demand2.{demand2}
 
 -- ---- any answer of which demand 2 holds
 

@@ -5,8 +5,8 @@ use Prim.Native.Nat.{ℕ}
 use mathlib.Core.List.{List, [], _∷_, map}
 use Rattle.verdicts.specs.declared.Verdict.{Verdict}
 use Rattle.verdicts.specs.declared.Verdict.the-variants.{Satisfiable, Unsatisfiable, Unknown}
 use Rattle.solver.specs.declared.Answer.{Answer}
-use Rattle.solver.proofs.Marked.{Marked, table, asked, ten-marked}
+use Rattle.demand2.proofs.Marked.{Marked, table, asked, ten-marked}
 
 -- the budgeted run's answers, line by line
 abbrev answers : List Answer

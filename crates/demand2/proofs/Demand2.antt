@@ -23,19 +23,19 @@ use Rattle.state.specs.declared.Standing.the-variants.{Open, Satisfied, Refuted
 use Rattle.verdicts.specs.declared.Verdict.the-variants.{Satisfiable, Unsatisfiable, Unknown}
 use Rattle.scan.specs.Rules.{allRows}
 use Rattle.state.specs.State.{State, fresh}
 use Rattle.solver.specs.Step.{always, step, after}
 use Rattle.solver.specs.Late.{Late, rowsAt}
 use Rattle.solver.specs.Truth.{allTrue, occurring}
 use Rattle.verdicts.specs.Verdicts.{verdictOf}
 use Rattle.solver.specs.Entries.{Ran, runFrom, answerOf}
-use Rattle.solver.specs.Demand2.{Demand2}
+use Rattle.demand2.specs.Demand2.{Demand2}
 use Rattle.solver.proofs.RunLaws.{RunOf, run-of}
 use Rattle.solver.proofs.LowRows.{lowRow, accepted-low}
-use Rattle.solver.proofs.Satisfaction.{satisfied-model}
-use Rattle.solver.proofs.Refutation.{refuted-none}
+use Rattle.demand2.proofs.Satisfaction.{satisfied-model}
+use Rattle.demand2.proofs.Refutation.{refuted-none}
 use Rattle.solver.proofs.StepLaws.{after-last, after-formed, fresh-formed}
-use Rattle.solver.proofs.Growth.{Grows, grows-same, rows-low, rows-grow}
-use Rattle.solver.proofs.Bound.{after-closes, occurring-le}
+use Rattle.demand2.proofs.Growth.{Grows, grows-same, rows-low, rows-grow}
+use Rattle.demand2.proofs.Bound.{after-closes, occurring-le}
 
 -- ---- the standing that a verdict comes from
 

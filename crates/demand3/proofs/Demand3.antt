@@ -40,10 +40,10 @@ use Rattle.netlist.proofs.EveryState.{gates-carry-out}
 use Rattle.answers.specs.Printed.{answerText}
 use Rattle.bristol.specs.Writing.{circuitChecks}
 use Rattle.bristol.proofs.Joining.{requests-join, requests-end}
 use Rattle.repeats.specs.Repeats.{Attempt, Repeat, circuitWords, marks, lastRun, ended, longOnes}
-use Rattle.repeats.specs.Demand3.{rowsIn, AllAccepts, SamePublic, historyOf, Follows, answerFor, answerIn, textOf, publicIn, Seen, seen, Demand3}
+use Rattle.demand3.specs.Demand3.{rowsIn, AllAccepts, SamePublic, historyOf, Follows, answerFor, answerIn, textOf, publicIn, Seen, seen, Demand3}
 use Rattle.repeats.proofs.Applying.{words-third, words-accepted}
-use Rattle.repeats.proofs.Histories.{closed-open, open-closed, repeated, repeated-length, repeated-at, repeated-marks, repeated-last, number, repeats-are}
+use Rattle.demand3.proofs.Histories.{closed-open, open-closed, repeated, repeated-length, repeated-at, repeated-marks, repeated-last, number, repeats-are}
 
 -- ---- marks
 

@@ -23,13 +23,13 @@ use Rattle.state.specs.declared.Standing.{Standing}
 use Rattle.state.specs.declared.Standing.the-variants.{Open, Satisfied, Refuted}
 use Rattle.scan.specs.Rules.{unsatisfiedWith, allRows, rule}
 use Rattle.state.specs.State.{State, fresh, ifOpen}
 use Rattle.solver.specs.Step.{back, assign, follow, step, after}
 use Rattle.solver.specs.Truth.{allTrue}
 use Rattle.scan.proofs.RowLaws.{In}
 use Rattle.solver.proofs.RuleLaws.{Ruled, ruled, Forces, with-unsatisfied, with-count}
 use Rattle.solver.proofs.StepLaws.{after-keeps}
 use Rattle.solver.proofs.LowRows.{lowRow}
-use Rattle.solver.proofs.TruthLaws.{literal, all-true-e}
+use Rattle.demand2.proofs.TruthLaws.{literal, all-true-e}
 
 -- ---- one variable: p, q say whether it stands positive, negative; t, f whether it is in T, in F; a is its value
 

@@ -20,9 +20,9 @@ use Rattle.state.specs.WellFormed.{wellFormedState}
 use Rattle.solver.proofs.StepLaws.{step-well-formed}
 use Rattle.wires.specs.Layout.{upto}
 use Rattle.netlist.specs.Outputs.{closed}
-use Rattle.repeats.specs.Repeats.{Attempt, Repeat, marks, lastRun, laterTables, repeats, longEnough, longOnes}
-use Rattle.repeats.specs.Demand3.{rowsIn, returned, AllAccepts}
+use Rattle.repeats.specs.Repeats.{Attempt, Repeat, returned, marks, lastRun, laterTables, repeats, longEnough, longOnes}
+use Rattle.demand3.specs.Demand3.{rowsIn, AllAccepts}
 use Rattle.repeats.proofs.Applying.{comes, attempt-is}
 
 -- ---- closed states and the budgeted run
 

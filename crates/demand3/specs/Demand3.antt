@@ -11,20 +11,19 @@ use Rattle.dimensions.specs.Sizes.{sizeChecks}
 use Rattle.tables.specs.declared.Row.{Row}
 use Rattle.tables.specs.Tables.{Tables}
 use Rattle.tables.specs.Rows.{publicRows, rowsOf}
-use Rattle.tables.specs.Acceptance.{tableChecks}
 use Rattle.solver.specs.declared.Answer.{Answer}
-use Rattle.state.specs.State.{State, fresh, runOf}
+use Rattle.state.specs.State.{fresh, runOf}
 use Rattle.solver.specs.Step.{after}
 use Rattle.verdicts.specs.Verdicts.{verdictOf}
 use Rattle.solver.specs.Entries.{answerOf}
 use Rattle.gates.specs.Memory.{gatesOf}
 use Rattle.netlist.specs.Netlist.{gatesOn}
-use Rattle.netlist.specs.Outputs.{closed, CarriesOut}
+use Rattle.netlist.specs.Outputs.{CarriesOut}
 use Rattle.answers.specs.Printed.{answerText}
 use Rattle.bristol.specs.Text.{circuitText}
 use Rattle.bristol.specs.declared.Written.the-variants.{Past}
 use Rattle.bristol.specs.Writing.{lineAt, written, requested}
-use Rattle.repeats.specs.Repeats.{Attempt, Repeat, circuitWords, marks, lastRun, repeats, ended, longOnes}
+use Rattle.repeats.specs.Repeats.{Accepts, Attempt, Repeat, returned, circuitWords, marks, lastRun, repeats, ended, longOnes}
 
 -- ---- history
 
@@ -35,10 +34,6 @@ rowsIn d tables = λ i. rowsOf d (tables i)
 -- the attempts from the fresh run on
 abbrev pub historyOf : Dimensions → (ℕ → Tables) → ℕ → List Attempt → List Repeat
 historyOf d tables budget attempts = repeats d tables budget (runOf (d .n) fresh) attempts
-
--- a state as a repeat returns it: its run, and as the mark whether it is closed
-abbrev pub returned : ℕ → State → Repeat
-returned n s = record { run = runOf n s; mark = closed s }
 
 -- repeat i, of at most the budget, returned the state after i + 1 giant steps
 pub record Follows (d : Dimensions) (tables : ℕ → Tables) (budget : ℕ) (h : List Repeat) : Type 0 where
@@ -76,11 +71,7 @@ seen d tables budget attempts =
 
 -- ---- the demand
 
--- tables of these dimensions that none of 1 to 4 turns back
-abbrev pub Accepts : Dimensions → Tables → Type 0
-Accepts d tables = outcome (tableChecks d tables) ≡ Taken
-
--- at every step
+-- tables of these dimensions that none of 1 to 4 turns back, at every step
 abbrev pub AllAccepts : Dimensions → (ℕ → Tables) → Type 0
 AllAccepts d tables = (i : ℕ) → Accepts d (tables i)
 

@@ -34,8 +34,8 @@ use Rattle.netlist.specs.Netlist.{gatesOn}
 use Rattle.netlist.specs.Outputs.{closed, outputBits, outputsIn}
 use Rattle.bristol.specs.declared.Written.the-variants.{Past}
 use Rattle.bristol.specs.Writing.{lineAt, written, requested}
 use Rattle.repeats.specs.Repeats.{Attempt, Lent, Repeat, circuitWords, marks, lastRun, ended, longEnough, longOnes}
-use Rattle.repeats.specs.Demand3.{rowsIn, historyOf, answerFor, answerIn, textOf, publicIn, Seen, seen, AllAccepts, SamePublic, Demand3}
+use Rattle.demand3.specs.Demand3.{rowsIn, historyOf, answerFor, answerIn, textOf, publicIn, Seen, seen, AllAccepts, SamePublic, Demand3}
 
 -- ---- steps, runs and attempts
 

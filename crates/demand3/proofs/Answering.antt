@@ -25,13 +25,13 @@ use Rattle.solver.specs.Step.{always}
 use Rattle.solver.specs.Entries.{answerOf}
 use Rattle.solver.proofs.RunLaws.{run-of}
 use Rattle.netlist.specs.Netlist.{gatesOn}
 use Rattle.repeats.specs.declared.Repeated.{Repeated}
 use Rattle.repeats.specs.Repeats.{Attempt, Repeat, lastRun, longEnough, longOnes}
 use Rattle.repeats.specs.Repeating.{whole, made, repeatedBy, refusedWith, allowed, repeated}
-use Rattle.repeats.specs.Demand3.{historyOf, answerFor}
+use Rattle.demand3.specs.Demand3.{historyOf, answerFor}
 use Rattle.repeats.proofs.RepeatChecks.{Passed, passed}
-use Rattle.repeats.proofs.Demand3.{demand3}
-use Rattle.repeats.proofs.Consequences.{answer-is}
+use Rattle.demand3.proofs.Demand3.{demand3}
+use Rattle.demand3.proofs.Consequences.{answer-is}
 
 -- as many long enough attempts as there are
 all-long : (d : Dimensions) (a : Attempt) → longEnough d a ≡ true → (k : ℕ) → longOnes d (replicate k a) ≡ k

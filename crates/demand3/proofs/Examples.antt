@@ -25,9 +25,9 @@ use Rattle.solver.specs.Entries.{answerOf}
 use Rattle.answers.specs.Printed.{answerText}
 use Rattle.netlist.specs.Netlist.{gatesOn}
 use Rattle.netlist.specs.Outputs.{closed}
 use Rattle.repeats.specs.Repeats.{Attempt, Lent, Otherwise, repeats, lastRun, ended, longOnes}
-use Rattle.repeats.specs.Demand3.{rowsIn, historyOf, answerFor, textOf, Seen, seen, AllAccepts, Demand3}
-use Rattle.repeats.proofs.Consequences.{roomy, roomy-ones, marks-are, reached, seen-is, seen-public, Room, hosted, hosts-agree}
+use Rattle.demand3.specs.Demand3.{rowsIn, historyOf, answerFor, textOf, Seen, seen, AllAccepts, Demand3}
+use Rattle.demand3.proofs.Consequences.{roomy, roomy-ones, marks-are, reached, seen-is, seen-public, Room, hosted, hosts-agree}
 
 abbrev small : Dimensions
 small = dimensions 2 1 1 0
