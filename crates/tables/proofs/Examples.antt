@@ -98,3 +98,18 @@ both-false = refl
 one-free : freeLiterals 2 (row 1 2) 0 1 ≡ 1
 unfolding freeLiterals bit count
 one-free = refl
+
+-- a padding row's free variable counts twice
+padding-twice : freeLiterals 2 (row 1 1) 0 0 ≡ 2
+unfolding freeLiterals bit count
+padding-twice = refl
+
+-- a satisfied row's free literals count
+satisfied-counted : freeLiterals 2 (row 3 0) 1 0 ≡ 1
+unfolding freeLiterals bit count
+satisfied-counted = refl
+
+-- the most that a row can have
+all-free : freeLiterals 32 (row 4294967295 4294967295) 0 0 ≡ 64
+unfolding freeLiterals bit count
+all-free = refl

@@ -14,10 +14,10 @@ pub struct Row {
     pub negative: u32,
 }
 
-// What T and F make of a row: whether it is satisfied, how many of its literals are free, and the set of its free variables.
+// What T and F make of a row: whether it is satisfied, how many of its at most 64 literals are free, and the set of its free variables.
 pub struct Judged {
     pub satisfied: bool,
-    pub literals: u32,
+    pub literals: u8,
     pub variables: u32,
 }
 
