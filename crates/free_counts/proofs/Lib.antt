@@ -1,0 +1,3 @@
+pub mod Counting
+pub mod Checks
+pub mod Examples

@@ -1,0 +1,78 @@
+// The free literals of each row, a byte a row (document 02, "Literals counted in a byte"). Turned back by 1, 2, 4, 3, 10, 12 and 13.
+use dimensions::Dimensions;
+use refusals::Outcome;
+use refusals::Refusal;
+use state::Run;
+use tables::Row;
+ghost use mathlib.Core.Path.{_≡_};
+ghost use Prim.Native.Nat.{_+_, _*_, _≤_};
+ghost use lib.ListN.{length};
+ghost use lib.Seq.{sets};
+ghost use Rattle.refusals.specs.Checks.{outcome};
+ghost use Rattle.tables.specs.Tables.{allTables};
+ghost use Rattle.tables.specs.Rows.{rowsFrom};
+ghost use Rattle.free_counts.specs.Counts.{freeCounts, countChecks, countsAfter};
+
+// Whether the rows can be counted into so many bytes: 1, 2, 4, 3, 10, 12 or 13 if not.
+fn check(
+    d: Dimensions,
+    left: &[u32],
+    right: &[u32],
+    public: &[u32],
+    run: Run,
+    room: usize,
+) -> Outcome
+    ensures { λ r. ⌜ r ≡ outcome (countChecks d (allTables (now (left .entry)) (now (right .entry)) (now (public .entry))) run room) ⌝ }
+{
+    match tables::accept(d, left, right, public) {
+        Outcome::Taken => {}
+        Outcome::Refused(refusal) => return Outcome::Refused(refusal),
+    }
+    if room < d.rows() {
+        return Outcome::Refused(Refusal::Wires);
+    }
+    state::check_state(d, run)
+}
+
+// Counts the free literals of a table's rows into the bytes from a place on; the place behind them.
+fn count_rows(words: &[u32], rows: usize, t: u32, f: u32, counts: &mut [u8], at: usize) -> usize
+    requires { ⌜ 2 * rows ≤ length (now words) ⌝ }
+    requires { ⌜ at + rows ≤ length (now counts) ⌝ }
+    ensures { λ r. ⌜ r ≡ at + rows ⌝ }
+    ensures { λ _. ⌜ now (counts .exit) ≡ sets (now (counts .entry)) at (freeCounts 32 (rowsFrom (now (words .entry)) 0 rows) t f) ⌝ }
+{
+    let mut i = 0;
+    while i < rows {
+        let row = Row {
+            positive: words[2 * i],
+            negative: words[2 * i + 1],
+        };
+        let judged = tables::judge(row, t, f);
+        counts[at + i] = judged.literals;
+        i += 1;
+    }
+    at + rows
+}
+
+// Counts the free literals of left rows, right rows and public rows under the run's T and F into the front of the bytes; later bytes stay.
+// Refused, it changes no byte.
+pub fn count_free(
+    d: Dimensions,
+    left: &[u32],
+    right: &[u32],
+    public: &[u32],
+    run: Run,
+    counts: &mut [u8],
+) -> Outcome
+    ensures { λ r. ⌜ r ≡ outcome (countChecks d (allTables (now (left .entry)) (now (right .entry)) (now (public .entry))) run (length (now (counts .entry)))) ⌝ }
+    ensures { λ _. ⌜ now (counts .exit) ≡ countsAfter d (allTables (now (left .entry)) (now (right .entry)) (now (public .entry))) run (now (counts .entry)) ⌝ }
+{
+    match check(d, left, right, public, run, counts.len()) {
+        Outcome::Taken => {}
+        Outcome::Refused(refusal) => return Outcome::Refused(refusal),
+    }
+    let right_at = count_rows(left, d.left as usize, run.t, run.f, counts, 0);
+    let public_at = count_rows(right, d.right as usize, run.t, run.f, counts, right_at);
+    count_rows(public, d.public as usize, run.t, run.f, counts, public_at);
+    Outcome::Taken
+}
