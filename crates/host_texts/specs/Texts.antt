@@ -1,10 +1,10 @@
--- What calls on texts return to hosts and leave in the buffers that they lend.
+-- What the call that reads three texts returns to a host and leaves in the buffers lent to it.
 use Prim.Native.Nat.{ℕ, _*_}
 use mathlib.Core.Bool.{Bool, _||_, cond}
 use mathlib.Core.List.{List, [], _∷_}
 use lib.Dec.{ltb}
 use lib.ListN.{length, take}
-use Rattle.refusals.specs.Checks.{outcome, given}
+use Rattle.refusals.specs.Checks.{given}
 use Rattle.refusals.specs.declared.Outcome.{Outcome}
 use Rattle.refusals.specs.declared.Outcome.the-variants.{Refused}
 use Rattle.refusals.specs.declared.Refusal.the-variants.{RowBuffer}
@@ -12,11 +12,7 @@ use Rattle.dimacs.specs.declared.Table.{Table}
 use Rattle.dimacs.specs.Text.{tableOf}
 use Rattle.dimacs.specs.ThreeTexts.{sharedN}
 use Rattle.tables.specs.Tables.{Tables, allTables}
-use Rattle.solver.specs.declared.Answer.{Answer}
-use Rattle.codes.specs.Codes.{variableChecks, verdictFrom}
 use Rattle.lent.specs.Lent.{front}
-
--- ---- three texts
 
 -- what three texts are read as
 pub record Texts : Type 0 where
@@ -66,17 +62,3 @@ textSizes t = t .left .n ∷ (t .left .rows ∷ (t .right .rows ∷ (t .public .
 -- the lent sizes after reading
 abbrev pub sizesRead : Texts → Tables → List ℕ → List ℕ
 sizesRead t lent sizes = given (readOutcome t lent) (textSizes t) (λ q. sizes)
-
--- ---- the composed answer
-
--- an answer from count, verdict and model
-abbrev pub answerFrom : ℕ → ℕ → ℕ → Answer
-answerFrom count k model = record { count = count; verdict = verdictFrom k model }
-
--- the lent bytes after a text about n variables: the text, then what stood there
-abbrev pub textGiven : ℕ → List ℕ → List ℕ → List ℕ
-textGiven n text lent = given (outcome (variableChecks n)) (front text lent) (λ r. lent)
-
--- the lent length after it
-abbrev pub lengthGiven : ℕ → List ℕ → List ℕ → List ℕ
-lengthGiven n text lent = given (outcome (variableChecks n)) (length text ∷ []) (λ r. lent)

@@ -14,10 +14,10 @@ use Rattle.text.proofs.Appending.{text-back}
 use Rattle.answers.specs.Printed.{answerText}
 use Rattle.codes.proofs.AsBytes.{checks-are, taken-low}
 use Rattle.lent.specs.Lent.{front}
-use Rattle.host_texts.specs.Texts.{answerFrom}
+use Rattle.host_lines.specs.Answers.{answerFrom}
 use borrow.Author.Needs.{needs}
-use Rattle.host_texts.proofs.forkhemit_answer.Statement.{statement}
-use Rattle.host_texts.proofs.forkhemit_answer.Tie as tie
+use Rattle.host_lines.proofs.forkhemit_answer.Statement.{statement}
+use Rattle.host_lines.proofs.forkhemit_answer.Tie as tie
 
 byte-requires : tie.Need-byte-requires
 byte-requires c κs = search needs

@@ -6,10 +6,10 @@ use Rattle.dimensions.specs.Sizes.{dimensions}
 use Rattle.bristol.specs.declared.Written.{Written}
 use Rattle.bristol.specs.Writing.{written, lineCode, lineNumbers}
 use Rattle.lent.specs.Lent.{numbersOr}
-use Rattle.host_texts.proofs.HostNumbers.{line-is, line-bytes-are}
+use Rattle.host_lines.proofs.HostNumbers.{line-is, line-bytes-are}
 use borrow.Author.Needs.{needs}
-use Rattle.host_texts.proofs.forkhemit_write_line.Statement.{statement}
-use Rattle.host_texts.proofs.forkhemit_write_line.Tie as tie
+use Rattle.host_lines.proofs.forkhemit_write_line.Statement.{statement}
+use Rattle.host_lines.proofs.forkhemit_write_line.Tie as tie
 
 -- where the code starts, from the first call
 abbrev start : tie.After-dimensions → tie.Start

@@ -5,8 +5,8 @@ use Rattle.lines.specs.declared.Budget.{Budget}
 use Rattle.lines.specs.Numbers.{budgetCode, budgetNumbers}
 use Rattle.lent.specs.Lent.{numbersOr}
 use borrow.Author.Needs.{needs}
-use Rattle.host_texts.proofs.forkhemit_read_budget.Statement.{statement}
-use Rattle.host_texts.proofs.forkhemit_read_budget.Tie as tie
+use Rattle.host_lines.proofs.forkhemit_read_budget.Statement.{statement}
+use Rattle.host_lines.proofs.forkhemit_read_budget.Tie as tie
 
 read-budget-requires : tie.Need-read-budget-requires
 read-budget-requires c κs = search needs

@@ -7,10 +7,10 @@ use Rattle.dimensions.specs.Sizes.{dimensions}
 use Rattle.bristol.specs.declared.WrittenLines.{WrittenLines}
 use Rattle.bristol.specs.Writing.{writtenLines, linesCode, linesNumbers}
 use Rattle.lent.specs.Lent.{numbersOr}
-use Rattle.host_texts.proofs.HostNumbers.{lines-are, lines-bytes-are}
+use Rattle.host_lines.proofs.HostNumbers.{lines-are, lines-bytes-are}
 use borrow.Author.Needs.{needs}
-use Rattle.host_texts.proofs.forkhemit_write_lines.Statement.{statement}
-use Rattle.host_texts.proofs.forkhemit_write_lines.Tie as tie
+use Rattle.host_lines.proofs.forkhemit_write_lines.Statement.{statement}
+use Rattle.host_lines.proofs.forkhemit_write_lines.Tie as tie
 
 -- where the code starts, from the first call
 abbrev start : tie.After-dimensions → tie.Start
