@@ -43,7 +43,7 @@ enum forkhemit_refusal_number {
     FORKHEMIT_GATE_BUFFER = 7,      /* gate buffer below three words for each gate of the ceiling */
     FORKHEMIT_NUMBER_LINE = 8,      /* malformed budget line */
     FORKHEMIT_GATES = 9,            /* words that are no gates */
-    FORKHEMIT_WIRES = 10,           /* wire buffer too short, or an input byte that is not 0 or 1 */
+    FORKHEMIT_WIRES = 10,           /* wire buffer or count buffer too short, or an input byte that is not 0 or 1 */
     FORKHEMIT_LINE_BUFFER = 11,     /* text line longer than the lent bytes */
     FORKHEMIT_STATE = 12,           /* state not well-formed, or an index or a number that is not the one of tables and state */
     FORKHEMIT_OTHER_VARIABLES = 13, /* state made for another n */
@@ -91,6 +91,11 @@ uint8_t forkhemit_accept(uint64_t n, uint64_t left_rows, uint64_t right_rows, ui
                          const uint32_t *left, size_t left_length, const uint32_t *right, size_t right_length,
                          const uint32_t *public_table, size_t public_length);
 
+/* judged: what T and F make of a row of these two words: 1 where it is satisfied, else 0; how many of its literals have their variable in
+ * neither, 0 to 64, padding and satisfied rows too (a variable in both words counts twice); the variables of those literals, as a word.
+ * All bits are looked at, there is no n. Never turned back. */
+uint8_t forkhemit_judge(uint32_t positive, uint32_t negative, uint32_t t, uint32_t f, uint64_t judged[3]);
+
 /* ---- runs */
 
 /* run: the fresh run of n variables. 1. */
@@ -109,6 +114,13 @@ uint8_t forkhemit_solve(uint64_t n, uint64_t left_rows, uint64_t right_rows, uin
 
 /* model: the variables that a satisfied run makes true, as a word. 12, 14. */
 uint8_t forkhemit_model(const uint32_t run[FORKHEMIT_RUN_WORDS], uint64_t model[1]);
+
+/* counts: for each row, left ones, right ones, public ones, how many of its literals have their variable in neither T nor F of the run,
+ * whatever its standing: a byte a row, as forkhemit_judge counts. 1, 2, 4, 3, 10 (fewer bytes than rows), 12, 13. */
+uint8_t forkhemit_count_free(uint64_t n, uint64_t left_rows, uint64_t right_rows, uint64_t public_rows,
+                             const uint32_t *left, size_t left_length, const uint32_t *right, size_t right_length,
+                             const uint32_t *public_table, size_t public_length,
+                             const uint32_t run[FORKHEMIT_RUN_WORDS], uint8_t *counts, size_t counts_length);
 
 /* ---- runs with an index */
 

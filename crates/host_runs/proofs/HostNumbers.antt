@@ -1,21 +1,25 @@
--- What the fresh run, acceptance, step and budgeted run give on a host's numbers as bytes is what they give on the numbers: refused sizes are
+-- What acceptance, counts of rows, the fresh run, step and budgeted run give on a host's numbers as bytes is what they give on the numbers: refused sizes are
 -- refused alike, since the checks begin with those.
 -- Assumes nothing.
 use mathlib.Core.Path.{_≡_, ap, _∙_}
-use mathlib.Core.List.{List}
+use mathlib.Core.List.{List, _∷_}
 use Prim.Native.Nat.{ℕ, min}
-use Rattle.refusals.specs.Checks.{outcome}
+use lib.Dec.{ltb}
+use lib.ListN.{length}
+use Rattle.refusals.specs.Checks.{check, outcome}
 use Rattle.refusals.specs.declared.Refusal.{Refusal}
+use Rattle.refusals.specs.declared.Refusal.the-variants.{Wires}
 use Rattle.refusals.specs.declared.Outcome.{Outcome}
 use Rattle.refusals.specs.declared.Outcome.the-variants.{Refused}
 use Rattle.refusals.proofs.Outcomes.{outcome-refused}
 use Rattle.dimensions.specs.declared.Dimensions.{Dimensions}
-use Rattle.dimensions.specs.Sizes.{sizeChecks}
+use Rattle.dimensions.specs.Sizes.{sizeChecks, rowCount}
 use Rattle.tables.specs.Tables.{Tables}
 use Rattle.tables.specs.Acceptance.{wordChecks, tableChecks}
 use Rattle.state.specs.declared.Run.{Run}
 use Rattle.state.specs.State.{fresh, runOf}
 use Rattle.state.specs.WellFormed.{stateChecks}
+use Rattle.free_counts.specs.Counts.{countChecks, countsAfter}
 use Rattle.solver.specs.declared.Stepped.{Stepped}
 use Rattle.solver.specs.declared.Solved.{Solved}
 use Rattle.solver.specs.declared.Solved.the-variants as solved′
@@ -31,6 +35,14 @@ use Rattle.host_runs.specs.Runs.{stepIn}
 module _ (tables : Tables) (d : Dimensions) (q : Refusal) (h : outcome (sizeChecks d) ≡ Refused q) where
   accept-refused : outcome (tableChecks d tables) ≡ Refused q
   accept-refused = outcome-refused (sizeChecks d) (wordChecks d tables) q h
+
+  module _ (run : Run) where
+    check-refused : (room : ℕ) → outcome (countChecks d tables run room) ≡ Refused q
+    check-refused room = outcome-refused (tableChecks d tables) (check (ltb room (rowCount d)) Wires ∷ stateChecks d run) q accept-refused
+
+    counts-refused : (counts : List ℕ) → countsAfter d tables run counts ≡ counts
+    unfolding countsAfter
+    counts-refused counts = rw (check-refused (length counts))
 
   step-refused : (run : Run) → stepped d tables run ≡ record { outcome = Refused q; run = run }
   unfolding stepped
@@ -51,6 +63,17 @@ fresh-is n k e words = on-number (λ x. storedIf (outcome (variableChecks x)) (r
 module _ (asked d : Dimensions) (e : d ≡ asBytes asked) (tables : Tables) where
   pub accept-is : (o : Outcome) → o ≡ outcome (tableChecks d tables) → o ≡ outcome (tableChecks asked tables)
   accept-is = on-numbers asked (λ x. outcome (tableChecks x tables)) Refused (accept-refused tables) d e
+
+  module _ (words : List ℕ) (run : Run) (held : run ≡ runIn words) where
+    pub check-is : (room : ℕ) (o : Outcome) → o ≡ outcome (countChecks d tables run room) → o ≡ outcome (countChecks asked tables (runIn words) room)
+    check-is room o r =
+        on-numbers asked (λ x. outcome (countChecks x tables run room)) Refused (λ x q h. check-refused tables x q h run room) d e o r
+        ∙ ap (λ (x : Run). outcome (countChecks asked tables x room)) held
+
+    pub counts-are : (counts after : List ℕ) → after ≡ countsAfter d tables run counts → after ≡ countsAfter asked tables (runIn words) counts
+    counts-are counts after r =
+        on-numbers asked (λ x. countsAfter x tables run counts) (λ q. counts) (λ x q h. counts-refused tables x q h run counts) d e after r
+        ∙ ap (λ (x : Run). countsAfter asked tables x counts) held
 
   pub solve-is : (budget : ℕ) (s : Solved) → s ≡ solved d tables budget → s ≡ solved asked tables budget
   solve-is budget = on-numbers asked (λ x. solved x tables budget) solved′.Refused (λ x q h. solve-refused tables x q h budget) d e

@@ -1,10 +1,12 @@
-// For hosts in C and Rust: whether tables are accepted, the giant step in place, and the budgeted run.
+// For hosts in C and Rust: whether tables are accepted, the judging of rows, the giant step in place, and the budgeted run.
 // Each function is a thin call of a proved entry. A slice passes as a pointer and then a length, an array as a pointer.
 // It returns 0 where the call is taken, else the refusal's number, and then it writes nothing.
 use solver::Solved;
 use state::Run;
+use tables::Row;
 use verdicts::Modelled;
 ghost use mathlib.Core.Path.{_≡_};
+ghost use lib.ListN.{length};
 ghost use Rattle.refusals.specs.Checks.{outcome};
 ghost use Rattle.dimensions.specs.Sizes.{dimensions};
 ghost use Rattle.tables.specs.Tables.{allTables};
@@ -16,7 +18,9 @@ ghost use Rattle.stored.specs.Words.{runIn};
 ghost use Rattle.refusals.specs.Numbers.{codeOf};
 ghost use Rattle.lent.specs.Lent.{numbersOr, storedIf};
 ghost use Rattle.codes.specs.Codes.{variableChecks};
+ghost use Rattle.free_counts.specs.Counts.{countChecks, countsAfter};
 ghost use Rattle.host_runs.specs.Runs.{stepIn, stepStored};
+ghost use Rattle.host_runs.specs.Rows.{judgedRow, judgedNumbers};
 
 // Whether three tables are accepted: 1, 2, 4 or 3 if not.
 #[no_mangle]
@@ -33,6 +37,49 @@ pub extern "C" fn forkhemit_accept(
 {
     let d = codes::dimensions(n, left_rows, right_rows, public_rows);
     codes::code(tables::accept(d, left, right, public))
+}
+
+// A row of two words judged against T and F: whether it is satisfied, how many of its literals are free, its free variables as a word.
+#[no_mangle]
+pub extern "C" fn forkhemit_judge(
+    positive: u32,
+    negative: u32,
+    t: u32,
+    f: u32,
+    judged: &mut [u64; 3],
+) -> u8
+    ensures { λ r. ⌜ r ≡ 0 ⌝ }
+    ensures { λ _. ⌜ now (judged .exit) ≡ judgedNumbers (judgedRow positive negative t f) ⌝ }
+{
+    let row = tables::judge(Row { positive, negative }, t, f);
+    *judged = [
+        row.satisfied as u64,
+        row.literals as u64,
+        row.variables as u64,
+    ];
+    0
+}
+
+// How many literals of each row are free under the run in the lent words, a byte a row; 1, 2, 4, 3, 10, 12 or 13 where it is turned
+// back, and then no byte changes.
+#[no_mangle]
+pub extern "C" fn forkhemit_count_free(
+    n: u64,
+    left_rows: u64,
+    right_rows: u64,
+    public_rows: u64,
+    left: &[u32],
+    right: &[u32],
+    public: &[u32],
+    run: &[u32; 101],
+    counts: &mut [u8],
+) -> u8
+    ensures { λ r. ⌜ r ≡ codeOf (outcome (countChecks (dimensions n «left_rows» «right_rows» «public_rows») (allTables (now (left .entry)) (now (right .entry)) (now (public .entry))) (runIn (now (run .entry))) (length (now (counts .entry))))) ⌝ }
+    ensures { λ _. ⌜ now (counts .exit) ≡ countsAfter (dimensions n «left_rows» «right_rows» «public_rows») (allTables (now (left .entry)) (now (right .entry)) (now (public .entry))) (runIn (now (run .entry))) (now (counts .entry)) ⌝ }
+{
+    let d = codes::dimensions(n, left_rows, right_rows, public_rows);
+    let run = stored::load(*run);
+    codes::code(free_counts::count_free(d, left, right, public, run, counts))
 }
 
 // The fresh run of n variables; 1 where it is turned back, and then no word changes.

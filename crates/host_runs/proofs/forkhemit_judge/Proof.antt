@@ -1,0 +1,36 @@
+-- `forkhemit_judge` meets its contract: the numbers are those of the row judged, a truth value as its digit.
+use mathlib.Core.Path.{_≡_, refl, ap, _∙_}
+use mathlib.Core.Bool.{Bool, true, false}
+use mathlib.Core.List.{[], _∷_}
+use Prim.Native.Nat.{ℕ}
+use mir.Val.{boolByte}
+use Rattle.words.specs.Booleans.{digit}
+use Rattle.host_runs.specs.Rows.{judgedNumbers}
+use borrow.Author.Needs.{needs}
+use Rattle.host_runs.proofs.forkhemit_judge.Statement.{statement}
+use Rattle.host_runs.proofs.forkhemit_judge.Tie as tie
+
+byte-digit : (b : Bool) → boolByte b ≡ digit b
+byte-digit true = refl
+byte-digit false = refl
+
+judge-requires : tie.Need-judge-requires
+judge-requires c κs = search needs
+
+cast-t8 : tie.Need-cast-t8
+cast-t8 c = search needs
+
+cast-t9 : tie.Need-cast-t9
+cast-t9 c = search needs
+
+cast-t10 : tie.Need-cast-t10
+cast-t10 c = search needs
+
+returns : tie.Need-returns
+returns c =
+    let row = c .before .before .before .before .judge in
+    let j = row .result in
+    (refl, ap (λ (x : ℕ). x ∷ (j .literals ∷ (j .variables ∷ []))) (byte-digit (j .satisfied)) ∙ ap judgedNumbers (row .ensures))
+
+pub forkhemit-judge-spec : {M : Type 1} → statement M
+forkhemit-judge-spec = tie.close (tie.spec judge-requires cast-t8 cast-t9 cast-t10 returns)
