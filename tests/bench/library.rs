@@ -1,4 +1,5 @@
-//! Times the library as a host calls it: the giant step, the reader and the writer beside plain Rust, and the making of circuits.
+//! Times the library as a host calls it: the giant step, free literals counted, the reader and the writer beside plain Rust, and the making
+//! of circuits.
 //! All times are the processor's. Linked with the archive that `make lib` writes.
 
 mod plain;
@@ -19,6 +20,9 @@ extern "C" {
         right: *const u32, right_length: usize, public_table: *const u32, public_length: usize, run: &mut [u32; 101]) -> u8;
     fn forkhemit_solve(n: u64, left_rows: u64, right_rows: u64, public_rows: u64, left: *const u32, left_length: usize,
         right: *const u32, right_length: usize, public_table: *const u32, public_length: usize, budget: u64, answer: &mut [u64; 3]) -> u8;
+    fn forkhemit_count_free(n: u64, left_rows: u64, right_rows: u64, public_rows: u64, left: *const u32, left_length: usize,
+        right: *const u32, right_length: usize, public_table: *const u32, public_length: usize, run: &[u32; 101],
+        counts: *mut u8, counts_length: usize) -> u8;
     fn forkhemit_solve_indexed(n: u64, left_rows: u64, right_rows: u64, public_rows: u64, left: *const u32, left_length: usize,
         right: *const u32, right_length: usize, public_table: *const u32, public_length: usize, budget: u64, answer: &mut [u64; 3]) -> u8;
     fn forkhemit_generate(n: u64, left_rows: u64, right_rows: u64, public_rows: u64, gates: *mut u32, gates_length: usize,
@@ -183,6 +187,59 @@ fn single_steps(n: usize, m: usize, padding: usize) {
     }
     let (a, b) = (median(proved), median(plain));
     println!("a step by itself, n = {n}, m = {m}: {a:.0} ns, plain Rust {b:.0} ns, ratio {:.2} ({total} steps)", a / b);
+}
+
+/// The free literals of each row, counted by the library, the tables and the run being judged.
+fn count_free(n: usize, [left, right, public]: &[Vec<u32>; 3], run: &[u32; 101], counts: &mut [u8]) -> u8 {
+    let [l, r, p] = [left, right, public].map(|words| words.len() as u64 / 2);
+    // The tables, the run and the counts are lent for the call.
+    unsafe {
+        forkhemit_count_free(
+            n as u64,
+            l,
+            r,
+            p,
+            left.as_ptr(),
+            left.len(),
+            right.as_ptr(),
+            right.len(),
+            public.as_ptr(),
+            public.len(),
+            run,
+            counts.as_mut_ptr(),
+            counts.len(),
+        )
+    }
+}
+
+/// Free literals counted side by side, a byte a row, after some steps, beside plain Rust that judges tables and run too.
+fn counts(n: usize, m: usize) {
+    let all: Vec<[Vec<u32>; 3]> = (0..TABLES).map(|k| hard(n, m, 0, SEED + k as u64)).collect();
+    let joined: Vec<Vec<u32>> = all.iter().map(|tables| tables.concat()).collect();
+    let mut runs = vec![[0; 101]; TABLES];
+    for (rows, run) in joined.iter().zip(&mut runs) {
+        run[0] = n as u32;
+        (0..6).for_each(|_| assert!(plain::step(n as u32, rows, run)));
+    }
+    let (mut counts, mut others) = (vec![7; TABLES * m], vec![7; TABLES * m]);
+    let (mut proved, mut plain) = (vec![], vec![]);
+    for _ in 0..RUNS {
+        let (_, time) = clock::of(|| {
+            for ((tables, run), counts) in all.iter().zip(&runs).zip(counts.chunks_mut(m)) {
+                assert_eq!(count_free(n, tables, run, counts), 0);
+            }
+        });
+        let (_, other) = clock::of(|| {
+            for ((rows, run), counts) in joined.iter().zip(&runs).zip(others.chunks_mut(m)) {
+                assert!(plain::count_free(n as u32, rows, run, counts));
+            }
+        });
+        assert_eq!(counts, others, "both count the same literals");
+        proved.push(time * 1e3 / (TABLES * m) as f64);
+        plain.push(other * 1e3 / (TABLES * m) as f64);
+    }
+    let (a, b) = (median(proved), median(plain));
+    println!("free literals, n = {n}, m = {m}: {a:.2} ns a row, plain Rust {b:.2} ns, ratio {:.2}", a / b);
 }
 
 // ---- The reader
@@ -356,6 +413,8 @@ fn main() {
     }
     single_steps(32, 138, 0);
     single_steps(32, 384, 0);
+    counts(32, 138);
+    counts(32, 384);
     reader("literals again and again", repeated);
     reader("mostly separators", spaced);
     reader("a long remark", remarked);

@@ -82,10 +82,28 @@ pub fn solve(rows: &[u32], budget: u64) -> [u64; 3] {
     [count, 0, 0]
 }
 
+/// Whether no row has a bit at or above n.
+#[inline(always)]
+fn accepted(n: u32, rows: &[u32]) -> bool {
+    let beyond = u32::MAX.checked_shl(n).unwrap_or(0);
+    rows.iter().all(|word| word & beyond == 0)
+}
+
+/// How many literals of each row are free under a run, a byte a row; false where rows or run are not right or bytes are too few.
+pub fn count_free(n: u32, rows: &[u32], run: &[u32; 101], counts: &mut [u8]) -> bool {
+    if !accepted(n, rows) || counts.len() < rows.len() / 2 || !well_formed(n, run) {
+        return false;
+    }
+    let unset = !(run[2] | run[3]);
+    for (row, count) in rows.chunks_exact(2).zip(counts) {
+        *count = ((row[0] & unset).count_ones() + (row[1] & unset).count_ones()) as u8;
+    }
+    true
+}
+
 /// One step of a run of 101 words, or false where a row has a bit at or above n or the run is no well-formed one of n variables.
 pub fn step(n: u32, rows: &[u32], run: &mut [u32; 101]) -> bool {
-    let beyond = u32::MAX.checked_shl(n).unwrap_or(0);
-    if rows.iter().any(|word| word & beyond != 0) || !well_formed(n, run) {
+    if !accepted(n, rows) || !well_formed(n, run) {
         return false;
     }
     if run[1] != 0 {

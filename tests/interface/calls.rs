@@ -13,11 +13,15 @@ mod library {
             public_table: *mut u32, public_length: usize, sizes: *mut u64) -> u8;
         pub fn forkhemit_accept(n: u64, left_rows: u64, right_rows: u64, public_rows: u64, left: *const u32, left_length: usize,
             right: *const u32, right_length: usize, public_table: *const u32, public_length: usize) -> u8;
+        pub fn forkhemit_judge(positive: u32, negative: u32, t: u32, f: u32, judged: *mut u64) -> u8;
         pub fn forkhemit_fresh(n: u64, run: *mut u32) -> u8;
         pub fn forkhemit_step(n: u64, left_rows: u64, right_rows: u64, public_rows: u64, left: *const u32, left_length: usize,
             right: *const u32, right_length: usize, public_table: *const u32, public_length: usize, run: *mut u32) -> u8;
         pub fn forkhemit_solve(n: u64, left_rows: u64, right_rows: u64, public_rows: u64, left: *const u32, left_length: usize,
             right: *const u32, right_length: usize, public_table: *const u32, public_length: usize, budget: u64, answer: *mut u64) -> u8;
+        pub fn forkhemit_count_free(n: u64, left_rows: u64, right_rows: u64, public_rows: u64, left: *const u32, left_length: usize,
+            right: *const u32, right_length: usize, public_table: *const u32, public_length: usize, run: *const u32,
+            counts: *mut u8, counts_length: usize) -> u8;
         pub fn forkhemit_index(n: u64, left_rows: u64, right_rows: u64, public_rows: u64, left: *const u32, left_length: usize,
             right: *const u32, right_length: usize, public_table: *const u32, public_length: usize, index: *mut u64) -> u8;
         pub fn forkhemit_unsatisfied(n: u64, left_rows: u64, right_rows: u64, public_rows: u64, left: *const u32, left_length: usize,
@@ -49,14 +53,24 @@ mod library {
     }
 }
 
+/// A row judged against T and F: what is returned, and the three numbers. Many rows are judged, so nothing is put on the heap.
+pub fn judge([positive, negative, t, f]: [u32; 4]) -> (u8, [u64; 3]) {
+    let mut judged = [7; 3];
+    // The three numbers are lent for the call.
+    let number = unsafe { library::forkhemit_judge(positive, negative, t, f, judged.as_mut_ptr()) };
+    (number, judged)
+}
+
 #[derive(Clone, Copy, Debug, PartialEq)]
 pub enum Function {
     Sizes,
     ReadTables,
     Accept,
+    Judge,
     Fresh,
     Step,
     Solve,
+    CountFree,
     Index,
     Unsatisfied,
     StepIndexed,
@@ -73,13 +87,15 @@ pub enum Function {
     Answer,
 }
 
-pub const ALL: [Function; 20] = [
+pub const ALL: [Function; 22] = [
     Function::Sizes,
     Function::ReadTables,
     Function::Accept,
+    Function::Judge,
     Function::Fresh,
     Function::Step,
     Function::Solve,
+    Function::CountFree,
     Function::Index,
     Function::Unsatisfied,
     Function::StepIndexed,
@@ -271,9 +287,11 @@ impl Call {
                 Function::Sizes => forkhemit_sizes(x(0), x(1), x(2), x(3), n(0)),
                 Function::ReadTables => forkhemit_read_tables(b(0), l(0), b(1), l(1), b(2), l(2), w(3), l(3), w(4), l(4), w(5), l(5), n(6)),
                 Function::Accept => forkhemit_accept(x(0), x(1), x(2), x(3), w(0), l(0), w(1), l(1), w(2), l(2)),
+                Function::Judge => forkhemit_judge(x(0) as u32, x(1) as u32, x(2) as u32, x(3) as u32, n(0)),
                 Function::Fresh => forkhemit_fresh(x(0), w(0)),
                 Function::Step => forkhemit_step(x(0), x(1), x(2), x(3), w(0), l(0), w(1), l(1), w(2), l(2), w(3)),
                 Function::Solve => forkhemit_solve(x(0), x(1), x(2), x(3), w(0), l(0), w(1), l(1), w(2), l(2), x(4), n(3)),
+                Function::CountFree => forkhemit_count_free(x(0), x(1), x(2), x(3), w(0), l(0), w(1), l(1), w(2), l(2), w(3), b(4), l(4)),
                 Function::Index => forkhemit_index(x(0), x(1), x(2), x(3), w(0), l(0), w(1), l(1), w(2), l(2), n(3)),
                 Function::Unsatisfied => forkhemit_unsatisfied(x(0), x(1), x(2), x(3), w(0), l(0), w(1), l(1), w(2), l(2), w(3), n(4)),
                 Function::StepIndexed => forkhemit_step_indexed(x(0), x(1), x(2), x(3), w(0), l(0), w(1), l(1), w(2), l(2),

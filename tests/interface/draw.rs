@@ -291,6 +291,19 @@ fn answer(random: &mut Random) -> Call {
     Call { function: Function::Answer, numbers: vec![n, count, verdict, model], lent }
 }
 
+/// A word with no variable, all, one, all but one, or any, few or many.
+fn some_word(random: &mut Random) -> u32 {
+    let (a, b, bit) = (random.number() as u32, random.number() as u32, 1 << random.below(32));
+    one(&[0, u32::MAX, bit, !bit, a, a & b, a | b], random)
+}
+
+/// A row's two words, T and F, which most often have no variable in common.
+fn row_to_judge(random: &mut Random) -> Vec<u64> {
+    let [positive, negative, t, f] = [(); 4].map(|()| some_word(random));
+    let apart = if random.once_in(4) { u32::MAX } else { !t };
+    [positive, negative, t, f & apart].map(u64::from).to_vec()
+}
+
 /// The index of the tables, the run, and its number.
 pub fn indexed(size: Size, tables: &[Lent], run: Vec<u32>) -> [Lent; 3] {
     let rows = memory::accepted(size, [0, 1, 2].map(|k| tables[k].words())).expect("the tables are accepted");
@@ -305,6 +318,7 @@ fn over_tables(function: Function, size: Size, random: &mut Random) -> Vec<Lent>
         Function::Accept => (),
         Function::Index => lent.push(numbers_for(INDEX_WORDS, random)),
         Function::Unsatisfied => lent.extend([Lent::Run(run), numbers_for(1, random)]),
+        Function::CountFree => lent.extend([Lent::Run(run), bytes_for(size.rows(), random)]),
         Function::StepIndexed => lent.extend(indexed(size, &lent, run)),
         Function::Pack => lent.extend([Lent::Run(run), bytes_for(memory::input_wires(size), random)]),
         _ => lent.push(Lent::Run(run)),
@@ -341,8 +355,10 @@ pub fn of_size(function: Function, size: Size, circuits: &Circuits, random: &mut
     match function {
         Function::Sizes => call(numbers(size), vec![numbers_for(4, random)]),
         Function::ReadTables => call(vec![], texts(random)),
+        Function::Judge => call(row_to_judge(random), vec![numbers_for(3, random)]),
         Function::Accept
         | Function::Step
+        | Function::CountFree
         | Function::Index
         | Function::Unsatisfied
         | Function::StepIndexed

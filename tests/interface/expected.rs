@@ -72,9 +72,11 @@ impl Call {
             Function::Sizes => self.sizes(),
             Function::ReadTables => self.read_tables(),
             Function::Accept => self.size().and_then(|size| memory::accepted(size, self.tables())).map(|_| vec![]),
+            Function::Judge => self.judge(),
             Function::Fresh => self.fresh(),
             Function::Step => self.step(),
             Function::Solve | Function::SolveIndexed => self.solve(),
+            Function::CountFree => self.count_free(),
             Function::Index => self.index(),
             Function::Unsatisfied => self.unsatisfied(),
             Function::StepIndexed => self.step_indexed(),
@@ -129,6 +131,12 @@ impl Call {
         Ok(vec![(3, left), (4, right), (5, public), (6, sizes)])
     }
 
+    /// A row judged, its numbers cut to words; never refused.
+    fn judge(&self) -> Result<Writes, u8> {
+        let judged = memory::judged([0, 1, 2, 3].map(|k| self.numbers[k] as u32));
+        Ok(vec![(0, Lent::Numbers(judged.to_vec()))])
+    }
+
     /// The fresh run.
     fn fresh(&self) -> Result<Writes, u8> {
         let n = memory::variables(self.numbers[0])?;
@@ -156,6 +164,18 @@ impl Call {
         };
         let model = answer.model.iter().enumerate().fold(0, |word, (v, &value)| word | u64::from(value) << v);
         Ok(vec![(3, Lent::Numbers(vec![answer.steps, verdict, model]))])
+    }
+
+    /// How many literals of each row are free under the run, a byte a row: 4, 3, 10, 12, 13.
+    fn count_free(&self) -> Result<Writes, u8> {
+        let size = self.size()?;
+        let rows = memory::accepted(size, self.tables())?;
+        if self.bytes(4).len() < rows.len() {
+            return Err(10);
+        }
+        let run = memory::run_for(size.n, self.words(3))?;
+        let counts = rows.iter().map(|row| run.free_literals(row) as u8).collect();
+        Ok(vec![(4, Lent::Bytes(counts))])
     }
 
     /// For each literal the rows that hold it.

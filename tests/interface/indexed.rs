@@ -11,13 +11,13 @@ use forkhemit_tests::{states, tables};
 
 const SEED: u64 = 303_000;
 /// Rows of all tables: few, about one word's 64, and about as many as there may be.
-const COUNTS: [usize; 7] = [2, 63, 64, 65, 128, 383, 384];
+pub const COUNTS: [usize; 7] = [2, 63, 64, 65, 128, 383, 384];
 /// How far a run from the fresh state is followed, and one that is handed over.
 const STEPS: usize = 150;
 const MORE_STEPS: usize = 6;
 
 /// So many rows as three tables: without public rows where two tables can hold them, with one, and with as many as may be.
-fn sizes(n: usize, count: usize) -> Vec<Size> {
+pub fn sizes(n: usize, count: usize) -> Vec<Size> {
     let most = (count - 2).min(128);
     let mut publics = vec![0, 1, 63, most];
     publics.retain(|&public| public <= most && count - public <= 256);

@@ -1,7 +1,8 @@
 //! Tests of the library as hosts call it. Use: interface CALLS [exact]
-//! Every refusal as it was written by hand, alone and two at once, then calls at the limits of size, then runs with index and number beside
-//! the plain ones, then random calls over all functions: each result and every lent buffer is held to the model. With `exact` each buffer has an allocation of its own of exactly its length, for a memory checker;
-//! else it stands between guards. The last line is `N passed, M failed`, and the status 0 where M is 0.
+//! Every refusal as it was written by hand, alone and two at once, then calls at the limits of size, then rows of every shape judged and
+//! counted, then runs with index and number beside the plain ones, then random calls over all functions: each result and every lent buffer
+//! is held to the model. With `exact` each buffer has an allocation of its own of exactly its length, for a memory checker; else it stands
+//! between guards. The last line is `N passed, M failed`, and the status 0 where M is 0.
 
 mod calls;
 mod circuits;
@@ -9,6 +10,7 @@ mod draw;
 mod expected;
 mod extremes;
 mod indexed;
+mod judged;
 mod refusals;
 
 use calls::{Call, Given, ALL};
@@ -122,6 +124,9 @@ fn main() -> ExitCode {
     let circuits = Circuits::new();
     let mut total = refused(&circuits, guard);
     total.add(largest(&circuits, guard));
+    total.add(judged::shapes());
+    total.add(judged::bytes(guard));
+    total.add(judged::counted(&circuits, guard));
     total.add(indexed::runs(guard));
     total.add(indexed::handed_over(guard));
     total.add(indexed::damaged(&circuits, guard));

@@ -75,9 +75,11 @@ fn base(function: Function, circuits: &Circuits) -> Result<Call, String> {
             (vec![], [texts.to_vec(), vec![words(2), words(2), words(2), numbers(4)]].concat())
         }
         Function::Accept => (d, tables()),
+        Function::Judge => (vec![0b10, 0b01, 0b01, 0], vec![numbers(3)]),
         Function::Fresh => (vec![2], vec![Lent::Run(vec![7; RUN_WORDS])]),
         Function::Step => (d, [tables(), vec![Lent::Run(run())]].concat()),
         Function::Solve | Function::SolveIndexed => (and(9), [tables(), vec![numbers(3)]].concat()),
+        Function::CountFree => (d, [tables(), vec![Lent::Run(run()), bytes(3)]].concat()),
         Function::Index => (d, [tables(), vec![numbers(INDEX_WORDS)]].concat()),
         Function::Unsatisfied => (d, [tables(), vec![Lent::Run(run()), numbers(1)]].concat()),
         // rows 1 and 2 are not satisfied
@@ -306,6 +308,14 @@ fn step(list: &mut Changes) {
     run_at(3, list);
 }
 
+/// 10, and a run's 12 and 13.
+fn count_free(list: &mut Changes) {
+    add(list, "a byte short", 10, shorter(4));
+    add(list, "a byte for the left row alone", 10, cut(4, 1));
+    add(list, "no bytes", 10, cut(4, 0));
+    run_at(3, list);
+}
+
 /// 12 by the index and by the number, and a run's 12 and 13.
 fn step_indexed(list: &mut Changes) {
     for (what, at, to) in [
@@ -426,8 +436,10 @@ fn changes(function: Function) -> Changes {
         Function::Sizes => &[sizes],
         Function::ReadTables => &[read_tables],
         Function::Accept | Function::Solve | Function::Index | Function::SolveIndexed => &[sizes, tables],
+        Function::Judge => &[],
         Function::Fresh | Function::Answer => &[variables],
         Function::Step | Function::Unsatisfied => &[sizes, tables, step],
+        Function::CountFree => &[sizes, tables, count_free],
         Function::StepIndexed => &[sizes, tables, step_indexed],
         Function::Model => &[model_wanted],
         Function::Generate => &[sizes, generate],
@@ -460,6 +472,13 @@ fn harmless(function: Function) -> Vec<(String, Change)> {
             ("no public rows, and words of some", number(3, 0)),
             ("no public rows, and words that would be refused", both(number(3, 0), word(2, 1, u32::MAX))),
             ("no public rows and no words", both(number(3, 0), cut(2, 0))),
+        ],
+        Function::CountFree => vec![
+            ("no public rows, and words of some", number(3, 0)),
+            ("no public rows, no words and no byte for one", both(number(3, 0), both(cut(2, 0), cut(4, 2)))),
+            ("more bytes than rows", text(4, vec![7; 9])),
+            ("a satisfied run", word(3, 1, 1)),
+            ("a refuted run", word(3, 1, 2)),
         ],
         Function::StepIndexed => {
             let none = || both(no_public_rows(), both(without_public_row(), entry(5, 0, 1)));

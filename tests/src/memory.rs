@@ -50,6 +50,23 @@ pub fn accepted(size: Size, tables: [&[u32]; 3]) -> Result<Vec<Row>, u8> {
     Ok(words.chunks(2).map(|pair| row(pair[0], pair[1])).collect())
 }
 
+/// What T and F make of a row of two words, variable by variable: whether it is satisfied, how many of its literals are free, and the
+/// set of their variables. A free variable in both words is two free literals; one in both T and F is not free.
+pub fn judged([positive, negative, t, f]: [u32; 4]) -> [u64; 3] {
+    let [mut satisfied, mut literals, mut variables] = [0; 3];
+    for v in 0..32 {
+        let signs = (holds(positive, v), holds(negative, v));
+        if signs == (true, true) || signs.0 && holds(t, v) || signs.1 && holds(f, v) {
+            satisfied = 1;
+        }
+        if !holds(t, v) && !holds(f, v) {
+            literals += u64::from(signs.0) + u64::from(signs.1);
+            variables += u64::from(signs.0 || signs.1) << v;
+        }
+    }
+    [satisfied, literals, variables]
+}
+
 /// For each literal the set of rows that hold it, six words each: variables 1 to 32, then their negations. Row r from 0 is bit
 /// r mod 64 of word r / 64.
 pub fn index(rows: &[Row]) -> Vec<u64> {

@@ -232,6 +232,11 @@ impl Run {
         rows.iter().filter(|row| !self.satisfied(row)).count() as u64
     }
 
+    /// How many of the row's literals have a variable without a value, whether the row is satisfied or not.
+    pub fn free_literals(&self, row: &[i64]) -> usize {
+        row.iter().filter(|&&literal| self.free(literal)).count()
+    }
+
     /// Whether each level's values lie within the next ones, the variable chosen there being free and then true.
     pub fn well_formed(&self) -> bool {
         let n = self.values.len();
