@@ -6,7 +6,7 @@ ghost use Rattle.refusals.specs.Numbers.{numberOf};
 pub enum Refusal {
     // 1: n outside 1 to 32.
     Variables,
-    // 2: a station's row count outside 1 to 128.
+    // 2: a station's row count outside 1 to 128, or a public one above 128.
     RowCount,
     // 3: a row bit at or above n.
     RowBit,
@@ -14,7 +14,7 @@ pub enum Refusal {
     RowBuffer,
     // 5: malformed or overlong DIMACS text.
     Text,
-    // 6: the two texts differ in n.
+    // 6: two of the three texts differ in n.
     TextsDiffer,
     // 7: a gate buffer below three words for each gate of the ceiling.
     GateBuffer,
@@ -22,7 +22,7 @@ pub enum Refusal {
     NumberLine,
     // 9: words that are no gates.
     Gates,
-    // 10: a wire buffer that is too short, or an input byte that is not 0 or 1.
+    // 10: a buffer of wires or of counts that is too short, or an input byte that is not 0 or 1.
     Wires,
     // 11: a text line longer than the lent bytes.
     LineBuffer,
