@@ -2,7 +2,6 @@
 -- checks begin with those.
 -- Assumes nothing.
 use mathlib.Core.Path.{_≡_, refl, sym, ap, subst, _∙_}
-use mathlib.Core.Bool.{_||_}
 use mathlib.Core.List.{List, [], _∷_, _++_}
 use Prim.Native.Nat.{ℕ, _+_, _*_, _≤_, min}
 use native.Mathlib.Omega.{arith}
@@ -26,18 +25,8 @@ use Rattle.wires.specs.Packing.{packChecks, packed}
 use Rattle.generator.specs.declared.Generated.{Generated}
 use Rattle.generator.specs.declared.Generated.the-variants as generated′
 use Rattle.generator.specs.Generation.{generated, written, Carried}
-use Rattle.netlist.specs.Netlist.{gatesOn}
-use Rattle.repeats.specs.declared.Repeated.{Repeated}
-use Rattle.repeats.specs.Repeating.{allowed, repeated, refusedWith, gatesAfter, bytesAfter, wiresAfter}
 use Rattle.codes.proofs.AsBytes.{asBytes, taken-same, on-numbers}
 use Rattle.host_circuits.specs.Circuits.{sizeNumbers, sizesGiven}
-
--- what repeats give, and what they leave in gate words, bytes and wires
-abbrev pub repeatAll : Dimensions → Tables → ℕ → List ℕ → List ℕ → List ℕ → Run → Repeated × (List ℕ × (List ℕ × List ℕ))
-repeatAll d tables times gates bytes wires run = (
-  repeated d tables times gates bytes wires run,
-  (gatesAfter d tables times gates bytes wires run, (bytesAfter d tables times gates bytes wires run, wiresAfter d tables times gates bytes wires run)),
-)
 
 -- ---- refused sizes
 
@@ -64,20 +53,6 @@ module _ (d : Dimensions) (q : Refusal) (h : outcome (sizeChecks d) ≡ Refused 
     pack-refused : packed d tables run bytes ≡ bytes
     unfolding packed
     pack-refused = rw (check-refused (length bytes))
-
-  module _ (tables : Tables) (times : ℕ) (gates bytes wires : List ℕ) (run : Run) where
-    allowed-refused : allowed d tables times gates bytes wires run ≡ Refused q
-    unfolding allowed
-    allowed-refused =
-        outcome-refused (sizeChecks d)
-        (wordChecks d tables
-        ++ (check (ltb (length gates) (3 * ceiling d)) GateBuffer
-        ∷ (check (ltb (length bytes) (inputWires d) || ltb (length wires) (inputWires d + length (gatesOn d))) Wires ∷ stateChecks d run)))
-        q h
-
-    repeat-refused : repeatAll d tables times gates bytes wires run ≡ (refusedWith run q, (gates, (bytes, wires)))
-    unfolding repeated gatesAfter bytesAfter wiresAfter
-    repeat-refused = rw allowed-refused
 
 -- ---- sizes within the limits
 
@@ -125,10 +100,3 @@ module _ (asked d : Dimensions) (e : d ≡ asBytes asked) where
     packed-is bytes after r =
         on-numbers asked (λ x. packed x tables run bytes) (λ q. bytes) (λ x q h. pack-refused x q h tables run bytes) d e after r
         ∙ ap (λ (x : Run). packed asked tables x bytes) held
-
-    pub repeat-is : (times : ℕ) (gates bytes wires : List ℕ) (y : Repeated × (List ℕ × (List ℕ × List ℕ)))
-        → y ≡ repeatAll d tables times gates bytes wires run → y ≡ repeatAll asked tables times gates bytes wires (runIn words)
-    repeat-is times gates bytes wires y r =
-        on-numbers asked (λ x. repeatAll x tables times gates bytes wires run) (λ q. (refusedWith run q, (gates, (bytes, wires))))
-        (λ x q h. repeat-refused x q h tables times gates bytes wires run) d e y r
-        ∙ ap (λ (x : Run). repeatAll asked tables times gates bytes wires x) held

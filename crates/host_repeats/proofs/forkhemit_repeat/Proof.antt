@@ -15,11 +15,11 @@ use Rattle.dimensions.specs.Sizes.{dimensions}
 use Rattle.tables.specs.Tables.{Tables, allTables}
 use Rattle.stored.specs.Words.{runIn}
 use Rattle.lent.specs.Lent.{storedIf}
-use Rattle.host_circuits.specs.Circuits.{repeatStored, repeatNumbers}
-use Rattle.host_circuits.proofs.HostNumbers.{repeatAll, repeat-is}
+use Rattle.host_repeats.specs.Repeats.{repeatStored, repeatNumbers}
+use Rattle.host_repeats.proofs.HostNumbers.{repeatAll, repeat-is}
 use borrow.Author.Needs.{needs}
-use Rattle.host_circuits.proofs.forkhemit_repeat.Statement.{statement}
-use Rattle.host_circuits.proofs.forkhemit_repeat.Tie as tie
+use Rattle.host_repeats.proofs.forkhemit_repeat.Statement.{statement}
+use Rattle.host_repeats.proofs.forkhemit_repeat.Tie as tie
 
 -- ---- the places of the code, each from the one behind it
 
@@ -62,8 +62,8 @@ by-numbers c =
     let dims = load .before .before in
     let s = start dims in
     let e = c .repeat .ensures in
-    repeat-is (asked s) _ (dims .dimensions .ensures) (tables s) (s .args .run .now) _ (load .load .ensures)
-    (s .args .times) (s .args .gates .now) (s .args .bytes .now) (s .args .wires .now) _
+    repeat-is (tables s) (s .args .times) (s .args .gates .now) (s .args .bytes .now) (s .args .wires .now)
+    (asked s) _ (dims .dimensions .ensures) (s .args .run .now) _ (load .load .ensures) _
     (λ i. (e .0 i, (e .1 .0 i, (e .1 .1 .0 i, e .1 .1 .1 i))))
 
 dimensions-requires : tie.Need-dimensions-requires
