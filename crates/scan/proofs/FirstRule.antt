@@ -1,8 +1,8 @@
--- The rule that applies has the number of the first that applies: by the definition's tests in order, rule 3 by induction on the rows.
+-- The rule that applies has the number of the first that applies: by the definition's tests in order.
 -- Assumes nothing.
-use mathlib.Core.Path.{_≡_, refl, ap, _∙_}
+use mathlib.Core.Path.{_≡_, ap, _∙_}
 use mathlib.Core.Bool.{cond}
-use mathlib.Core.List.{List, [], _∷_}
+use mathlib.Core.List.{List}
 use Prim.Native.Nat.{ℕ}
 use lib.ListN.{getD}
 use Rattle.words.proofs.Truth.{on}
@@ -14,12 +14,11 @@ use Rattle.scan.specs.Rules.{unsatisfiedWith, allRows, anyRow, unitOr, c
 
 module _ (n t f : ℕ) where
   unit-number : (rows : List Row) (v : ℕ) → getD (ruleSaid (unitOr n t f rows (Choice v))) 0 0 ≡ cond (anyRow (unsatisfiedWith 1 n t f) rows) 3 4
-  unfolding unitOr anyRow
-  unit-number [] v = refl
-  unit-number (r ∷ rs) v =
-      on (unsatisfiedWith 1 n t f r)
+  unfolding unitOr
+  unit-number rows v =
+      on (anyRow (unsatisfiedWith 1 n t f) rows)
       (λ e. rw e (rw (e, unitOr)))
-      (λ e. rw e (rw (e, unitOr) (unit-number rs v)))
+      (λ e. rw e (rw (e, unitOr)))
 
   rule-number : (rows : List Row) → getD (ruleSaid (rule n rows t f)) 0 0 ≡ firstRule n rows t f
   unfolding rule

@@ -2,7 +2,7 @@
 -- Assumes nothing.
 use mathlib.Core.Path.{_≡_, refl, sym, ap, _∙_}
 use mathlib.Core.Bool.{Bool, true, false, not, _&&_, true≢false}
-use mathlib.Core.List.{List, [], _∷_}
+use mathlib.Core.List.{List}
 use Prim.Native.Nat.{ℕ, zero, suc, _<_}
 use native.Mathlib.Nat.{zero-lt-suc}
 use native.Mathlib.Omega.{arith}
@@ -15,9 +15,9 @@ use Rattle.tables.specs.Rows.{padding, satisfied, free, holds, freeIn}
 use Rattle.tables.proofs.Rows.{unsatisfied-padding, unsatisfied-literals}
 use Rattle.scan.specs.declared.Rule.{Rule}
 use Rattle.scan.specs.declared.Rule.the-variants.{AllSatisfied, Conflict, Unit, Choice}
-use Rattle.scan.specs.Rules.{allRows, anyRow, unsatisfiedWith, unitOr, choice, rule}
+use Rattle.scan.specs.Rules.{allRows, anyRow, unsatisfiedWith, forces, forcedVariable, forcedTrue, unitOr, choice, rule}
 use Rattle.solver.specs.Truth.{occurs}
-use Rattle.scan.proofs.RowLaws.{In, in-head, in-tail, any-row-e, any-row-i, not-all-rows, no-row}
+use Rattle.scan.proofs.RowLaws.{In, any-row-e, any-row-i, not-all-rows, no-row}
 
 -- ---- what holds
 
@@ -68,7 +68,7 @@ module _ (k n t f : ℕ) (r : Row) (e : unsatisfiedWith k n t f r ≡ true) wher
   unfolding unsatisfiedWith
   with-count = sym (unsatisfied-literals n r t f with-unsatisfied) ∙ eqb-true _ k (and-r (not (satisfied n r t f)) _ e)
 
-with-some : (n t f : ℕ) (r : Row) → satisfied n r t f ≡ false → unsatisfiedWith 0 n t f r ≡ false → 0 < count (λ i. freeIn r t f i) n
+pub with-some : (n t f : ℕ) (r : Row) → satisfied n r t f ≡ false → unsatisfiedWith 0 n t f r ≡ false → 0 < count (λ i. freeIn r t f i) n
 unfolding unsatisfiedWith
 with-some n t f r e h = go (count (λ i. freeIn r t f i) n) refl
   where
@@ -79,18 +79,49 @@ with-some n t f r e h = go (count (λ i. freeIn r t f i) n) refl
 -- ---- the rule that applies
 
 module _ (n : ℕ) (rows : List Row) (t f : ℕ) where
-  -- rule 3, looked for in some of the rows
-  ruled-unit : (rs : List Row) → ((x : Row) → In x rs → In x rows) → (other : Rule) → Ruled n rows t f other → Ruled n rows t f (unitOr n t f rs other)
+  -- some row is a unit row, so some variable is forced
+  pub forced-hit : anyRow (unsatisfiedWith 1 n t f) rows ≡ true
+      → (forcedVariable n rows t f < n) × (anyRow (forces n t f (forcedVariable n rows t f)) rows ≡ true)
+  unfolding forcedVariable
+  forced-hit e =
+      let x = any-row-e (unsatisfiedWith 1 n t f) rows e in
+      let i = count-some (λ i. freeIn (x .0) t f i) n (omega (arith, with-count 1 n t f (x .0) (x .2))) in
+      lowest-hit (λ i. anyRow (forces n t f i) rows) n (i .0) (i .1) (any-row-i (forces n t f (i .0)) rows (x .0) (x .1) (and-i (x .2) (i .2)))
+
+  -- a row that forces the variable, in the sign that is taken
+  forced-row : (v : ℕ) → anyRow (forces n t f v) rows ≡ true
+      → (r : Row) × In r rows × (forces n t f v r ≡ true) × (forcedTrue n rows t f v ≡ bit (r .positive) v)
+  unfolding forcedTrue
+  forced-row v e =
+      on (forcedTrue n rows t f v)
+      (λ q. let x = any-row-e (λ r. forces n t f v r && bit (r .positive) v) rows q in
+      (x .0, x .1, and-l (forces n t f v (x .0)) _ (x .2), q ∙ sym (and-r (forces n t f v (x .0)) _ (x .2))))
+      (λ q. let x = any-row-e (forces n t f v) rows e in (
+        x .0,
+        x .1,
+        x .2,
+        q ∙ sym (on (bit (x .0 .positive) v)
+            (λ b. absurd (true≢false (sym (any-row-i (λ r. forces n t f v r && bit (r .positive) v) rows (x .0) (x .1) (and-i (x .2) b)) ∙ q)))
+            (λ b. b)),
+      ))
+
+  -- rule 3
+  ruled-unit : (other : Rule) → Ruled n rows t f other → Ruled n rows t f (unitOr n t f rows other)
   unfolding unitOr
-  ruled-unit [] inc other h = h
-  ruled-unit (r ∷ rs) inc other h =
-      on (unsatisfiedWith 1 n t f r)
+  ruled-unit other h =
+      on (anyRow (unsatisfiedWith 1 n t f) rows)
       (λ e. rw (e, unitOr)
-      (let c = with-count 1 n t f r e in
-      let i = count-some (λ i. freeIn r t f i) n (omega arith) in
-      let v = lowest-hit (λ i. freeIn r t f i) n (i .0) (i .1) (i .2) in
-      record { row = r; of-rows = inc r (in-head r rs); one-literal = e; low = v .0; free-there = v .1; sign = refl }))
-      (λ e. rw (e, unitOr) (ruled-unit rs (λ x m. inc x (in-tail x r rs m)) other h))
+      (let v = forced-hit e in
+      let x = forced-row (forcedVariable n rows t f) (v .1) in
+      record {
+        row = x .0;
+        of-rows = x .1;
+        one-literal = and-l (unsatisfiedWith 1 n t f (x .0)) _ (x .2);
+        low = v .0;
+        free-there = and-r (unsatisfiedWith 1 n t f (x .0)) _ (x .2);
+        sign = x .3;
+      }))
+      (λ e. rw (e, unitOr) h)
 
   module _ (e₁ : allRows (λ r. satisfied n r t f) rows ≡ false) (e₂ : anyRow (unsatisfiedWith 0 n t f) rows ≡ false) where
     -- some row is not satisfied and none is in conflict, so some variable can be chosen
@@ -123,7 +154,7 @@ module _ (n : ℕ) (rows : List Row) (t f : ℕ) where
       (λ e. rw (e, rule) e)
       (λ e₁. on (anyRow (unsatisfiedWith 0 n t f) rows)
       (λ e₂. rw (e₁, rule) (rw e₂ (let x = any-row-e (unsatisfiedWith 0 n t f) rows e₂ in record { row = x .0; of-rows = x .1; no-literal = x .2 })))
-      (λ e₂. rw (e₁, rule) (rw e₂ (ruled-unit rows (λ x m. m) (Choice (choice n rows t f)) (ruled-choice e₁ e₂)))))
+      (λ e₂. rw (e₁, rule) (rw e₂ (ruled-unit (Choice (choice n rows t f)) (ruled-choice e₁ e₂)))))
 
   -- ---- a rule's variable
 
