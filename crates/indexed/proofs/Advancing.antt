@@ -11,7 +11,7 @@ use Rattle.scan.specs.Rules.{rule}
 use Rattle.state.specs.declared.Run.{Run}
 use Rattle.state.specs.declared.Standing.the-variants.{Open, Satisfied, Refuted}
 use Rattle.state.specs.State.{State, stateOf, runOf}
-use Rattle.state.proofs.WellFormedLaws.{Sets, formed-e}
+use Rattle.state.proofs.WellFormedLaws.{Formed, formed-e}
 use Rattle.state.proofs.HeldRun.{formed-run-e}
 use Rattle.rules.specs.Followed.{followed}
 use Rattle.solver.specs.Step.{follow, step}
@@ -39,14 +39,14 @@ module _ (words : List ℕ) (m : ℕ) (index : List ℕ) (held : Held) (x : Inde
   abbrev run : Run
   run = held .run
 
-  own : Sets (run .n) (run .t) (run .f)
-  own = formed-e (run .n) (stateOf run) (formed-run-e run (o .formed) .state) .own
+  formed : Formed (run .n) (stateOf run)
+  formed = formed-e (run .n) (stateOf run) (formed-run-e run (o .formed) .state)
 
-  found-is : ruleBy words index (run .t) (run .f) (held .tally) ≡ rule (run .n) rows (run .t) (run .f)
-  found-is = rule-read (run .n) words m index x (stateOf run) own (held .tally) (o .exact)
+  found-is : ruleBy index (run .t) (run .f) (held .tally) ≡ rule (run .n) rows (run .t) (run .f)
+  found-is = rule-read (run .n) words m index x (stateOf run) formed (held .tally) (o .exact)
 
   -- rule, run and tally as code has them
-  pub open-advance : run .standing ≡ Open → (found : Rule) → found ≡ ruleBy words index (run .t) (run .f) (held .tally)
+  pub open-advance : run .standing ≡ Open → (found : Rule) → found ≡ ruleBy index (run .t) (run .f) (held .tally)
       → (next : Run) → next ≡ followed run found
       → (tally : Tally) → tally ≡ tallyBy words m index (run .t) (run .f) (next .t) (next .f) found (held .tally)
       → _≡_ {A = Held} (record { run = next; tally = tally }) (heldOf (run .n) rows (step (run .n) rows (stateOf run)))
@@ -56,7 +56,7 @@ module _ (words : List ℕ) (m : ℕ) (index : List ℕ) (held : Held) (x : Inde
       let g : next ≡ runOf (run .n) (follow (stateOf run) found) = q ∙ kept run room (o .formed) found (fits (run .n) rows run refl (o .formed) found f) in
       held-is (run .n) rows (step (run .n) rows (stateOf run)) next (q ∙ open-step (run .n) rows run refl (o .formed) found f room st) tally
       (k ∙ ap (λ (r : Run). tallyBy words m index (run .t) (run .f) (r .t) (r .f) found (held .tally)) g
-      ∙ tally-is (run .n) words m index x (stateOf run) own (held .tally) (o .exact) found (sym f)
+      ∙ tally-is (run .n) words m index x (stateOf run) formed (held .tally) (o .exact) found (sym f)
       ∙ sym (ap (λ (r : Run). tallyOf rows (r .t) (r .f)) g))
 
   pub satisfied-advance : run .standing ≡ Satisfied → held ≡ heldOf (run .n) rows (step (run .n) rows (stateOf run))

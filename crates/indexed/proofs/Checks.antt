@@ -3,7 +3,7 @@
 use mathlib.Core.Path.{_≡_, sym, ap, ap₂, _∙_}
 use mathlib.Core.Bool.{Bool, true, false, not}
 use mathlib.Core.List.{List}
-use Prim.Native.Nat.{ℕ}
+use Prim.Native.Nat.{ℕ, _^_, _<_}
 use lib.Dec.{eqb}
 use borrow.Author.Tests.{eq-eqb, ne-eqb, eqb-true, not-false}
 use Rattle.refusals.specs.Checks.{outcome}
@@ -71,13 +71,14 @@ module _ (n : ℕ) (run : Run) (exact right : Bool) where
 
 -- as code has them: the index beside the rows' own sets, the number beside that of their tally
 module _ (n : ℕ) (words : List ℕ) (m : ℕ) (sets : List ℕ) (x : Indexed n words m sets) (index : List ℕ) (run : Run) (number : ℕ)
-    (tally : Tally) (t : tally ≡ surveyed sets m (run .t) (run .f)) (exact : Bool) (e : exact ≡ same index sets)
+    (low-t : run .t < 2 ^ 32) (low-f : run .f < 2 ^ 32) (tally : Tally) (t : tally ≡ surveyed words sets m (run .t) (run .f))
+    (exact : Bool) (e : exact ≡ same index sets)
     (o : Outcome) (q : o ≡ outcome (keptChecks n run exact (eqb number (tally .number)))) where
   abbrev rows : List Row
   rows = rowsFrom words 0 m
 
   tally-exact : tally ≡ tallyOf rows (run .t) (run .f)
-  tally-exact = t ∙ survey-exact n words m sets x (run .t) (run .f)
+  tally-exact = t ∙ survey-exact n words m sets x (run .t) (run .f) low-t low-f
 
   pub judged : o ≡ outcome (indexedChecks n rows index run number)
   judged =

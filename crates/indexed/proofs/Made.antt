@@ -2,7 +2,7 @@
 -- Assumes nothing.
 use mathlib.Core.Path.{_≡_, sym, ap, ap₂, _∙_}
 use mathlib.Core.List.{List}
-use Prim.Native.Nat.{ℕ, min}
+use Prim.Native.Nat.{ℕ, min, _^_, _<_}
 use native.Mathlib.Omega.{arith}
 use Rattle.refusals.specs.Checks.{outcome}
 use Rattle.refusals.specs.declared.Outcome.the-variants.{Taken}
@@ -51,10 +51,10 @@ module _ (d : Dimensions) (tables : Tables) where
         }
 
     -- the number that a survey gives
-    pub counted-is : (ok : outcome (tableChecks d tables) ≡ Taken) (index : List ℕ) → index ≡ indexOf (rowsOf d tables) → (t f : ℕ)
-        → (tally : Tally) → tally ≡ surveyed index m t f → tally .number ≡ unsatisfiedRows (d .n) (rowsOf d tables) t f
-    counted-is ok index q t f tally e =
+    pub counted-is : (ok : outcome (tableChecks d tables) ≡ Taken) (index : List ℕ) → index ≡ indexOf (rowsOf d tables) → (t f : ℕ) → t < 2 ^ 32 → f < 2 ^ 32
+        → (tally : Tally) → tally ≡ surveyed words index m t f → tally .number ≡ unsatisfiedRows (d .n) (rowsOf d tables) t f
+    counted-is ok index q t f ht hf tally e =
         let x = made ok index q in
-        ap (λ (y : Tally). y .number) (e ∙ survey-exact (d .n) words m index x t f)
+        ap (λ (y : Tally). y .number) (e ∙ survey-exact (d .n) words m index x t f ht hf)
         ∙ tally-number (d .n) (x .most) t f (rowsFrom words 0 m) (x .low)
         ∙ ap (λ (rs : List Row). unsatisfiedRows (d .n) rs t f) made-rows

@@ -1,12 +1,11 @@
 -- The tally after the rule that applies is exactly that of T and F then: by cases on the rule.
 -- Assumes nothing.
-use mathlib.Core.Path.{_≡_, sym, _∙_}
+use mathlib.Core.Path.{_≡_, _∙_, subst}
 use mathlib.Core.Bool.{Bool, true, false}
 use mathlib.Core.List.{List}
 use Prim.Native.Nat.{ℕ, _^_, _<_}
 use native.Mathlib.Nat.{lt-of-lt-of-le}
 use native.Mathlib.Omega.{arith}
-use lib.ListN.{length}
 use lib.Pow.{pow-mono}
 use Rattle.tables.specs.declared.Row.{Row}
 use Rattle.tables.specs.Rows.{rowsFrom}
@@ -14,9 +13,10 @@ use Rattle.scan.specs.declared.Rule.{Rule}
 use Rattle.scan.specs.declared.Rule.the-variants.{AllSatisfied, Conflict, Unit, Choice}
 use Rattle.scan.specs.Rules.{anyRow, unsatisfiedWith, rule}
 use Rattle.state.specs.State.{State}
-use Rattle.state.proofs.WellFormedLaws.{Sets}
+use Rattle.state.proofs.WellFormedLaws.{Formed}
 use Rattle.solver.specs.Step.{follow}
-use Rattle.solver.proofs.RuleLaws.{Settable, rule-unit, rule-choice}
+use Rattle.solver.proofs.RuleLaws.{Ruled, ruled, Settable, rule-unit, rule-choice}
+use Rattle.solver.proofs.StepLaws.{follow-formed}
 use Rattle.solver.proofs.WidthLaws.{rule-width}
 use Rattle.occurrences.proofs.SetLaws.{rows-length}
 use Rattle.tally.specs.declared.Tally.{Tally}
@@ -37,21 +37,22 @@ module _ (n : ℕ) (words : List ℕ) (m : ℕ) (index : List ℕ) (x : Indexed 
   wide : (t f : ℕ) → rule 32 rows t f ≡ rule n rows t f
   wide t f = rule-width n 32 (x .most) t f rows (x .low)
 
-  pub survey-exact : (t f : ℕ) → surveyed index m t f ≡ tallyOf rows t f
-  survey-exact t f =
-      let k : m ≡ length rows = sym (rows-length words 0 m) in
-      after-survey index rows m t f (x .indexed) k (omega (arith, k, x .few))
+  pub survey-exact : (t f : ℕ) → t < 2 ^ 32 → f < 2 ^ 32 → surveyed words index m t f ≡ tallyOf rows t f
+  survey-exact t f ht hf = after-survey words m index t f (x .few) (x .indexed) ht hf
 
-  module _ (s : State) (o : Sets n (s .t) (s .f)) (tally : Tally) (exact : tally ≡ tallyOf rows (s .t) (s .f)) where
+  wide-low : {a : ℕ} → a < 2 ^ n → a < 2 ^ 32
+  wide-low h = lt-of-lt-of-le h (pow-mono (x .most))
+
+  module _ (s : State) (o : Formed n s) (tally : Tally) (exact : tally ≡ tallyOf rows (s .t) (s .f)) where
     t-low : s .t < 2 ^ 32
-    t-low = lt-of-lt-of-le (o .low-t) (pow-mono (x .most))
+    t-low = wide-low (o .own .low-t)
 
     f-low : s .f < 2 ^ 32
-    f-low = lt-of-lt-of-le (o .low-f) (pow-mono (x .most))
+    f-low = wide-low (o .own .low-f)
 
     -- the rule read off the tally
-    pub rule-read : ruleBy words index (s .t) (s .f) tally ≡ rule n rows (s .t) (s .f)
-    rule-read = after-rule (s .t) (s .f) t-low f-low words m index tally (x .few) (x .indexed) exact ∙ wide (s .t) (s .f)
+    pub rule-read : ruleBy index (s .t) (s .f) tally ≡ rule n rows (s .t) (s .f)
+    rule-read = after-rule rows (s .t) (s .f) (omega (arith, rows-length words 0 m, x .few)) t-low f-low index tally (x .indexed) exact ∙ wide (s .t) (s .f)
 
     ready : (v : ℕ) → Settable n rows (s .t) (s .f) v → anyRow (unsatisfiedWith 0 32 (s .t) (s .f)) rows ≡ false → Ready words m index (s .t) (s .f) v tally
     ready v w calm = record {
@@ -75,7 +76,9 @@ module _ (n : ℕ) (words : List ℕ) (m : ℕ) (index : List ℕ) (x : Indexed 
     pub tally-is : (k : Rule) → rule n rows (s .t) (s .f) ≡ k
         → tallyBy words m index (s .t) (s .f) (follow s k .t) (follow s k .f) k tally ≡ tallyOf rows (follow s k .t) (follow s k .f)
     tally-is AllSatisfied e = exact
-    tally-is Conflict e = survey-exact (follow s Conflict .t) (follow s Conflict .f)
+    tally-is Conflict e =
+        let next = follow-formed n rows s Conflict (subst (λ (k : Rule). Ruled n rows (s .t) (s .f) k) e (ruled n rows (s .t) (s .f))) o .own in
+        survey-exact (follow s Conflict .t) (follow s Conflict .f) (wide-low (next .low-t)) (wide-low (next .low-f))
     tally-is (Unit v true) e = after-setting words m index (s .t) (s .f) v tally (unit-ready v true e) true
     tally-is (Unit v false) e = after-setting words m index (s .t) (s .f) v tally (unit-ready v false e) false
     tally-is (Choice v) e = after-setting words m index (s .t) (s .f) v tally (choice-ready v e) true

@@ -44,7 +44,7 @@ heldOf n rows s = record { run = runOf n s; tally = tallyOf rows (s .t) (s .f) }
 -- what code makes of a tally after a rule: of T and F as they were, t and f, and as they are then
 abbrev pub tallyBy : List ℕ → ℕ → List ℕ → ℕ → ℕ → ℕ → ℕ → Rule → Tally → Tally
 tallyBy words m index t f t′ f′ AllSatisfied tally = tally
-tallyBy words m index t f t′ f′ Conflict tally = surveyed index m t′ f′
+tallyBy words m index t f t′ f′ Conflict tally = surveyed words index m t′ f′
 tallyBy words m index t f t′ f′ (Unit v positive) tally = tallyAfter words index t f (v % 32) positive tally
 tallyBy words m index t f t′ f′ (Choice v) tally = tallyAfter words index t f (v % 32) true tally
 

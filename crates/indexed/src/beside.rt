@@ -33,7 +33,7 @@ fn tally_after(
 {
     match rule {
         Rule::AllSatisfied => tally,
-        Rule::Conflict => tally::survey(index, rows, next_t, next_f),
+        Rule::Conflict => tally::survey(words, index, rows, next_t, next_f),
         Rule::Unit(variable, positive) => {
             tally::set_literal(words, index, t, f, variable, positive, tally)
         }
@@ -52,7 +52,7 @@ pub(crate) fn advance(words: &[u32; 768], rows: usize, index: &[u64; 384], held:
     let standing = run.standing;
     match standing {
         Standing::Open => {
-            let rule = tally::rule(words, index, run.t, run.f, tally);
+            let rule = tally::rule(index, run.t, run.f, tally);
             let next = rules::follow(run, rule);
             Held {
                 run: next,
@@ -86,7 +86,7 @@ pub(crate) fn run_to_close(
     ensures { λ r. ⌜ r ≡ answerOf n (always (rowsFrom (now (words .entry)) 0 rows)) budget ⌝ }
 {
     let run = Run::fresh(n);
-    let tally = tally::survey(index, rows, run.t, run.f);
+    let tally = tally::survey(words, index, rows, run.t, run.f);
     let mut held = Held { run, tally };
     let mut count = 0;
     while verdicts::goes_on(held.run, count, budget) {

@@ -123,8 +123,8 @@ fn count_unsatisfied(
     ensures { λ r. ⌜ r ≡ unsatisfiedRows (d .n) (rowsOf d (allTables (now (left .entry)) (now (right .entry)) (now (public .entry)))) t f ⌝ }
 {
     let mut index = [0u64; 384];
-    make_index(d, left, right, public, &mut index);
-    let tally = tally::survey(&index, d.rows(), t, f);
+    let words = make_index(d, left, right, public, &mut index);
+    let tally = tally::survey(&words, &index, d.rows(), t, f);
     tally.number
 }
 
@@ -177,7 +177,7 @@ fn step_rows(
     requires { ⌜ Indexed n (now words) rows (now sets) ⌝ }
     ensures { λ r. ⌜ r ≡ steppedOver n (rowsFrom (now (words .entry)) 0 rows) (now (index .entry)) run number ⌝ }
 {
-    let tally = tally::survey(sets, rows, run.t, run.f);
+    let tally = tally::survey(words, sets, rows, run.t, run.f);
     let exact = occurrences::same(index, sets);
     let outcome = check_kept(n, run, exact, number == tally.number as u64);
     match outcome {

@@ -1,90 +1,88 @@
 -- The law of `rule`: from exactly the tally at T and F, exactly the rule that applies. Rule by rule.
--- Assumes nothing.
 use mathlib.Core.Path.{_≡_, refl, sym, ap, ap₂, _∙_}
-use mathlib.Core.Bool.{Bool, true, false, not, _&&_, _||_, cond, true≢false, and-false}
+use mathlib.Core.Bool.{Bool, true, false, not, _&&_, _||_, and-comm}
 use mathlib.Core.List.{List, [], _∷_}
 use Prim.Native.Nat.{ℕ, _+_, _-_, _*_, _^_, _≤_, _<_}
 use native.Mathlib.Omega.{arith}
-use lib.Dec.{eqb, ltb}
-use lib.Bits.{bitAnd, bitOr, or-lt}
+use lib.Dec.{eqb}
+use lib.Bits.{bitOr, or-lt}
 use lib.ListN.{length, getD}
-use borrow.Author.Tests.{ltb-true, ltb-false}
-use Rattle.words.specs.Sets.{bit, any, lowest}
-use Rattle.words.proofs.Truth.{on, not-or, taut2, taut4, agree, agree-eq}
-use Rattle.words.proofs.Upto.{any-e, lowest-hit, lowest-cong}
-use Rattle.words.proofs.Last.{any-cong}
+use borrow.Author.Tests.{eqb-true, not-true, not-false}
+use Rattle.words.specs.Sets.{bit, any, count, lowest}
+use Rattle.words.proofs.Truth.{on, and-r, taut3, taut4, agree, agree-eq}
+use Rattle.words.proofs.Upto.{any-i, any-e, any-or, count-some, lowest-hit, lowest-cong}
+use Rattle.words.proofs.Last.{any-cong, any-false}
 use Rattle.words.proofs.Bits.{bit-or}
-use Rattle.words.proofs.Operations.{bit-and, bit-not}
+use Rattle.words.proofs.Operations.{any-word}
+use Rattle.words.proofs.WordOf.{bit-wordOf, wordOf-lt}
 use Rattle.tables.specs.declared.Row.{Row}
-use Rattle.tables.specs.Rows.{rowAt, rowsFrom, satisfied, free, holds, freeIn}
-use Rattle.scan.specs.declared.Rule.{Rule}
+use Rattle.tables.specs.Rows.{satisfied, free, holds, freeIn}
 use Rattle.scan.specs.declared.Rule.the-variants.{Unit, Choice}
-use Rattle.scan.specs.Rules.{allRows, anyRow, unsatisfiedWith, unitOr, choice, rule}
-use Rattle.occurrences.specs.Index.{at, wordAt, rowSet, literal, indexOf}
+use Rattle.scan.specs.Rules.{allRows, anyRow, unsatisfiedWith, forces, forcedVariable, forcedTrue, unitOr, choice, rule}
+use Rattle.scan.proofs.RowLaws.{any-row-or, any-row-and, any-row-cong}
+use Rattle.occurrences.specs.Index.{at, rowSet, literal, indexOf}
 use Rattle.occurrences.proofs.IndexLaws.{set-at, positive-at, negative-at}
-use Rattle.occurrences.proofs.SetLaws.{at-both, at-past, word-bit, rows-length}
+use Rattle.occurrences.proofs.SetLaws.{at-both, word-bit}
 use Rattle.tally.specs.declared.Tally.{Tally}
-use Rattle.tally.specs.Tallies.{unmet, unsatisfiedRows, tallyOf}
-use Rattle.tally.specs.Ruling.{firstRow, forcedBy, touches, standsIn, chosenBy, ruleBy}
+use Rattle.tally.specs.Tallies.{unmet, unsatisfiedRows, forcing, forcedWord, tallyOf}
+use Rattle.tally.specs.Ruling.{touches, standsIn, chosenBy, ruleBy}
 use Rattle.tally.proofs.Sums.{any-six, any-at, none-fails}
-use Rattle.tally.proofs.FirstRows.{lowest-low, first-row, empty, forcedIn, unit-by, row-of}
+use Rattle.tally.proofs.WordLaws.{unset-bit}
+use Rattle.tally.proofs.SettingRows.{with-variables}
 
-module _ (t f : ℕ) (ht : t < 2 ^ 32) (hf : f < 2 ^ 32) where
-  abbrev unset : ℕ
-  unset = 4294967295 - bitOr t f
-
-  unset-bit : (v : ℕ) → v < 32 → bit unset v ≡ free t f v
-  unset-bit v b = bit-not 32 (bitOr t f) v (or-lt 32 t f ht hf) b ∙ ap not (bit-or t f v) ∙ not-or (bit t v) (bit f v)
-
+module _ (rows : List Row) (t f : ℕ) where
   -- ---- rule 3
 
-  forced-row : (words : List ℕ) (i : ℕ) → forcedBy words unset i ≡ forcedIn 32 t f (rowAt words i)
-  forced-row words i =
-      let p = getD words (2 * i) 0 in
-      let q = getD words (2 * i + 1) 0 in
-      ap (λ (v : ℕ). Unit v (bit p v))
-      (lowest-cong (bit (bitAnd (bitOr p q) unset)) (λ v. freeIn (rowAt words i) t f v) 32
-      (λ v b. bit-and (bitOr p q) unset v ∙ ap₂ (λ (x y : Bool). x && y) (bit-or p q v) (unset-bit v b) ∙ agree-eq (taut2 (λ x y. agree (x && y) (y && x)) refl (bit p v || bit q v) (free t f v))))
+  -- the variables of the forced literals
+  abbrev forced : ℕ
+  forced = bitOr (forcedWord true rows t f) (forcedWord false rows t f)
 
-  -- the lowest row with one free literal
-  pub forced-by : (words : List ℕ) (m : ℕ) → m ≤ 384 → (other : Rule)
-      → (let first = firstRow (rowSet (unsatisfiedWith 1 32 t f) (rowsFrom words 0 m)) 0 in cond (ltb first 384) (forcedBy words unset first) other) ≡ unitOr 32 t f (rowsFrom words 0 m) other
-  forced-by words m few other =
-      ap (λ (x : ℕ). cond (ltb x 384) (forcedBy words unset x) other) (first-row p rows)
-      ∙ ap (λ (b : Bool). cond b (forcedBy words unset low) other) (lowest-low (at p rows) 384)
-      ∙ guarded (any (at p rows) 384) (forcedBy words unset low) (forcedIn 32 t f (getD rows low empty)) same
-      ∙ unit-by 32 t f rows 384 (omega (arith, rows-length words 0 m)) other
-    where
-      p : Row → Bool
-      p = unsatisfiedWith 1 32 t f
+  sign-bit : (sign : Bool) (v : ℕ) → v < 32 → bit (forcedWord sign rows t f) v ≡ anyRow (forcing sign 32 t f v) rows
+  sign-bit sign v b = bit-wordOf (λ v. anyRow (forcing sign 32 t f v) rows) 32 v b
 
-      rows : List Row
-      rows = rowsFrom words 0 m
+  forced-bit : (v : ℕ) → v < 32 → bit forced v ≡ anyRow (forces 32 t f v) rows
+  forced-bit v b =
+      bit-or (forcedWord true rows t f) (forcedWord false rows t f) v ∙ ap₂ (λ (x y : Bool). x || y) (sign-bit true v b) (sign-bit false v b)
+      ∙ any-row-or (forcing true 32 t f v) (forcing false 32 t f v) rows
+      ∙ any-row-cong _ _ rows
+      (λ r i. agree-eq (taut4 (λ c g p q. agree (((c && (g && (p || q))) && p) || ((c && (g && (p || q))) && q)) (c && (g && (p || q)))) refl
+      (unsatisfiedWith 1 32 t f r) (free t f v) (bit (r .positive) v) (bit (r .negative) v)))
 
-      low : ℕ
-      low = lowest (at p rows) 384
+  -- a row with one free literal forces some variable
+  forces-some : (r : Row) → any (λ v. forces 32 t f v r) 32 ≡ unsatisfiedWith 1 32 t f r
+  forces-some r =
+      on (unsatisfiedWith 1 32 t f r)
+      (λ e.
+      let c : count (λ v. freeIn r t f v) 32 ≡ 1 = eqb-true _ 1 (and-r (unmet 32 t f r) _ (sym (with-variables 32 1 t f r) ∙ e)) in
+      let x = count-some (λ v. freeIn r t f v) 32 (omega arith) in
+      rw e (any-i (λ v. freeIn r t f v) 32 (x .0) (x .1) (x .2)))
+      (λ e. rw e (any-false (λ v. false) 32 (λ v b. refl)))
 
-      -- the row is there
-      within : any (at p rows) 384 ≡ true → low < m
-      within e =
-          let x = any-e (at p rows) 384 e in
-          let h = lowest-hit (at p rows) 384 (x .0) (x .1) (x .2) in
-          on (ltb low m)
-          (λ l. ltb-true low m l)
-          (λ l. absurd (true≢false (sym (h .1) ∙ at-past p rows low (omega (arith, ltb-false low m l, rows-length words 0 m)))))
+  some-forced : (rs : List Row) → any (λ v. anyRow (forces 32 t f v) rs) 32 ≡ anyRow (unsatisfiedWith 1 32 t f) rs
+  unfolding anyRow
+  some-forced [] = any-false (λ v. false) 32 (λ v b. refl)
+  some-forced (r ∷ rs) =
+      any-or (λ v. forces 32 t f v r) (λ v. anyRow (forces 32 t f v) rs) 32 ∙ ap₂ (λ (x y : Bool). x || y) (forces-some r) (some-forced rs)
 
-      same : any (at p rows) 384 ≡ true → forcedBy words unset low ≡ forcedIn 32 t f (getD rows low empty)
-      same e =
-          let z : low ≡ 0 + low = omega arith in
-          forced-row words low ∙ ap (λ (k : ℕ). forcedIn 32 t f (rowAt words k)) z ∙ ap (forcedIn 32 t f) (sym (row-of words m 0 low empty (within e)))
+  none-forced : not (eqb forced 0) ≡ anyRow (unsatisfiedWith 1 32 t f) rows
+  none-forced =
+      sym (any-word 32 forced (or-lt 32 _ _ (wordOf-lt _ 32) (wordOf-lt _ 32)))
+      ∙ any-cong (bit forced) (λ v. anyRow (forces 32 t f v) rows) 32 forced-bit ∙ some-forced rows
 
-      guarded : (b : Bool) (r q : Rule) → (b ≡ true → r ≡ q) → cond b r other ≡ cond b q other
-      guarded true r q h = h refl
-      guarded false r q h = refl
+  -- the lowest variable, in the sign that is taken
+  forced-is : anyRow (unsatisfiedWith 1 32 t f) rows ≡ true
+      → Unit (lowest (bit forced) 32) (bit (forcedWord true rows t f) (lowest (bit forced) 32))
+      ≡ Unit (forcedVariable 32 rows t f) (forcedTrue 32 rows t f (forcedVariable 32 rows t f))
+  unfolding forcedVariable forcedTrue
+  forced-is e =
+      let some = any-e (λ v. anyRow (forces 32 t f v) rows) 32 (some-forced rows ∙ e) in
+      let hit = lowest-hit (λ v. anyRow (forces 32 t f v) rows) 32 (some .0) (some .1) (some .2) in
+      ap (λ (v : ℕ). Unit v (bit (forcedWord true rows t f) v)) (lowest-cong (bit forced) (λ v. anyRow (forces 32 t f v) rows) 32 forced-bit)
+      ∙ ap (Unit (forcedVariable 32 rows t f)) (sign-bit true (forcedVariable 32 rows t f) (hit .0))
 
   -- ---- rule 4
 
-  module _ (rows : List Row) (few : length rows ≤ 384) where
+  module _ (few : length rows ≤ 384) (t-low : t < 2 ^ 32) (f-low : f < 2 ^ 32) where
     -- the row is unsatisfied and holds the variable
     abbrev touch : ℕ → Row → Bool
     touch v r = not (satisfied 32 r t f) && holds r v
@@ -109,35 +107,28 @@ module _ (t f : ℕ) (ht : t < 2 ^ 32) (hf : f < 2 ^ 32) where
         ∙ any-six (at (touch v) rows) ∙ any-at (touch v) rows 384 few
 
     -- where the variable is free, that is a free literal of an unsatisfied row
-    pull : (v : ℕ) (rs : List Row) → free t f v && anyRow (touch v) rs ≡ anyRow (λ r. not (satisfied 32 r t f) && freeIn r t f v) rs
-    unfolding anyRow
-    pull v [] = and-false (free t f v)
-    pull v (r ∷ rs) =
-        shuffle (free t f v) (not (satisfied 32 r t f)) (holds r v) (anyRow (touch v) rs)
-        ∙ ap (λ (b : Bool). (not (satisfied 32 r t f) && freeIn r t f v) || b) (pull v rs)
-      where
-        shuffle : (a x y z : Bool) → a && ((x && y) || z) ≡ (x && (a && y)) || (a && z)
-        shuffle a x y z = agree-eq (taut4 (λ a x y z. agree (a && ((x && y) || z)) ((x && (a && y)) || (a && z))) refl a x y z)
+    free-touch : (v : ℕ) → free t f v && anyRow (touch v) rows ≡ anyRow (λ r. not (satisfied 32 r t f) && freeIn r t f v) rows
+    free-touch v =
+        and-comm (free t f v) (anyRow (touch v) rows) ∙ any-row-and (free t f v) (touch v) rows
+        ∙ any-row-cong _ _ rows
+        (λ r i. agree-eq (taut3 (λ s h g. agree ((s && h) && g) (s && (g && h))) refl (not (satisfied 32 r t f)) (holds r v) (free t f v)))
 
     -- the lowest free variable in an unsatisfied row
-    pub chosen-by : chosenBy (indexOf rows) unset (rowSet (unmet 32 t f) rows) ≡ choice 32 rows t f
+    chosen-is : chosenBy (indexOf rows) (4294967295 - bitOr t f) (rowSet (unmet 32 t f) rows) ≡ choice 32 rows t f
     unfolding choice
-    chosen-by = lowest-cong _ _ 32 (λ v b. ap₂ (λ (x y : Bool). x && y) (unset-bit v b) (stands-is v b) ∙ pull v rows)
+    chosen-is = lowest-cong _ _ 32 (λ v b. ap₂ (λ (x y : Bool). x && y) (unset-bit t f t-low f-low v b) (stands-is v b) ∙ free-touch v)
 
-  -- ---- the first rule that applies
+    -- ---- the first rule that applies
 
-  pub after-rule : (words : List ℕ) (m : ℕ) (index : List ℕ) (tally : Tally) → m ≤ 384 → index ≡ indexOf (rowsFrom words 0 m) → tally ≡ tallyOf (rowsFrom words 0 m) t f
-      → ruleBy words index t f tally ≡ rule 32 (rowsFrom words 0 m) t f
-  unfolding ruleBy rule tallyOf unsatisfiedRows
-  after-rule words m index tally few e q =
-      ap₂ (λ (x : List ℕ) (y : Tally). ruleBy words x t f y) e q
-      ∙ on (allRows (λ r. satisfied 32 r t f) rows)
-      (λ s. rw (none-fails (λ r. satisfied 32 r t f) rows ∙ s) (rw (s, rule)))
-      (λ s. rw (none-fails (λ r. satisfied 32 r t f) rows ∙ s) (rw (s, rule)
-      (on (anyRow (unsatisfiedWith 0 32 t f) rows)
-      (λ c. rw c)
-      (λ c. rw c (forced-by words m few (Choice (chosenBy (indexOf rows) unset (rowSet (unmet 32 t f) rows)))
-      ∙ ap (λ (v : ℕ). unitOr 32 t f rows (Choice v)) (chosen-by rows (omega (arith, rows-length words 0 m))))))))
-    where
-      rows : List Row
-      rows = rowsFrom words 0 m
+    pub after-rule : (index : List ℕ) (tally : Tally) → index ≡ indexOf rows → tally ≡ tallyOf rows t f → ruleBy index t f tally ≡ rule 32 rows t f
+    unfolding ruleBy rule unitOr tallyOf unsatisfiedRows
+    after-rule index tally e q =
+        ap₂ (λ (x : List ℕ) (y : Tally). ruleBy x t f y) e q
+        ∙ on (allRows (λ r. satisfied 32 r t f) rows)
+        (λ s. rw (none-fails (λ r. satisfied 32 r t f) rows ∙ s) (rw (s, rule)))
+        (λ s. rw (none-fails (λ r. satisfied 32 r t f) rows ∙ s) (rw (s, rule)
+        (on (anyRow (unsatisfiedWith 0 32 t f) rows)
+        (λ c. rw c)
+        (λ c. rw c (on (anyRow (unsatisfiedWith 1 32 t f) rows)
+        (λ u. rw (not-true (eqb forced 0) (none-forced ∙ u)) (rw (u, unitOr) (forced-is u)))
+        (λ u. rw (not-false (eqb forced 0) (none-forced ∙ u)) (rw (u, unitOr) (ap Choice chosen-is))))))))

@@ -1,114 +1,133 @@
--- The law of `survey`: from the rows' index, exactly their tally at T and F. Row by row.
--- Assumes nothing.
-use mathlib.Core.Path.{_≡_, refl, sym, ap, ap₂, _∙_}
-use mathlib.Core.Bool.{Bool, true, false, not, _&&_, _||_}
+-- The law of `survey`: from the rows and their index, exactly their tally at T and F. Row by row.
+use mathlib.Core.Path.{_≡_, refl, sym, ap, _∙_}
+use mathlib.Core.Bool.{Bool, true, false, not, _&&_, _||_, and-false, and-true}
 use mathlib.Core.List.{List}
-use Prim.Native.Nat.{ℕ, _+_, _*_, _≤_, _<_}
+use Prim.Native.Nat.{ℕ, _+_, _-_, _*_, _^_, _≤_, _<_}
 use native.Mathlib.Omega.{arith}
 use lib.Dec.{eqb, leb, ltb}
-use lib.ListN.{length, getD}
-use borrow.Author.Tests.{ltb-true, ltb-false}
+use lib.Bits.{bitAnd, bitOr}
+use lib.ListN.{getD}
+use borrow.Author.Tests.{eqb-true, ltb-true, ltb-false, lt-leb}
 use Rattle.words.specs.Sets.{bit, any, count, wordOf}
-use Rattle.words.proofs.Truth.{on}
+use Rattle.words.proofs.Truth.{on, taut4, agree, agree-eq}
 use Rattle.words.proofs.Upto.{count-cong}
 use Rattle.words.proofs.Last.{any-cong}
-use Rattle.words.proofs.WordOf.{bit-wordOf, wordOf-cong}
+use Rattle.words.proofs.Bits.{bit-zero}
+use Rattle.words.proofs.Operations.{and-lt-left}
+use Rattle.words.proofs.WordOf.{bit-wordOf, wordOf-lt}
 use Rattle.tables.specs.declared.Row.{Row}
-use Rattle.tables.specs.Rows.{satisfied, free, freeIn}
+use Rattle.tables.specs.Rows.{rowAt, rowsFrom, satisfied, freeIn}
 use Rattle.tables.proofs.Rows.{satisfies, satisfied-any}
-use Rattle.scan.specs.Rules.{unsatisfiedWith}
-use Rattle.occurrences.specs.Index.{at, wordAt, literal, indexOf}
-use Rattle.occurrences.proofs.IndexLaws.{positive-at, negative-at}
-use Rattle.occurrences.proofs.SetLaws.{at-past, at-row, word-bit}
-use Rattle.tally.specs.Tallies.{unmet, tallyOf}
-use Rattle.tally.specs.Surveys.{metBy, freeBy, seenIn, partOf, surveyed}
-use Rattle.tally.proofs.ExactParts.{exactPart, parts-exact}
-use Rattle.tally.proofs.SettingRows.{with-variables}
-use Rattle.tally.proofs.FirstRows.{empty}
-use Rattle.tally.proofs.Counting.{exactly-one, exactly-none}
+use Rattle.scan.specs.Rules.{anyRow, unsatisfiedWith}
+use Rattle.scan.proofs.RowLaws.{any-row-cong}
+use Rattle.occurrences.specs.Index.{at, wordAt, rowSet, literal, indexOf}
+use Rattle.occurrences.proofs.IndexLaws.{set-at, positive-at, negative-at}
+use Rattle.occurrences.proofs.SetLaws.{at-past, at-words, word-bit, rows-length}
+use Rattle.tally.specs.Tallies.{unmet, forcing, tallyOf}
+use Rattle.tally.specs.Surveys.{metBy, freeBy, seenIn, allSeen, unmetBy, fewBy, surveyed}
+use Rattle.tally.proofs.WordLaws.{word-is, bit-without, six-cong, unset-bit}
+use Rattle.tally.proofs.SettingRows.{freeAre, onlyFree, with-variables}
+use Rattle.tally.proofs.ExactTally.{gathered-exact}
 
-module _ (rows : List Row) (t f w : ℕ) (h : w < 6) where
+module _ (words : List ℕ) (m t f : ℕ) where
+  abbrev rows : List Row
+  rows = rowsFrom words 0 m
+
   abbrev index : List ℕ
   index = indexOf rows
 
-  -- the row of number 64 w + j is there
-  module _ (j : ℕ) (c : j < 64) (low : 64 * w + j < length rows) where
-    abbrev r : Row
-    r = getD rows (64 * w + j) empty
-
-    positive-bit : (v : ℕ) → v < 32 → bit (getD index (6 * v + w) 0) j ≡ bit (r .positive) v
-    positive-bit v b = ap (λ (x : ℕ). bit x j) (positive-at rows v w b h) ∙ word-bit (literal true v) rows w j c ∙ at-row (literal true v) empty rows (64 * w + j) low
-
-    negative-bit : (v : ℕ) → v < 32 → bit (getD index (6 * (32 + v) + w) 0) j ≡ bit (r .negative) v
-    negative-bit v b = ap (λ (x : ℕ). bit x j) (negative-at rows v w b h) ∙ word-bit (literal false v) rows w j c ∙ at-row (literal false v) empty rows (64 * w + j) low
-
-    met-is : any (metBy index t f w j) 32 ≡ satisfied 32 r t f
-    met-is = any-cong (metBy index t f w j) (λ v. satisfies r t f v) 32 (λ v b. rw (positive-bit v b, negative-bit v b)) ∙ sym (satisfied-any 32 r t f)
-
-    free-is : count (freeBy index t f w j) 32 ≡ count (λ v. freeIn r t f v) 32
-    free-is = count-cong (freeBy index t f w j) (λ v. freeIn r t f v) 32 (λ v b. rw (positive-bit v b, negative-bit v b))
+  -- an unsatisfied row with at most one free variable
+  abbrev few : Row → Bool
+  few r = unmet 32 t f r && not (leb 2 (count (λ v. freeIn r t f v) 32))
 
   -- ---- one row
 
-  module _ (j : ℕ) (c : j < 64) where
+  module _ (w j : ℕ) (h : w < 6) (c : j < 64) where
     abbrev i : ℕ
     i = 64 * w + j
 
-    abbrev m : ℕ
-    m = length rows
+    abbrev r : Row
+    r = rowAt words (0 + i)
 
-    abbrev met : Bool
-    met = any (metBy index t f w j) 32
+    past : ltb i m ≡ false → (p : Row → Bool) → at p rows i ≡ false
+    past e p = at-past p rows i (omega (arith, ltb-false i m e, rows-length words 0 m))
 
-    abbrev variables : ℕ
-    variables = count (freeBy index t f w j) 32
+    -- the row is there
+    module _ (e : ltb i m ≡ true) where
+      here : (p : Row → Bool) → at p rows i ≡ p r
+      here p = at-words p words 0 m i (ltb-true i m e)
 
-    unmet-row : ltb i m && not met ≡ at (unmet 32 t f) rows i
-    unmet-row =
-        on (ltb i m)
-        (λ e. rw e (ap not (met-is j c (ltb-true i m e)) ∙ sym (at-row (unmet 32 t f) empty rows i (ltb-true i m e))))
-        (λ e. rw e (sym (at-past (unmet 32 t f) rows i (ltb-false i m e))))
+      positive-bit : (v : ℕ) → v < 32 → bit (getD index (6 * v + w) 0) j ≡ bit (r .positive) v
+      positive-bit v b = ap (λ (x : ℕ). bit x j) (positive-at rows v w b h) ∙ word-bit (literal true v) rows w j c ∙ here (literal true v)
 
-    with-row : (k : ℕ) → (ltb i m && not met) && eqb variables k ≡ at (unsatisfiedWith k 32 t f) rows i
-    with-row k =
-        on (ltb i m)
-        (λ e.
-        let l = ltb-true i m e in
-        rw e (ap₂ (λ (x : Bool) (n : ℕ). not x && eqb n k) (met-is j c l) (free-is j c l) ∙ sym (at-row (unsatisfiedWith k 32 t f) empty rows i l ∙ with-variables 32 k t f (r j c l))))
-        (λ e. rw e (sym (at-past (unsatisfiedWith k 32 t f) rows i (ltb-false i m e))))
+      negative-bit : (v : ℕ) → v < 32 → bit (getD index (6 * (32 + v) + w) 0) j ≡ bit (r .negative) v
+      negative-bit v b = ap (λ (x : ℕ). bit x j) (negative-at rows v w b h) ∙ word-bit (literal false v) rows w j c ∙ here (literal false v)
 
-    met-bit : bit (seenIn index t f 32 w .met) j ≡ met
-    met-bit = bit-wordOf (λ j. any (metBy index t f w j) 32) 64 j c
+      met-is : bit (seenIn index t f 32 w .met) j ≡ satisfied 32 r t f
+      met-is =
+          bit-wordOf (λ j. any (metBy index t f w j) 32) 64 j c
+          ∙ any-cong (metBy index t f w j) (λ v. satisfies r t f v) 32 (λ v b. rw (positive-bit v b, negative-bit v b)) ∙ sym (satisfied-any 32 r t f)
 
-    one-bit : bit (seenIn index t f 32 w .one) j ≡ any (freeBy index t f w j) 32
-    one-bit = bit-wordOf (λ j. any (freeBy index t f w j) 32) 64 j c
-
-    two-bit : bit (seenIn index t f 32 w .two) j ≡ leb 2 variables
-    two-bit = bit-wordOf (λ j. leb 2 (count (freeBy index t f w j) 32)) 64 j c
+      two-is : bit (seenIn index t f 32 w .two) j ≡ leb 2 (count (λ v. freeIn r t f v) 32)
+      two-is =
+          bit-wordOf (λ j. leb 2 (count (freeBy index t f w j) 32)) 64 j c
+          ∙ ap (leb 2) (count-cong (freeBy index t f w j) (λ v. freeIn r t f v) 32 (λ v b. rw (positive-bit v b, negative-bit v b)))
 
     unmet-bit : ltb i m && not (bit (seenIn index t f 32 w .met) j) ≡ at (unmet 32 t f) rows i
-    unmet-bit = ap (λ (x : Bool). ltb i m && not x) met-bit ∙ unmet-row
+    unmet-bit = on (ltb i m) (λ e. rw e (ap not (met-is e) ∙ sym (here e (unmet 32 t f)))) (λ e. rw e (sym (past e (unmet 32 t f))))
 
-    unit-bit : ltb i m && not (bit (seenIn index t f 32 w .met) j) && bit (seenIn index t f 32 w .one) j && not (bit (seenIn index t f 32 w .two) j) ≡ at (unsatisfiedWith 1 32 t f) rows i
-    unit-bit =
-        rw (met-bit, one-bit, two-bit)
-        (assoc (ltb i m && not met) (any (freeBy index t f w j) 32) (not (leb 2 variables)) ∙ ap (λ (x : Bool). (ltb i m && not met) && x) (exactly-one (freeBy index t f w j) 32) ∙ with-row 1)
-      where
-        assoc : (x y z : Bool) → (x && y) && z ≡ x && (y && z)
-        assoc true y z = refl
-        assoc false y z = refl
+    few-bit : bit (getD (rowSet (unmet 32 t f) rows) w 0) j && not (bit (seenIn index t f 32 w .two) j) ≡ at few rows i
+    few-bit =
+        ap (λ (x : Bool). x && not (bit (seenIn index t f 32 w .two) j))
+        (ap (λ (x : ℕ). bit x j) (set-at rows (unmet 32 t f) w h) ∙ word-bit (unmet 32 t f) rows w j c)
+        ∙ on (ltb i m)
+        (λ e. rw (here e (unmet 32 t f), here e few) (ap (λ (x : Bool). unmet 32 t f r && not x) (two-is e)))
+        (λ e. rw (past e (unmet 32 t f), past e few))
 
-    conflict-bit : ltb i m && not (bit (seenIn index t f 32 w .met) j) && not (bit (seenIn index t f 32 w .one) j) ≡ at (unsatisfiedWith 0 32 t f) rows i
-    conflict-bit = rw (met-bit, one-bit) (ap (λ (x : Bool). (ltb i m && not met) && x) (exactly-none (freeBy index t f w j) 32) ∙ with-row 0)
+  -- ---- all rows
 
-  -- ---- 64 rows
+  low : (p : ℕ → Bool) → wordOf p 64 < 2 ^ 64
+  low p = wordOf-lt p 64
 
-  word : partOf (length rows) w (seenIn (indexOf rows) t f 32 w) ≡ exactPart rows t f w
-  word = λ k. record { unsatisfied = wordOf-cong _ _ 64 unmet-bit k; unit = wordOf-cong _ _ 64 unit-bit k; conflict = any-cong _ _ 64 conflict-bit k }
+  unmet-set : unmetBy m (allSeen index t f 32) ≡ rowSet (unmet 32 t f) rows
+  unmet-set =
+      six-cong (λ w. bitAnd (wordOf (λ j. ltb (64 * w + j) m) 64) (18446744073709551615 - seenIn index t f 32 w .met)) (wordAt (unmet 32 t f) rows)
+      (λ w h. word-is _ _ (and-lt-left 64 _ _ (low _))
+      (λ j c. bit-without _ _ j (low _) c
+      ∙ ap (λ (x : Bool). x && not (bit (seenIn index t f 32 w .met) j)) (bit-wordOf (λ j. ltb (64 * w + j) m) 64 j c) ∙ unmet-bit w j h c))
+
+  few-set : fewBy (rowSet (unmet 32 t f) rows) (allSeen index t f 32) ≡ rowSet few rows
+  few-set =
+      six-cong (λ w. bitAnd (getD (rowSet (unmet 32 t f) rows) w 0) (18446744073709551615 - seenIn index t f 32 w .two)) (wordAt few rows)
+      (λ w h. word-is _ _
+      (and-lt-left 64 (getD (rowSet (unmet 32 t f) rows) w 0) _ (rw (set-at rows (unmet 32 t f) w h) (low (λ j. at (unmet 32 t f) rows (64 * w + j)))))
+      (λ j c. bit-without _ _ j (low _) c ∙ few-bit w j h c))
+
+  -- none or one is at most one
+  few-are : (k : ℕ) → k < 2 → (r : Row) → few r && freeAre k 32 t f r ≡ unsatisfiedWith k 32 t f r
+  few-are k l r = by (count (λ v. freeIn r t f v) 32) ∙ sym (with-variables 32 k t f r)
+    where
+      by : (n : ℕ) → (unmet 32 t f r && not (leb 2 n)) && eqb n k ≡ unmet 32 t f r && eqb n k
+      by n =
+          on (eqb n k)
+          (λ e. ap (λ (x : Bool). (unmet 32 t f r && not x) && eqb n k) (lt-leb 2 n (omega (arith, l, eqb-true n k e)))
+          ∙ ap (λ (x : Bool). x && eqb n k) (and-true (unmet 32 t f r)))
+          (λ e. rw e (and-false (unmet 32 t f r && not (leb 2 n)) ∙ sym (and-false (unmet 32 t f r))))
+
+  one : (sign : Bool) (v : ℕ) → v < 32 → bit 0 v || anyRow (λ r. few r && onlyFree sign 32 t f v r) rows ≡ anyRow (forcing sign 32 t f v) rows
+  one sign v b =
+      ap (λ (x : Bool). x || anyRow (λ r. few r && onlyFree sign 32 t f v r) rows) (bit-zero v)
+      ∙ any-row-cong _ _ rows
+      (λ r i. agree-eq (taut4 (λ a k l d. agree (a && (k && (l && d))) (((a && k) && d) && l)) refl
+      (few r) (freeAre 1 32 t f r) (literal sign v r) (freeIn r t f v))
+      ∙ ap (λ (x : Bool). (x && freeIn r t f v) && literal sign v r) (few-are 1 (omega arith) r))
 
 -- for any T and F
-pub after-survey : (index : List ℕ) (rows : List Row) (count t f : ℕ) → index ≡ indexOf rows → count ≡ length rows → length rows ≤ 384 → surveyed index count t f ≡ tallyOf rows t f
+pub after-survey : (words : List ℕ) (m : ℕ) (index : List ℕ) (t f : ℕ) → m ≤ 384 → index ≡ indexOf (rowsFrom words 0 m) → t < 2 ^ 32 → f < 2 ^ 32
+    → surveyed words index m t f ≡ tallyOf (rowsFrom words 0 m) t f
 unfolding surveyed
-after-survey index rows count t f e q few =
-    ap₂ (λ (x : List ℕ) (n : ℕ). surveyed x n t f) e q
-    ∙ parts-exact rows few t f (λ w. partOf (length rows) w (seenIn (indexOf rows) t f 32 w)) (word rows t f)
+after-survey words m index t f less e ht hf =
+    ap (λ (x : List ℕ). surveyed words x m t f) e
+    ∙ gathered-exact words m less t f (4294967295 - bitOr t f) (unset-bit t f ht hf) (few words m t f) (λ s. 0) _ _ (unmet-set words m t f)
+    (ap (λ (x : List ℕ). fewBy x (allSeen (indexOf (rowsFrom words 0 m)) t f 32)) (unmet-set words m t f) ∙ few-set words m t f)
+    (any-row-cong _ _ (rowsFrom words 0 m) (λ r i. few-are words m t f 0 (omega arith) r)) (one words m t f)

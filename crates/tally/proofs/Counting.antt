@@ -1,6 +1,6 @@
--- Counting up to two in two sets: for each variable x in turn, `two = two | (one & x)` and `one = one | x`. In the end `one & !two` are the rows with exactly one.
+-- Counting up to two in two sets: for each variable x in turn, `two = two | (one & x)` and `one = one | x`. In the end `!two` are the rows with at most one.
 -- Assumes nothing.
-use mathlib.Core.Path.{_≡_, refl, sym, ap, _∙_}
+use mathlib.Core.Path.{_≡_, sym, ap, _∙_}
 use mathlib.Core.Bool.{Bool, true, false, not, _&&_, _||_, and-false}
 use Prim.Native.Nat.{ℕ, suc, _+_, _<_}
 use native.Mathlib.Omega.{arith}
@@ -41,19 +41,7 @@ module _ (b : ℕ → Bool) where
           (λ e. rw e (le-leb 2 (0 + c) (omega (arith, leb-true 2 c e))))
           (λ e. rw e (lt-leb 2 (0 + c) (omega (arith, leb-false 2 c e)) ∙ sym (and-false (leb 1 c))))
 
-  -- exactly one
-  pub exactly-one : (k : ℕ) → any b k && not (leb 2 (count b k)) ≡ eqb (count b k) 1
-  exactly-one k = ap (λ (x : Bool). x && not (leb 2 (count b k))) (some-count k) ∙ by (count b k)
-    where
-      by : (c : ℕ) → leb 1 c && not (leb 2 c) ≡ eqb c 1
-      by c =
-          on (leb 1 c)
-          (λ e. on (leb 2 c)
-          (λ h. rw (e, h) (sym (ne-eqb c 1 (λ z. omega (arith, leb-true 2 c h)))))
-          (λ h. rw (e, h) (sym (eq-eqb c 1 (omega (arith, leb-true 1 c e, leb-false 2 c h))))))
-          (λ e. rw e (sym (ne-eqb c 1 (λ z. omega (arith, leb-false 1 c e)))))
-
-  -- and none
+  -- none
   pub exactly-none : (k : ℕ) → not (any b k) ≡ eqb (count b k) 0
   exactly-none k = ap not (some-count k) ∙ by (count b k)
     where

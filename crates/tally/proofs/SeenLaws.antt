@@ -1,31 +1,28 @@
 -- What is seen of 64 rows, as code has it: operations on words, bit by bit; one more variable; what all variables show.
--- Assumes nothing.
 use mathlib.Core.Path.{_≡_, refl, sym, ap, ap₂, _∙_}
 use mathlib.Core.Bool.{Bool, true, false, not, _&&_, _||_, or-false, and-false}
-use mathlib.Core.List.{List}
+use mathlib.Core.List.{List, [], _∷_}
 use Prim.Native.Nat.{ℕ, suc, _+_, _-_, _*_, _%_, _^_, _≤_, _<_}
 use native.Mathlib.Nat.{one-mul}
 use native.Mathlib.Numerals.{add-one}
 use native.Mathlib.Omega.{arith}
-use lib.Dec.{eqb, leb, ltb, lit<}
+use lib.Dec.{leb, ltb, lit<}
 use lib.Bits.{bitAnd, bitOr, or-lt}
 use lib.Pow.{pow-pos, pow-lt, shl-exact}
-use lib.ListN.{getD}
 use borrow.Author.Tests.{lt-ltb, le-ltb, ltb-true, ltb-false}
 use Rattle.words.specs.Sets.{bit, any, count, wordOf}
 use Rattle.words.proofs.Truth.{on, taut2, taut3, agree, agree-eq}
-use Rattle.words.proofs.Last.{any-last, any-cong}
+use Rattle.words.proofs.Last.{any-last}
 use Rattle.words.proofs.Bits.{bit-or, bit-zero}
 use Rattle.words.proofs.Operations.{bit-and, bit-not, bit-high, and-lt-left}
 use Rattle.words.proofs.WordOf.{bit-wordOf, wordOf-bit, wordOf-cong, wordOf-lt}
 use Rattle.tables.specs.Rows.{free}
-use Rattle.tally.specs.declared.rows.Part.{Part}
+use Rattle.tally.specs.declared.Tally.{Tally}
 use Rattle.tally.specs.declared.surveying.Seen.{Seen}
 use Rattle.tally.specs.declared.surveying.AllSeen.{AllSeen}
-use Rattle.tally.specs.Surveys.{metWith, freeWith, listed, wordMet, wordFree, allWith, metBy, freeBy, seenIn, allSeen, partOf, surveyed}
+use Rattle.tally.specs.Surveys.{metWith, freeWith, listed, wordMet, wordFree, allWith, metBy, freeBy, seenIn, allSeen, unmetBy, fewBy, surveyed}
 use Rattle.tally.specs.Words.{gathered}
-use Rattle.tally.proofs.PartsAfter.{word-is, some-is, bit-without}
-use Rattle.tally.proofs.Gathering.{parts-are}
+use Rattle.tally.proofs.WordLaws.{word-is}
 use Rattle.tally.proofs.Counting.{two-more}
 
 ones-bit : (k j : ℕ) → j < k → bit (2 ^ k - 1) j ≡ true
@@ -181,37 +178,21 @@ module _ (count w : ℕ) where
       (λ q. ones-bit k j (omega (arith, ltb-true (64 * w + j) count q)) ∙ sym q)
       (λ q. bit-high k (2 ^ k - 1) j (omega (arith, pow-pos k)) (omega (arith, ltb-false (64 * w + j) count q)) ∙ sym q))
 
-  -- 64 rows from what all variables show of them
-  pub part-of-is : (s : Seen) (x : ℕ) → s .met < 2 ^ 64 → s .one < 2 ^ 64 → s .two < 2 ^ 64 → x ≡ wordOf low 64
-      → _≡_ {A = Part} (record {
-        unsatisfied = bitAnd x (18446744073709551615 - s .met);
-        unit = bitAnd (bitAnd (bitAnd x (18446744073709551615 - s .met)) (s .one)) (18446744073709551615 - s .two);
-        conflict = not (eqb (bitAnd (bitAnd x (18446744073709551615 - s .met)) (18446744073709551615 - s .one)) 0);
-      }) (partOf count w s)
-  part-of-is s x hm ho hw e =
-      λ i. record {
-        unsatisfied = word-is u _ u-low u-bit i;
-        unit = word-is (bitAnd (bitAnd u (s .one)) (18446744073709551615 - s .two)) _ (and-lt-left 64 _ _ (and-lt-left 64 u _ u-low))
-            (λ j c. bit-without (bitAnd u (s .one)) (s .two) j hw c ∙ ap (λ (z : Bool). z && not (bit (s .two) j)) (bit-and u (s .one) j ∙ ap (λ (z : Bool). z && bit (s .one) j) (u-bit j c))) i;
-        conflict = some-is (bitAnd u (18446744073709551615 - s .one)) _ (and-lt-left 64 u _ u-low)
-            (λ j c. bit-without u (s .one) j ho c ∙ ap (λ (z : Bool). z && not (bit (s .one) j)) (u-bit j c)) i;
-      }
-    where
-      u : ℕ
-      u = bitAnd x (18446744073709551615 - s .met)
+-- ---- all rows
 
-      u-low : u < 2 ^ 64
-      u-low = and-lt-left 64 x _ (rw e (wordOf-lt low 64))
+-- those that no variable satisfies, from those below the count
+pub unmet-is : (rows : ℕ) (s : AllSeen) {a b c d e g : ℕ}
+    → a ≡ wordOf (low rows 0) 64 → b ≡ wordOf (low rows 1) 64 → c ≡ wordOf (low rows 2) 64
+    → d ≡ wordOf (low rows 3) 64 → e ≡ wordOf (low rows 4) 64 → g ≡ wordOf (low rows 5) 64
+    → bitAnd a (18446744073709551615 - s .a .met) ∷ (bitAnd b (18446744073709551615 - s .b .met) ∷ (bitAnd c (18446744073709551615 - s .c .met)
+    ∷ (bitAnd d (18446744073709551615 - s .d .met) ∷ (bitAnd e (18446744073709551615 - s .e .met) ∷ (bitAnd g (18446744073709551615 - s .f .met) ∷ [])))))
+    ≡ unmetBy rows s
+unmet-is rows s p q r t u o = cc
 
-      u-bit : (j : ℕ) → j < 64 → bit u j ≡ low j && not (bit (s .met) j)
-      u-bit j c = bit-without x (s .met) j hm c ∙ ap (λ (z : Bool). z && not (bit (s .met) j)) (ap (λ (y : ℕ). bit y j) e ∙ bit-wordOf low 64 j c)
-
--- all 384 rows
-pub survey-is : (index : List ℕ) (n t f : ℕ) (s : AllSeen) → s ≡ allSeen index t f 32 → {a b c d e g : Part}
-    → a ≡ partOf n 0 (s .a) → b ≡ partOf n 1 (s .b) → c ≡ partOf n 2 (s .c) → d ≡ partOf n 3 (s .d) → e ≡ partOf n 4 (s .e) → g ≡ partOf n 5 (s .f)
-    → gathered a b c d e g ≡ surveyed index n t f
+pub survey-is : (words index : List ℕ) (n t f : ℕ) (seen : AllSeen) (unsatisfied few : List ℕ) (r : Tally)
+    → seen ≡ allSeen index t f 32 → unsatisfied ≡ unmetBy n seen → few ≡ fewBy unsatisfied seen
+    → r ≡ gathered words (4294967295 - bitOr t f) 0 0 unsatisfied few → r ≡ surveyed words index n t f
 unfolding surveyed
-survey-is index n t f s h p q r u v o =
-    parts-are (λ w. partOf n w (seenIn index t f 32 w))
-    (p ∙ ap (λ (x : AllSeen). partOf n 0 (x .a)) h) (q ∙ ap (λ (x : AllSeen). partOf n 1 (x .b)) h) (r ∙ ap (λ (x : AllSeen). partOf n 2 (x .c)) h)
-    (u ∙ ap (λ (x : AllSeen). partOf n 3 (x .d)) h) (v ∙ ap (λ (x : AllSeen). partOf n 4 (x .e)) h) (o ∙ ap (λ (x : AllSeen). partOf n 5 (x .f)) h)
+survey-is words index n t f seen unsatisfied few r e p q h =
+    let unmet : unsatisfied ≡ unmetBy n (allSeen index t f 32) = p ∙ ap (unmetBy n) e in
+    h ∙ ap₂ (gathered words (4294967295 - bitOr t f) 0 0) unmet (q ∙ ap₂ fewBy unmet e)

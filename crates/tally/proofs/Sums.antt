@@ -11,7 +11,7 @@ use lib.ListN.{length}
 use borrow.Author.Tests.{ne-eqb}
 use Rattle.words.specs.Booleans.{digit}
 use Rattle.words.specs.Sets.{any, count}
-use Rattle.words.proofs.Truth.{on, or-l, or-r}
+use Rattle.words.proofs.Truth.{on}
 use Rattle.words.proofs.Last.{any-last, count-last, any-false}
 use Rattle.tables.specs.declared.Row.{Row}
 use Rattle.scan.specs.Rules.{allRows, anyRow}
@@ -94,10 +94,3 @@ module _ (p : Row → Bool) where
     where
       plain : (k : ℕ) → 0 + k ≡ k
       plain k = omega arith
-
-  -- no row passes, so none of any number does
-  pub none-at : (rows : List Row) → anyRow p rows ≡ false → (i : ℕ) → at p rows i ≡ false
-  unfolding at anyRow
-  none-at [] e i = refl
-  none-at (x ∷ xs) e zero = or-l (p x) (anyRow p xs) e
-  none-at (x ∷ xs) e (suc i) = none-at xs (or-r (p x) (anyRow p xs) e) i

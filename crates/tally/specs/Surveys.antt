@@ -1,16 +1,16 @@
--- All sets of rows anew from the index, T and F: what code makes of the words. No entry's contract rests on this file.
-use Prim.Native.Nat.{ℕ, _+_, _*_}
-use mathlib.Core.Bool.{Bool, not, _&&_, _||_, cond}
-use mathlib.Core.List.{List}
+-- All sets of rows anew from the index, T and F, and the rows of few free variables: what code makes of the words. No entry's contract rests on this file.
+use Prim.Native.Nat.{ℕ, _+_, _-_, _*_}
+use mathlib.Core.Bool.{Bool, _&&_, _||_, cond}
+use mathlib.Core.List.{List, [], _∷_}
 use lib.Dec.{leb, ltb}
+use lib.Bits.{bitAnd, bitOr}
 use lib.ListN.{getD}
 use Rattle.words.specs.Sets.{bit, any, count, wordOf}
 use Rattle.tables.specs.Rows.{free}
 use Rattle.tally.specs.declared.Tally.{Tally}
-use Rattle.tally.specs.declared.rows.Part.{Part}
 use Rattle.tally.specs.declared.surveying.Seen.{Seen}
 use Rattle.tally.specs.declared.surveying.AllSeen.{AllSeen}
-use Rattle.tally.specs.Words.{partBy, allParts}
+use Rattle.tally.specs.Words.{gathered}
 
 -- ---- how code goes
 
@@ -36,6 +36,10 @@ wordFree index v w s = freeWith s (getD index (6 * v + w) 0) (getD index (6 * (3
 -- each word
 abbrev pub eachSeen : (ℕ → Seen → Seen) → AllSeen → AllSeen
 eachSeen word s = record { a = word 0 (s .a); b = word 1 (s .b); c = word 2 (s .c); d = word 3 (s .d); e = word 4 (s .e); f = word 5 (s .f) }
+
+-- a set of rows by each word
+abbrev pub eachWord : (ℕ → Seen → ℕ) → AllSeen → List ℕ
+eachWord word s = word 0 (s .a) ∷ (word 1 (s .b) ∷ (word 2 (s .c) ∷ (word 3 (s .d) ∷ (word 4 (s .e) ∷ (word 5 (s .f) ∷ [])))))
 
 abbrev pub allMet : List ℕ → ℕ → AllSeen → AllSeen
 allMet index l s = eachSeen (wordMet index l) s
@@ -79,12 +83,17 @@ allSeen index t f k = record {
   f = seenIn index t f k 5;
 }
 
--- 64 rows from what all variables show of them; rows at or above the count are in no set
-abbrev pub partOf : ℕ → ℕ → Seen → Part
-partOf rows w s =
-    partBy (λ j. ltb (64 * w + j) rows && not (bit (s .met) j))
-    (λ j. ltb (64 * w + j) rows && not (bit (s .met) j) && bit (s .one) j && not (bit (s .two) j))
-    (λ j. ltb (64 * w + j) rows && not (bit (s .met) j) && not (bit (s .one) j))
+-- the rows that no variable satisfies; those at or above the count are in no set
+abbrev pub unmetBy : ℕ → AllSeen → List ℕ
+unmetBy rows s = eachWord (λ w x. bitAnd (wordOf (λ j. ltb (64 * w + j) rows) 64) (18446744073709551615 - x .met)) s
 
-unfoldable pub surveyed : List ℕ → ℕ → ℕ → ℕ → Tally
-surveyed index rows t f = allParts (λ w. partOf rows w (seenIn index t f 32 w))
+-- the rows of a set that hold at most one free variable
+abbrev pub fewBy : List ℕ → AllSeen → List ℕ
+fewBy set s = eachWord (λ w x. bitAnd (getD set w 0) (18446744073709551615 - x .two)) s
+
+unfoldable pub surveyed : List ℕ → List ℕ → ℕ → ℕ → ℕ → Tally
+unfolding gathered
+surveyed words index rows t f =
+    let seen = allSeen index t f 32 in
+    let unsatisfied = unmetBy rows seen in
+    gathered words (4294967295 - bitOr t f) 0 0 unsatisfied (fewBy unsatisfied seen)

@@ -1,13 +1,13 @@
 -- What is kept beside a run: document 02, "Which rows does a variable touch".
 use Prim.Native.Nat.{ℕ, _+_}
-use mathlib.Core.Bool.{Bool, true, false, not}
+use mathlib.Core.Bool.{Bool, true, false, not, _&&_}
 use mathlib.Core.List.{List, [], _∷_}
 use Rattle.words.specs.Booleans.{digit}
-use Rattle.words.specs.Sets.{put}
+use Rattle.words.specs.Sets.{put, wordOf}
 use Rattle.tables.specs.declared.Row.{Row}
 use Rattle.tables.specs.Rows.{satisfied}
-use Rattle.scan.specs.Rules.{anyRow, unsatisfiedWith}
-use Rattle.occurrences.specs.Index.{at, rowSet}
+use Rattle.scan.specs.Rules.{anyRow, unsatisfiedWith, forces}
+use Rattle.occurrences.specs.Index.{at, rowSet, literal}
 use Rattle.tally.specs.declared.Tally.{Tally}
 
 -- how many rows pass
@@ -24,6 +24,14 @@ unfoldable pub unsatisfiedRows : ℕ → List Row → ℕ → ℕ → ℕ
 unfolding countRows
 unsatisfiedRows n rows t f = countRows (unmet n t f) rows
 
+-- an unsatisfied row whose one free literal has this variable and this sign
+abbrev pub forcing : Bool → ℕ → ℕ → ℕ → ℕ → Row → Bool
+forcing sign n t f v r = forces n t f v r && literal sign v r
+
+-- the variables of the forced literals of this sign
+abbrev pub forcedWord : Bool → List Row → ℕ → ℕ → ℕ
+forcedWord sign rows t f = wordOf (λ v. anyRow (forcing sign 32 t f v) rows) 32
+
 -- exactly what T and F make of the rows, of which there are at most 384
 unfoldable pub tallyOf : List Row → ℕ → ℕ → Tally
 unfolding at unsatisfiedRows unsatisfiedWith anyRow
@@ -31,7 +39,8 @@ tallyOf rows t f = record {
   number = unsatisfiedRows 32 rows t f;
   conflict = anyRow (unsatisfiedWith 0 32 t f) rows;
   unsatisfied = rowSet (unmet 32 t f) rows;
-  unit = rowSet (unsatisfiedWith 1 32 t f) rows;
+  positive = forcedWord true rows t f;
+  negative = forcedWord false rows t f;
 }
 
 -- T and F with a variable of this sign

@@ -1,57 +1,113 @@
 -- Sets of rows as words of 64, and what code makes of them. No entry's contract rests on this file.
 use Prim.Native.Nat.{ℕ, _+_, _-_, _*_}
-use mathlib.Core.Bool.{Bool, not, _&&_, _||_, cond}
+use mathlib.Core.Bool.{Bool, true, false, _&&_, _||_, cond}
 use mathlib.Core.List.{List, [], _∷_}
 use lib.Dec.{eqb}
 use lib.Bits.{bitAnd, bitOr}
 use lib.ListN.{getD}
 use Rattle.words.specs.Sets.{bit, put, any, count, wordOf}
 use Rattle.tally.specs.declared.Tally.{Tally}
-use Rattle.tally.specs.declared.rows.Part.{Part}
+use Rattle.tally.specs.declared.rows.Forced.{Forced}
 
 -- ---- six words
 
--- 64 rows by three tests: unsatisfied, those of them with one free literal, those with none
-abbrev pub partBy : (ℕ → Bool) → (ℕ → Bool) → (ℕ → Bool) → Part
-partBy unmet one none = record { unsatisfied = wordOf unmet 64; unit = wordOf one 64; conflict = any none 64 }
+-- word w being rows 64 w to 64 w + 63
+abbrev pub sixWords : (ℕ → ℕ) → List ℕ
+sixWords word = word 0 ∷ (word 1 ∷ (word 2 ∷ (word 3 ∷ (word 4 ∷ (word 5 ∷ [])))))
 
-abbrev pub gathered : Part → Part → Part → Part → Part → Part → Tally
-gathered a b c d e f = record {
-  number = count (bit (a .unsatisfied)) 64 + count (bit (b .unsatisfied)) 64 + count (bit (c .unsatisfied)) 64
-      + count (bit (d .unsatisfied)) 64 + count (bit (e .unsatisfied)) 64 + count (bit (f .unsatisfied)) 64;
-  conflict = a .conflict || b .conflict || c .conflict || d .conflict || e .conflict || f .conflict;
-  unsatisfied = a .unsatisfied ∷ (b .unsatisfied ∷ (c .unsatisfied ∷ (d .unsatisfied ∷ (e .unsatisfied ∷ (f .unsatisfied ∷ [])))));
-  unit = a .unit ∷ (b .unit ∷ (c .unit ∷ (d .unit ∷ (e .unit ∷ (f .unit ∷ [])))));
+-- how many rows the set has
+abbrev pub sizeOf : List ℕ → ℕ
+sizeOf set =
+    count (bit (getD set 0 0)) 64 + count (bit (getD set 1 0)) 64 + count (bit (getD set 2 0)) 64
+    + count (bit (getD set 3 0)) 64 + count (bit (getD set 4 0)) 64 + count (bit (getD set 5 0)) 64
+
+-- some row of a word of the set passes, by its number
+abbrev pub someIn : List ℕ → (ℕ → Bool) → ℕ → Bool
+someIn set p w = any (λ j. bit (getD set w 0) j && p (64 * w + j)) 64
+
+-- this, or some row of the set passes
+abbrev pub orSome : Bool → List ℕ → (ℕ → Bool) → Bool
+orSome x set p = x || someIn set p 0 || someIn set p 1 || someIn set p 2 || someIn set p 3 || someIn set p 4 || someIn set p 5
+
+-- ---- rows by number
+
+-- the variables of the row that are of a set
+abbrev pub variablesOf : List ℕ → ℕ → ℕ → ℕ
+variablesOf words unset i = bitAnd (bitOr (getD words (2 * i) 0) (getD words (2 * i + 1) 0)) unset
+
+-- they are exactly k
+abbrev pub variablesAre : ℕ → List ℕ → ℕ → ℕ → Bool
+variablesAre k words unset i = eqb (count (bit (variablesOf words unset i)) 32) k
+
+-- the row's word of this sign
+abbrev pub wordOfSign : Bool → List ℕ → ℕ → ℕ
+wordOfSign true words i = getD words (2 * i) 0
+wordOfSign false words i = getD words (2 * i + 1) 0
+
+-- they are exactly one, v, which the row holds with this sign
+abbrev pub forcesOnly : Bool → List ℕ → ℕ → ℕ → ℕ → Bool
+forcesOnly sign words unset v i = variablesAre 1 words unset i && (bit (wordOfSign sign words i) v && bit (variablesOf words unset i) v)
+
+-- ---- what rows show
+
+-- with one more row of these words
+abbrev pub withRow : Forced → ℕ → ℕ → ℕ → Forced
+withRow s positive negative unset =
+    let variables = bitAnd (bitOr positive negative) unset in
+    cond (eqb variables 0) (record { conflict = true; positive = s .positive; negative = s .negative })
+    (cond (eqb (count (bit variables) 32) 1)
+    (record {
+      conflict = s .conflict;
+      positive = bitOr (s .positive) (bitAnd positive variables);
+      negative = bitOr (s .negative) (bitAnd negative variables);
+    })
+    s)
+
+-- with rows of a set of 64 from `first` on
+unfoldable pub forcedAmong : List ℕ → ℕ → ℕ → ℕ → Forced → Forced
+forcedAmong words first set unset s = record {
+  conflict = s .conflict || any (λ j. bit set j && variablesAre 0 words unset (first + j)) 64;
+  positive = wordOf (λ v. bit (s .positive) v || any (λ j. bit set j && forcesOnly true words unset v (first + j)) 64) 32;
+  negative = wordOf (λ v. bit (s .negative) v || any (λ j. bit set j && forcesOnly false words unset v (first + j)) 64) 32;
 }
 
--- part w being rows 64 w to 64 w + 63
-abbrev pub allParts : (ℕ → Part) → Tally
-allParts part = gathered (part 0) (part 1) (part 2) (part 3) (part 4) (part 5)
+-- with rows of a set
+unfoldable pub forcedIn : List ℕ → List ℕ → ℕ → Forced → Forced
+forcedIn words set unset s = record {
+  conflict = orSome (s .conflict) set (variablesAre 0 words unset);
+  positive = wordOf (λ v. orSome (bit (s .positive) v) set (forcesOnly true words unset v)) 32;
+  negative = wordOf (λ v. orSome (bit (s .negative) v) set (forcesOnly false words unset v)) 32;
+}
+
+-- a tally of these unsatisfied rows
+unfoldable pub gathered : List ℕ → ℕ → ℕ → ℕ → List ℕ → List ℕ → Tally
+unfolding forcedIn
+gathered words unset positive negative unsatisfied look =
+    let shown = forcedIn words look unset (record { conflict = false; positive = positive; negative = negative }) in
+    record {
+      number = sizeOf unsatisfied;
+      conflict = shown .conflict;
+      unsatisfied = unsatisfied;
+      positive = shown .positive;
+      negative = shown .negative;
+    }
 
 -- ---- a literal is made true
 
--- the row of number i has exactly one variable of a set
-abbrev pub oneOf : List ℕ → ℕ → ℕ → Bool
-oneOf words unset i = eqb (count (bit (bitAnd (bitOr (getD words (2 * i) 0) (getD words (2 * i + 1) 0)) unset)) 32) 1
+-- the rows of a set that do not hold the literal, by its number in the index
+abbrev pub rowsWithout : List ℕ → List ℕ → ℕ → List ℕ
+rowsWithout set index l = sixWords (λ w. bitAnd (getD set w 0) (18446744073709551615 - getD index (6 * l + w) 0))
 
--- the rows of a set that have exactly one, of 64 from `first` on
-unfoldable pub unitsAmong : List ℕ → ℕ → ℕ → ℕ → ℕ
-unitsAmong words first set unset = wordOf (λ j. bit set j && oneOf words unset (first + j)) 64
+-- those that hold it
+abbrev pub rowsHolding : List ℕ → List ℕ → ℕ → List ℕ
+rowsHolding set index l = sixWords (λ w. bitAnd (getD set w 0) (getD index (6 * l + w) 0))
 
--- 64 rows: `own` are the literal's, `other` those of its negation, `unset` the variables then free
-abbrev pub partAfter : List ℕ → ℕ → ℕ → ℕ → ℕ → ℕ → ℕ → Part
-partAfter words first unsatisfied unit own other unset =
-    partBy (λ j. bit unsatisfied j && not (bit own j))
-    (λ j. (bit unit j && not (bit own j) && not (bit other j)) || (bit unsatisfied j && not (bit own j) && bit other j && oneOf words unset (first + j)))
-    (λ j. bit unsatisfied j && not (bit own j) && bit other j && bit unit j)
-
--- rows 64 w to 64 w + 63, the literals by their numbers in the index
-abbrev pub partFor : List ℕ → List ℕ → ℕ → ℕ → ℕ → ℕ → ℕ → ℕ → Part
-partFor words index own other unset w unsatisfied unit =
-    partAfter words (64 * w) unsatisfied unit (getD index (6 * own + w) 0) (getD index (6 * other + w) 0) unset
-
+-- `unset` being the variables then free
 unfoldable pub allAfter : List ℕ → List ℕ → ℕ → ℕ → ℕ → Tally → Tally
-allAfter words index own other unset tally = allParts (λ w. partFor words index own other unset w (getD (tally .unsatisfied) w 0) (getD (tally .unit) w 0))
+unfolding gathered
+allAfter words index own other unset tally =
+    let still = rowsWithout (tally .unsatisfied) index own in
+    gathered words unset (bitAnd (tally .positive) unset) (bitAnd (tally .negative) unset) still (rowsHolding still index other)
 
 -- T and F as they were before
 unfoldable pub tallyAfter : List ℕ → List ℕ → ℕ → ℕ → ℕ → Bool → Tally → Tally

@@ -1,35 +1,9 @@
-// The rule's parts, read off sets of rows.
-use crate::rows;
-use scan::Rule;
+// Rule 4 read off sets of rows.
 ghost use mathlib.Core.Path.{_≡_};
 ghost use mathlib.Core.Bool.{_&&_};
 ghost use Prim.Native.Nat.{_<_};
 ghost use Rattle.words.specs.Sets as Sets;
-ghost use Rattle.tally.specs.Ruling.{firstRow, forcedBy, touches, standsIn, chosenBy};
-
-// The set's lowest row; 384 if it has none.
-pub(crate) fn first_row(set: [u64; 6]) -> usize
-    ensures { λ r. ⌜ r ≡ firstRow set 0 ⌝ }
-{
-    for w in 0..6 {
-        let word = set[w];
-        if word != 0 {
-            return 64 * w + rows::lowest(word) as usize;
-        }
-    }
-    384
-}
-
-// Rule 3: the literal that a row forces, `unset` being the free variables.
-pub(crate) fn forced(words: &[u32; 768], unset: u32, row: usize) -> Rule
-    requires { ⌜ row < 384 ⌝ }
-    ensures { λ r. ⌜ r ≡ forcedBy (now (words .entry)) unset row ⌝ }
-{
-    let positive = words[2 * row];
-    let negative = words[2 * row + 1];
-    let variable = words::lowest((positive | negative) & unset);
-    Rule::Unit(variable, words::bit(positive, variable))
-}
+ghost use Rattle.tally.specs.Ruling.{touches, standsIn, chosenBy};
 
 // Whether variable v stands in a row of this part of a set, rows 64 w to 64 w + 63.
 fn touched(index: &[u64; 384], v: usize, w: usize, part: u64) -> bool

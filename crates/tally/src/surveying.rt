@@ -1,10 +1,9 @@
 // All sets of rows anew from the index, T and F: every variable once, and for each the six words.
-use crate::rows::Part;
 ghost use mathlib.Core.Path.{_≡_};
 ghost use Prim.Native.Nat.{_+_, _*_, _<_};
 ghost use lib.Dec.{ltb};
 ghost use Rattle.words.specs.Sets.{wordOf};
-ghost use Rattle.tally.specs.Surveys.{metWith, freeWith, wordMet, wordFree, allMet, allFree, allWith, allSeen, partOf};
+ghost use Rattle.tally.specs.Surveys.{metWith, freeWith, wordMet, wordFree, allMet, allFree, allWith, allSeen, unmetBy, fewBy};
 
 // Of 64 rows those that a variable looked at satisfies, those that hold one that is free, and those that hold two.
 pub struct Seen {
@@ -163,15 +162,42 @@ fn below(count: usize, w: usize) -> u64
     (1 << k) - 1
 }
 
-// 64 rows from what all variables show of them.
-pub(crate) fn part_of(count: usize, w: usize, s: Seen) -> Part
-    requires { ⌜ w < 6 ⌝ }
-    ensures { λ r. ⌜ r ≡ partOf count w s ⌝ }
+// The rows below the count that no variable satisfies.
+pub(crate) fn unsatisfied(count: usize, seen: AllSeen) -> [u64; 6]
+    ensures { λ r. ⌜ r ≡ unmetBy count seen ⌝ }
 {
-    let unsatisfied = below(count, w) & !s.met;
-    Part {
-        unsatisfied,
-        unit: unsatisfied & s.one & !s.two,
-        conflict: unsatisfied & !s.one != 0,
-    }
+    let a = seen.a;
+    let b = seen.b;
+    let c = seen.c;
+    let d = seen.d;
+    let e = seen.e;
+    let g = seen.f;
+    [
+        below(count, 0) & !a.met,
+        below(count, 1) & !b.met,
+        below(count, 2) & !c.met,
+        below(count, 3) & !d.met,
+        below(count, 4) & !e.met,
+        below(count, 5) & !g.met,
+    ]
+}
+
+// The rows of a set that hold at most one free variable.
+pub(crate) fn few(set: [u64; 6], seen: AllSeen) -> [u64; 6]
+    ensures { λ r. ⌜ r ≡ fewBy set seen ⌝ }
+{
+    let a = seen.a;
+    let b = seen.b;
+    let c = seen.c;
+    let d = seen.d;
+    let e = seen.e;
+    let g = seen.f;
+    [
+        set[0] & !a.two,
+        set[1] & !b.two,
+        set[2] & !c.two,
+        set[3] & !d.two,
+        set[4] & !e.two,
+        set[5] & !g.two,
+    ]
 }

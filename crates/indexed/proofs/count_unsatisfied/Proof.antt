@@ -1,5 +1,6 @@
 -- `count_unsatisfied` meets its contract: the number of the tally is that of the rows.
 -- Assumes nothing.
+use native.Mathlib.Omega.{arith}
 use Rattle.tables.specs.Tables.{Tables, allTables}
 use Rattle.indexed.proofs.Made.{counted-is}
 use borrow.Author.Needs.{needs}
@@ -25,10 +26,10 @@ survey-requires c κs = search needs
 
 returns : tie.Need-returns
 returns c =
-    let at-index = c .before .before .before in
+    let at-index = c .before .before .before .before in
     let s = start at-index in
     counted-is (s .args .d) (tables s) _ (at-index .make-index .ensures .0) _ (c .before .rows .ensures) (s .pre) _ (at-index .make-index .ensures .1)
-    _ _ _ (c .survey .ensures)
+    _ _ (omega arith) (omega arith) _ (c .survey .ensures)
 
 pub count-unsatisfied-spec : {M : Type 1} → statement M
 count-unsatisfied-spec =

@@ -2,6 +2,8 @@
 -- Assumes nothing.
 use Rattle.indexed.proofs.Entries.{over-refused}
 use Rattle.indexed.proofs.Checks.{judged, step-ready, stepped}
+use Prim.Native.Nat.{_^_, _<_}
+use native.Mathlib.Omega.{arith}
 use denote.Ref.{now}
 use mathlib.Core.Path.{_≡_}
 use Rattle.tally.specs.Surveys.{surveyed}
@@ -20,8 +22,14 @@ start c = c .before .before .before .before
 
 -- what the survey gave
 abbrev tallied : (c : tie.After-same)
-    → c .before .before .before .survey .result ≡ surveyed (now (start c .args .sets)) (start c .args .rows) (start c .args .run .t) (start c .args .run .f)
+    → c .before .before .before .survey .result ≡ surveyed (now (start c .args .words)) (now (start c .args .sets)) (start c .args .rows) (start c .args .run .t) (start c .args .run .f)
 tallied c = c .before .before .before .survey .ensures
+
+t-low : (s : tie.Start) → s .args .run .t < 2 ^ 32
+t-low s = omega arith
+
+f-low : (s : tie.Start) → s .args .run .f < 2 ^ 32
+f-low s = omega arith
 
 survey-requires : tie.Need-survey-requires
 survey-requires c κs = search needs
@@ -43,7 +51,7 @@ advance-requires c κs =
     let at-check = c .before .before in
     let both = compared at-check in
     let s = start both in
-    step-ready _ _ _ _ (s .pre) _ (s .args .run) (s .args .number) _ (tallied both) _ (both .same .ensures) _ (at-check .check-kept .ensures) (c .enum-told .given .1)
+    step-ready _ _ _ _ (s .pre) _ (s .args .run) (s .args .number) (t-low s) (f-low s) _ (tallied both) _ (both .same .ensures) _ (at-check .check-kept .ensures) (c .enum-told .given .1)
 
 cast-t22 : tie.Need-cast-t22
 cast-t22 c = search needs
@@ -58,7 +66,7 @@ returns c =
     let at-check = told .before .before in
     let both = compared at-check in
     let s = start both in
-    stepped _ _ _ _ (s .pre) _ (s .args .run) (s .args .number) _ (tallied both) _ (both .same .ensures) _ (at-check .check-kept .ensures)
+    stepped _ _ _ _ (s .pre) _ (s .args .run) (s .args .number) (t-low s) (f-low s) _ (tallied both) _ (both .same .ensures) _ (at-check .check-kept .ensures)
     (told .enum-told .given .1) _ (advanced .advance .ensures)
 
 returns-2 : tie.Need-returns-2
@@ -67,7 +75,7 @@ returns-2 c =
     let both = compared at-check in
     let s = start both in
     over-refused _ _ _ (s .args .run) (s .args .number) _
-    (judged _ _ _ _ (s .pre) _ (s .args .run) (s .args .number) _ (tallied both) _ (both .same .ensures) _ (at-check .check-kept .ensures))
+    (judged _ _ _ _ (s .pre) _ (s .args .run) (s .args .number) (t-low s) (f-low s) _ (tallied both) _ (both .same .ensures) _ (at-check .check-kept .ensures))
     (c .enum-told2 .given .0 .0) (c .enum-told2 .given .1)
 
 pub step-rows-spec : {M : Type 1} → statement M

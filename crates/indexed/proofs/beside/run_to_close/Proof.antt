@@ -30,7 +30,7 @@ survey-requires c κs = search needs
 loop-holds : tie.Need-loop-holds Inv-loop μ-loop
 loop-holds c =
     let x = start c .pre in
-    kept-fresh _ _ _ (x .least) (x .most) _ (c .before .fresh .ensures) _ (c .survey .ensures ∙ survey-exact _ _ _ _ x _ _)
+    kept-fresh _ _ _ (x .least) (x .most) _ (c .before .fresh .ensures) _ (c .survey .ensures ∙ survey-exact _ _ _ _ x _ _ (omega arith) (omega arith))
 
 goes-on-requires : tie.Need-goes-on-requires Inv-loop μ-loop
 goes-on-requires c κs = search needs
