@@ -1,9 +1,9 @@
--- What the generator gives, by what its checks find, and that the checks leave room: from the order of the checks.
+-- What the generator gives, by what its checks find, and how many gates these are: from the order of the checks.
 -- Assumes nothing.
 use mathlib.Core.Path.{_≡_, refl, ap, sym, _∙_, subst}
 use mathlib.Core.List.{List, [], _∷_, _++_}
 use Prim.Native.Nat.{ℕ, _+_, _*_, _-_, _≤_, _<_}
-use native.Mathlib.Nat.{mul-le-mul, zero-add}
+use native.Mathlib.Nat.{zero-add}
 use native.Mathlib.Omega.{arith}
 use borrow.Author.Tests.{lt-ltb, le-ltb}
 use lib.Dec.{ltb}
@@ -17,27 +17,24 @@ use Rattle.refusals.specs.Checks.{Check, check, outcome, given}
 use Rattle.refusals.specs.Numbers.{said}
 use Rattle.refusals.proofs.Outcomes.{outcome-taken, outcome-refused, given-said}
 use Rattle.dimensions.specs.declared.Dimensions.{Dimensions}
-use Rattle.dimensions.specs.Sizes.{sizeChecks, rowCount, ceiling}
-use Rattle.dimensions.proofs.Limits.{Within}
+use Rattle.dimensions.specs.Sizes.{sizeChecks, ceiling}
+use Rattle.dimensions.proofs.Limits.{within}
 use Rattle.gates.specs.Memory.{wordsOf, over}
 use Rattle.gates.proofs.InMemory.{words-length}
 use Rattle.generator.specs.declared.Generated.{Generated}
 use Rattle.generator.specs.declared.Generated.the-variants.{Of, Refused}
 use Rattle.sections.specs.declared.Addresses.{Addresses}
-use Rattle.sections.specs.Addressing.{addresses, addressesOn}
+use Rattle.sections.specs.Addressing.{digitsFor, addresses, addressesOn}
 use Rattle.netlist.specs.Outputs.{CarriesOut}
 use Rattle.netlist.specs.Netlist.{circuit, gatesFor, gatesOn}
 use Rattle.generator.specs.Generation.{generatorChecks, generated, generatedCode, generatedNumbers, written, Carried}
 use Rattle.netlist.proofs.EveryState.{gates-carry-out}
-use Rattle.netlist.proofs.Counts.{circuit-length, gates-length}
-
--- the ceiling of dimensions that are taken
-pub ceiling-small : (d : Dimensions) → Within d → ceiling d ≤ 880704
-ceiling-small d w = omega (arith, mul-le-mul (w .n-most) (w .rows-most), mul-le-mul (w .n-most) (w .n-most))
+use Rattle.netlist.proofs.Counts.{circuit-length}
+use Rattle.generator.proofs.Room.{gates-few}
 
 -- the number of gates, counted
 pub counted : (n m : ℕ) (a : Addresses) → a ≡ addresses n m → a .wires - a .inputs ≡ length (circuit (addresses n m))
-counted n m a e = ap (λ (x : Addresses). x .wires - x .inputs) e ∙ omega (arith, circuit-length (addresses n m))
+counted n m a e = ap (λ (x : Addresses). x .wires - x .inputs) e ∙ omega (arith, circuit-length n m (digitsFor n))
 
 module _ (d : Dimensions) (words : List ℕ) where
   bufferChecks : List Check
@@ -78,7 +75,7 @@ module _ (d : Dimensions) (words : List ℕ) where
     taken h r w er ew =
         let g = circuit (addressesOn d) in
         let t = by-outcome Taken (outcome-taken (sizeChecks d) bufferChecks e ∙ rw (le-ltb _ _ h)) in
-        let l : 0 + length (wordsOf g) ≤ length words = omega (arith, words-length g, gates-length (d .n) (rowCount d)) in
+        let l : 0 + length (wordsOf g) ≤ length words = omega (arith, words-length g, gates-few d (within d e)) in
         let whole : w ≡ over (wordsOf g) words = ew ∙ sets-eq (wordsOf g) words 0 l ∙ ap (λ (k : ℕ). wordsOf g ++ drop k words) (zero-add (length (wordsOf g))) in
         let front : take (3 * r) w ≡ wordsOf g = ap (take (3 * r)) whole ∙ take-at (wordsOf g) _ (3 * r) (omega (arith, words-length g, er)) in
-        (ap Of er ∙ t .0, (whole ∙ t .1, subst (CarriesOut d) (sym front) (gates-carry-out d)))
+        (ap Of er ∙ t .0, (whole ∙ t .1, subst (CarriesOut d) (sym front) (gates-carry-out d e)))

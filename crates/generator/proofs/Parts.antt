@@ -38,7 +38,7 @@ tidy-drop (suc k) [] e = refl
 tidy-drop (suc k) (g ∷ t) e = tidy-drop k t (and-r (ltb (g / 65536) 3) (tidy t) e)
 
 -- gates f to e of all templates t
-pub part : (t : List ℕ) → gatesIn t ≡ templates → tidy t ≡ true → length t ≡ 75 → (from end f k : ℕ) → from ≡ f → end ≡ f + k → f + k ≤ 75
+pub part : (t : List ℕ) → gatesIn t ≡ templates → tidy t ≡ true → length t ≡ 84 → (from end f k : ℕ) → from ≡ f → end ≡ f + k → f + k ≤ 84
     → (tidy (take (end - from) (drop from t)) ≡ true) × (length (take (end - from) (drop from t)) ≡ k)
     × (gatesIn (take (end - from) (drop from t)) ≡ take k (drop f templates))
 part t g e l from end f k ef ee h =

@@ -10,7 +10,7 @@ use Rattle.dimensions.specs.declared.Dimensions.{Dimensions}
 use Rattle.sections.specs.declared.Section.{Section}
 use Rattle.sections.specs.Addressing.{addressesOn}
 use Rattle.sections.specs.Sections.{sectionAt}
-use Rattle.netlist.specs.Templates.{sum, variable, literal, row, weight, pick, lowest, rule, select, level, assignment, depth, standing}
+use Rattle.netlist.specs.Templates.{sum, literal, count, rank, bye, pair, node, choice, rule, split, target, guard, select, level, assignment, standing}
 use Rattle.netlist.specs.Arrays.{Below, inArray}
 
 -- the gates of a template in memory, a number a gate: its kind, then two hexadecimal digits for each operand
@@ -25,7 +25,8 @@ tidy (g ∷ t) = ltb (g / 65536) 3 && tidy t
 -- all templates, one behind the other
 abbrev pub templates : List Gate
 templates =
-    sum ++ (variable ++ (literal ++ (row ++ (weight ++ (pick ++ (lowest ++ (rule ++ (select ++ (level ++ (assignment ++ (depth ++ standing)))))))))))
+    sum ++ (literal ++ (count ++ (rank ++ (bye ++ (pair ++ (node ++ (choice ++ (rule ++ (split ++ (target ++ (guard
+    ++ (select ++ (level ++ (assignment ++ standing))))))))))))))
 
 -- a section's gates
 abbrev pub gatesOf : Section → List Gate
@@ -37,7 +38,7 @@ gatesAt d k = gatesOf (sectionAt (addressesOn d) k)
 
 -- sums over a section's numbers fit a word, and so many words, with room behind so many inputs
 pub record Fits (inputs : ℕ) (s : Section) (len : ℕ) : Type 0 where
-  pub named : (s .template + s .size ≤ 75) × (s .size ≤ 16)
+  pub named : (s .template + s .size ≤ 84) × (s .size ≤ 16)
   pub counts : (s .zeros ≤ 4) × (s .lines ≤ 384) × (s .cells ≤ 384)
   pub begins : (inputs ≤ s .base) × (s .base ≤ 1048576)
   pub below : Below 16777216 (s .slots) × Below 65536 (s .outer) × Below 65536 (s .inner)

@@ -12,10 +12,11 @@ ghost use mathlib.Core.List.{[], _∷_};
 ghost use Prim.Native.Nat.{_+_, _*_, _≤_};
 ghost use lib.ListN.{length};
 ghost use lib.Seq.{sets};
+ghost use Rattle.refusals.specs.declared.Outcome.the-variants.{Taken};
 ghost use Rattle.refusals.specs.Checks as Checks;
 ghost use Rattle.refusals.specs.Numbers.{said};
 ghost use Rattle.gates.specs.Memory.{wordsOf};
-ghost use Rattle.dimensions.specs.Sizes.{rowCount, ceiling};
+ghost use Rattle.dimensions.specs.Sizes.{sizeChecks, ceiling};
 ghost use Rattle.sections.specs.Addressing.{addressesOn};
 ghost use Rattle.netlist.specs.Arrays.{rows};
 ghost use Rattle.netlist.specs.Netlist.{circuit, gatesOn};
@@ -49,21 +50,21 @@ pub fn generate(d: Dimensions, words: &mut [u32]) -> Generated
 
 // Writes the circuit, and says how many gates it has.
 fn write(words: &mut [u32], d: Dimensions) -> usize
-    requires { ⌜ (d .n ≤ 32) × (rowCount d ≤ 384) × (3 * ceiling d ≤ length (now words)) ⌝ }
+    requires { ⌜ (Checks.outcome (sizeChecks d) ≡ Taken) × (3 * ceiling d ≤ length (now words)) ⌝ }
     ensures { λ r. ⌜ r ≡ length (circuit (addressesOn d)) ⌝ }
     ensures { λ _. ⌜ now (words .exit) ≡ sets (now (words .entry)) 0 (wordsOf (circuit (addressesOn d))) ⌝ }
 {
     let a = Addresses::of(d);
     let inputs = a.inputs;
     let gates = a.wires - inputs;
-    sections(words, d, inputs, 19 + d.n as u32);
+    sections(words, d, inputs, 41 + d.n as u32);
     gates as usize
 }
 
 // Writes the first `count` sections of the circuit.
 fn sections(words: &mut [u32], d: Dimensions, inputs: u32, count: u32)
-    requires { ⌜ (d .n ≤ 32) × (rowCount d ≤ 384) × (3 * ceiling d ≤ length (now words)) ⌝ }
-    requires { ⌜ (inputs ≡ addressesOn d .inputs) × (count ≤ 19 + d .n) ⌝ }
+    requires { ⌜ (Checks.outcome (sizeChecks d) ≡ Taken) × (3 * ceiling d ≤ length (now words)) ⌝ }
+    requires { ⌜ (inputs ≡ addressesOn d .inputs) × (count ≤ 41 + d .n) ⌝ }
     ensures { λ _. ⌜ now (words .exit) ≡ sets (now (words .entry)) 0 (wordsOf (rows (gatesAt d) count)) ⌝ }
 {
     let mut k = 0;

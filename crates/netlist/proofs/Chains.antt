@@ -1,29 +1,31 @@
--- Chains: a wire that is computed from the wire of the cell before, against `any`, the parity and the count of the numbers before it. One induction for each kind of chain.
--- Assumes nothing.
+-- Chains: a wire that is computed from the wire of the cell before, against `any`, the parity and the count of the numbers before it.
+-- One induction for each kind of chain.
 use mathlib.Core.Path.{_≡_, refl, sym, ap, ap₂, _∙_}
-use mathlib.Core.Bool.{Bool, true, false, not, _&&_, _||_}
+use mathlib.Core.Bool.{Bool, true, false, _&&_, _||_}
 use Prim.Native.Nat.{ℕ, zero, suc, _+_, _≤_, _<_, suc-le-suc}
-use native.Mathlib.Numerals.{one-add}
-use native.Mathlib.Nat.{le-of-suc-le-suc, not-suc-le-zero, zero-lt-suc, zero-add}
+use native.Mathlib.Nat.{le-of-suc-le-suc, not-suc-le-zero, zero-lt-suc, le-refl}
 use native.Mathlib.Omega.{arith}
 use lib.Dec.{eqb, eqb·zero-suc, eqb·suc-zero, eqb·suc-suc}
+use borrow.Author.Tests.{eqb-true, eqb-false}
 use Rattle.words.specs.Booleans.{_⊕_, digit}
-use Rattle.words.specs.Sets.{any, count, lowest}
-use Rattle.words.proofs.Truth.{on, taut1, taut2, taut3, agree, agree-eq}
-use Rattle.words.proofs.Upto.{count-none}
+use Rattle.words.specs.Sets.{any, count}
+use Rattle.words.proofs.Truth.{on, taut1, taut2, taut3, taut4, taut5, agree, agree-eq}
 use Rattle.words.proofs.Last.{any-last, count-last}
-use Rattle.netlist.proofs.CellFunctions.{or}
 
 -- ---- OR
 
-or-is : (a b : Bool) → or a b ≡ a || b
+-- a or b, with one AND gate
+abbrev pub or : Bool → Bool → Bool
+or a b = (a ⊕ b) ⊕ (a && b)
+
+pub or-is : (a b : Bool) → or a b ≡ a || b
 or-is a b = agree-eq (taut2 (λ a b. agree (or a b) (a || b)) refl a b)
 
-module _ (s p : ℕ → Bool) (n : ℕ) (start : s 0 ≡ false) (next : (i : ℕ) → i < n → s (suc i) ≡ or (s i) (p i)) where
-  pub or-chain : (i : ℕ) → i ≤ n → s i ≡ any p i
+module _ (s p : ℕ → Bool) (n : ℕ) (start : s 0 ≡ false) (next : (i : ℕ) → i < n → s (suc i) ≡ s i || p i) where
+  pub any-chain : (i : ℕ) → i ≤ n → s i ≡ any p i
   unfolding any
-  or-chain zero h = start
-  or-chain (suc i) h = next i h ∙ or-is (s i) (p i) ∙ ap (λ (x : Bool). x || p i) (or-chain i (omega arith)) ∙ sym (any-last p i)
+  any-chain zero h = start
+  any-chain (suc i) h = next i h ∙ ap (λ (x : Bool). x || p i) (any-chain i (omega arith)) ∙ sym (any-last p i)
 
 -- ---- XOR
 
@@ -64,61 +66,80 @@ parity-at g (suc n) zero h =
     rw (parity-none (λ i. eqb (suc i) zero && g (suc i)) n (λ i b. rw eqb·suc-zero)) (xor-false (g zero))
 parity-at g (suc n) (suc k) h = rw eqb·zero-suc (simp eqb·suc-suc (parity-at (λ i. g (suc i)) n k (le-of-suc-le-suc h)))
 
--- one number alone passes x: the parity of p among those that pass is what p has at the lowest
-pub parity-single : (x p : ℕ → Bool) (n : ℕ) → count x n ≡ 1 → parity (λ i. x i && p i) n ≡ p (lowest x n)
-unfolding count lowest parity
-parity-single x p zero e = absurd (omega arith)
-parity-single x p (suc n) e =
-    on (x zero)
-    (λ h. let z : digit true + count (λ i. x (suc i)) n ≡ 1 = rw h at e in
-    rw (h, lowest) (rw (parity-none (λ i. x (suc i) && p (suc i)) n (λ i b. rw (count-none (λ i. x (suc i)) n (omega arith) i b))) (xor-false (p zero))))
-    (λ h. let z : digit false + count (λ i. x (suc i)) n ≡ 1 = rw h at e in
-    rw (h, lowest) (parity-single (λ i. x (suc i)) (λ i. p (suc i)) n (omega arith)))
+-- of two wires at once
+pub parity-xor : (p q : ℕ → Bool) (n : ℕ) → parity (λ i. p i ⊕ q i) n ≡ parity p n ⊕ parity q n
+unfolding parity
+parity-xor p q zero = refl
+parity-xor p q (suc n) =
+    ap (λ (x : Bool). (p zero ⊕ q zero) ⊕ x) (parity-xor (λ i. p (suc i)) (λ i. q (suc i)) n)
+    ∙ agree-eq (taut4 (λ a b c d. agree ((a ⊕ b) ⊕ (c ⊕ d)) ((a ⊕ c) ⊕ (b ⊕ d))) refl (p zero) (q zero) (parity (λ i. p (suc i)) n) (parity (λ i. q (suc i)) n))
+
+-- where both count for the same numbers
+pub parity-both : (a p q : ℕ → Bool) (n : ℕ) → parity (λ i. a i && (p i ⊕ q i)) n ≡ parity (λ i. a i && p i) n ⊕ parity (λ i. a i && q i) n
+unfolding parity
+parity-both a p q zero = refl
+parity-both a p q (suc n) =
+    ap (λ (x : Bool). (a zero && (p zero ⊕ q zero)) ⊕ x) (parity-both (λ i. a (suc i)) (λ i. p (suc i)) (λ i. q (suc i)) n)
+    ∙ agree-eq (taut5 (λ a b c d e. agree ((a && (b ⊕ c)) ⊕ (d ⊕ e)) (((a && b) ⊕ d) ⊕ ((a && c) ⊕ e))) refl
+    (a zero) (p zero) (q zero) (parity (λ i. a (suc i) && p (suc i)) n) (parity (λ i. a (suc i) && q (suc i)) n))
+
+-- one number alone passes x: along a chain that adds y where x passes, the end is y at that number
+module _ (s x y : ℕ → Bool) (n : ℕ) (start : s 0 ≡ false) (next : (i : ℕ) → i < n → s (suc i) ≡ s i ⊕ (x i && y i)) where
+  single-before : (i : ℕ) → i ≤ n → ((k : ℕ) → k < i → x k ≡ false) → s i ≡ false
+  single-before zero h e = start
+  single-before (suc i) h e =
+      next i h ∙ ap₂ (λ (a b : Bool). a ⊕ (b && y i)) (single-before i (omega arith) (λ k l. e k (omega arith))) (e i (le-refl (suc i)))
+
+  pub single-chain : (i v : ℕ) → i ≤ n → v < i → x v ≡ true → ((k : ℕ) → k < i → x k ≡ true → k ≡ v) → s i ≡ y v
+  single-chain zero v h b e u = absurd (omega arith)
+  single-chain (suc i) v h b e u =
+      on (eqb v i)
+      (λ q. let z : v ≡ i = eqb-true v i q in
+      next i h
+      ∙ ap₂ (λ (a c : Bool). a ⊕ (c && y i))
+      (single-before i (omega arith) (λ k l. on (x k) (λ r. absurd (omega (arith, u k (omega arith) r))) (λ r. r))) (ap x (sym z) ∙ e)
+      ∙ ap y (sym z))
+      (λ q. let l : v < i = omega (arith, eqb-false v i q) in
+      next i h
+      ∙ ap₂ (λ (a c : Bool). a ⊕ (c && y i)) (single-chain i v (omega arith) l e (λ k m. u k (omega arith)))
+      (on (x i) (λ r. absurd (omega (arith, u i (le-refl (suc i)) r))) (λ r. r))
+      ∙ xor-false (y v))
 
 -- ---- counting to two
 
--- an odd number
-abbrev pub oddOf : ℕ → Bool
-oddOf zero = false
-oddOf (suc c) = not (oddOf c)
+-- at least one
+abbrev pub someOf : ℕ → Bool
+someOf zero = false
+someOf (suc c) = true
 
 -- more than one
 abbrev pub manyOf : ℕ → Bool
 manyOf zero = false
-manyOf (suc zero) = false
-manyOf (suc (suc c)) = true
+manyOf (suc c) = someOf c
 
-odd-more : (x : Bool) (c : ℕ) → oddOf c ⊕ x ≡ oddOf (digit x + c)
-odd-more true c = agree-eq (taut1 (λ a. agree (a ⊕ true) (not a)) refl (oddOf c)) ∙ ap oddOf (sym (one-add c))
-odd-more false c = xor-false (oddOf c) ∙ ap oddOf (sym (zero-add c))
+some-more : (x : Bool) (c : ℕ) → someOf c || x ≡ someOf (digit x + c)
+some-more true zero = refl
+some-more false zero = refl
+some-more true (suc c) = let e : 1 + suc c ≡ suc (suc c) = omega arith in rw e
+some-more false (suc c) = let e : 0 + suc c ≡ suc c = omega arith in rw e
 
-many-more : (x : Bool) (c : ℕ) → or (manyOf c) (oddOf c && x) ≡ manyOf (digit x + c)
+many-more : (x : Bool) (c : ℕ) → manyOf c || (someOf c && x) ≡ manyOf (digit x + c)
 many-more true zero = refl
-many-more true (suc zero) = refl
-many-more true (suc (suc c)) = agree-eq (taut1 (λ a. agree (or true (a && true)) true) refl (oddOf (suc (suc c)))) ∙ ap manyOf (sym (one-add (suc (suc c))))
 many-more false zero = refl
+many-more true (suc zero) = refl
 many-more false (suc zero) = refl
-many-more false (suc (suc c)) = agree-eq (taut1 (λ a. agree (or true (a && false)) true) refl (oddOf (suc (suc c)))) ∙ ap manyOf (sym (zero-add (suc (suc c))))
+many-more true (suc (suc c)) = let e : 1 + suc (suc c) ≡ suc (suc (suc c)) = omega arith in rw e
+many-more false (suc (suc c)) = let e : 0 + suc (suc c) ≡ suc (suc c) = omega arith in rw e
 
-module _ (odd many x : ℕ → Bool) (n : ℕ) (odd-start : odd 0 ≡ false) (many-start : many 0 ≡ false)
-    (odd-next : (i : ℕ) → i < n → odd (suc i) ≡ odd i ⊕ x i)
-    (many-next : (i : ℕ) → i < n → many (suc i) ≡ or (many i) (odd i && x i)) where
-  pub count-chain : (i : ℕ) → i ≤ n → (odd i ≡ oddOf (count x i)) × (many i ≡ manyOf (count x i))
+module _ (some many x : ℕ → Bool) (n : ℕ) (some-start : some 0 ≡ false) (many-start : many 0 ≡ false)
+    (some-next : (i : ℕ) → i < n → some (suc i) ≡ or (some i) (x i))
+    (many-next : (i : ℕ) → i < n → many (suc i) ≡ or (many i) (some i && x i)) where
+  pub count-chain : (i : ℕ) → i ≤ n → (some i ≡ someOf (count x i)) × (many i ≡ manyOf (count x i))
   unfolding count
-  count-chain zero h = (odd-start, many-start)
+  count-chain zero h = (some-start, many-start)
   count-chain (suc i) h =
       let e = count-chain i (omega arith) in (
-        odd-next i h ∙ ap (λ (a : Bool). a ⊕ x i) (e .0) ∙ odd-more (x i) (count x i) ∙ ap oddOf (sym (count-last x i)),
-        many-next i h ∙ ap₂ (λ (m a : Bool). or m (a && x i)) (e .1) (e .0) ∙ many-more (x i) (count x i) ∙ ap manyOf (sym (count-last x i)),
+        some-next i h ∙ or-is (some i) (x i) ∙ ap (λ (a : Bool). a || x i) (e .0) ∙ some-more (x i) (count x i) ∙ ap someOf (sym (count-last x i)),
+        many-next i h ∙ or-is (many i) (some i && x i) ∙ ap₂ (λ (m a : Bool). m || (a && x i)) (e .1) (e .0) ∙ many-more (x i) (count x i)
+            ∙ ap manyOf (sym (count-last x i)),
       )
-
--- exactly one, and none
-pub count-one : (c : ℕ) → not (manyOf c) && oddOf c ≡ eqb c 1
-count-one zero = refl
-count-one (suc zero) = refl
-count-one (suc (suc c)) = sym (eqb·suc-suc (suc c) zero ∙ eqb·suc-zero c)
-
-pub count-zero : (c : ℕ) → not (manyOf c) ⊕ (not (manyOf c) && oddOf c) ≡ eqb c 0
-count-zero zero = refl
-count-zero (suc zero) = refl
-count-zero (suc (suc c)) = sym (eqb·suc-zero (suc c))

@@ -1,5 +1,4 @@
 -- The bits of levels when one is added or removed by XOR at its number. By cases on whether the level is the last.
--- Assumes nothing.
 use mathlib.Core.Path.{_≡_, refl}
 use mathlib.Core.Bool.{Bool, false, _&&_}
 use mathlib.Core.List.{List, [], _∷_}
@@ -15,7 +14,7 @@ use Rattle.wires.specs.Layout.{onLevel}
 use Rattle.netlist.proofs.Chains.{xor-false, xor-self}
 
 module _ (g : Level → Bool) where
-  level-unused : (ls : List Level) (k : ℕ) → length ls ≤ k → onLevel g ls k ≡ false
+  pub level-unused : (ls : List Level) (k : ℕ) → length ls ≤ k → onLevel g ls k ≡ false
   unfolding onLevel
   level-unused [] k h = refl
   level-unused (l ∷ ls) k h = rw (ne-eqb k (length ls) (λ e. omega arith)) (level-unused ls k (omega arith))

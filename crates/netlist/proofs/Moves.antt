@@ -1,6 +1,5 @@
--- What the signals of a rule make of a state's bits: `moved` writes out the sections from depth select to output, and each rule's signals make the bits of the next state.
--- The depth is one-hot, so the XOR over the levels is what stands at the last one.
--- Assumes nothing.
+-- What the signals of a rule make of a state's bits: `moved` writes out the sections from select to output, and each rule's signals make the bits
+-- of the next state. The depth is one-hot, so the XOR over the levels is what stands at the last one.
 use mathlib.Core.Path.{_≡_, refl, sym, ap, ap₂, _∙_}
 use mathlib.Core.Bool.{Bool, true, false, _&&_, or-false}
 use mathlib.Core.List.{List, _∷_}
@@ -20,9 +19,17 @@ use Rattle.wires.specs.Layout.{onLevel, isRefuted}
 use Rattle.wires.specs.Bits.{Bits, bitsIn}
 use Rattle.wires.proofs.Levels.{level-last}
 use Rattle.wires.proofs.Addresses.{Same}
-use Rattle.netlist.proofs.Equations.{Signals}
 use Rattle.netlist.proofs.Chains.{xor-false, parity, parity-none, parity-at}
 use Rattle.netlist.proofs.Levels.{level-added, level-removed}
+
+-- what the cell `rule` says
+pub record Signals : Type 0 where
+  pub done : Bool
+  pub refute : Bool
+  pub pop : Bool
+  pub push : Bool
+  pub setF : Bool
+  pub setT : Bool
 
 -- a state by its parts
 abbrev pub state : Standing → ℕ → ℕ → List Level → State

@@ -17,37 +17,83 @@ module _ (a : Addresses) where
   abbrev pub zeroGate : List Gate
   zeroGate = oneCell Templates.sum (Sections.zeroGate a)
 
-  -- free variables
-  abbrev pub variables : List Gate
-  variables = inCells Templates.variable (Sections.variables a)
-
   -- each row's literals, a chain along the variables
   abbrev pub literals : List Gate
   literals = inArray Templates.literal (Sections.literals a)
 
-  -- the rows, a chain
-  abbrev pub scan : List Gate
-  scan = inLine Templates.row (Sections.scan a)
+  -- whether a row has some free literal and whether it has many, a chain likewise
+  abbrev pub counts : List Gate
+  counts = inArray Templates.count (Sections.counts a)
 
-  -- the rows that count
-  abbrev pub weights : List Gate
-  weights = inCells Templates.weight (Sections.weights a)
+  -- each row's rank
+  abbrev pub ranks : List Gate
+  ranks = inCells Templates.rank (Sections.ranks a)
+
+  -- ---- the rows' keys
+
+  -- the digit of weight 2^d of each row's lowest free variable, a chain along the thresholds
+  abbrev pub digit : ℕ → List Gate
+  digit d = inArray Templates.sum (Sections.digit a d)
+
+  -- the keys' lowest digit: the sign of a row's one free literal
+  abbrev pub keySign : List Gate
+  keySign = inCells Templates.sum (Sections.keySign a)
+
+  -- then the digits of the variable
+  abbrev pub keyDigit : ℕ → List Gate
+  keyDigit d = inCells Templates.sum (Sections.keyDigit a d)
+
+  -- then the rank's low digit
+  abbrev pub keyLow : List Gate
+  keyLow = inCells Templates.sum (Sections.keyLow a)
+
+  -- and its high digit
+  abbrev pub keyHigh : List Gate
+  keyHigh = inCells Templates.sum (Sections.keyHigh a)
+
+  -- ---- the greatest key, by a tree
+
+  -- the last row's key, which an odd number of rows leaves over
+  abbrev pub bye : List Gate
+  bye = inLine Templates.bye (Sections.bye a)
+
+  -- the lines of two rows, a chain along the digits
+  abbrev pub pairs : List Gate
+  pairs = inArray Templates.pair (Sections.pairs a)
+
+  -- the lines of two lines, a chain likewise
+  abbrev pub nodes : List Gate
+  nodes = inArray Templates.node (Sections.nodes a)
+
+  -- what the last line keeps
+  abbrev pub greatest : List Gate
+  greatest = inCells Templates.choice (Sections.greatest a)
 
   -- ---- which rule applies, and to which variable
 
-  -- the variables that are free in a row that counts, a chain along the rows for each
-  abbrev pub picks : List Gate
-  picks = inArray Templates.pick (Sections.picks a)
-
-  -- the lowest of them
-  abbrev pub lowest : List Gate
-  lowest = inLine Templates.lowest (Sections.lowest a)
-
-  -- the rule, from the standing, what the rows say, and depth 0
+  -- the rule, from the standing, the greatest key's rank and sign, and depth 0
   abbrev pub rule : List Gate
   rule = oneCell Templates.rule (Sections.rule a)
 
-  -- pop and push of each level, between zeros
+  -- the decoder of the variable's number: its root is whether a variable is set
+  abbrev pub root : List Gate
+  root = oneCell Templates.sum (Sections.root a)
+
+  -- the nodes of d digits, split by the next
+  abbrev pub split : ℕ → List Gate
+  split d = inCells Templates.split (Sections.split a d)
+
+  -- ---- what the rule does to variables, state and levels
+
+  -- whether a variable goes to F, is pushed, goes to T
+  abbrev pub targets : List Gate
+  targets = inCells Templates.target (Sections.targets a)
+
+  -- T and F where a pop or a push applies
+  abbrev pub guards : List Gate
+  guards = inArray Templates.guard (Sections.guards a)
+
+  -- whether each level changes, between zeros
   abbrev pub selectLine : List Gate
   selectLine = inLine Templates.select (Sections.selectLine a)
 
@@ -55,15 +101,11 @@ module _ (a : Addresses) where
   abbrev pub selectEnd : List Gate
   selectEnd = inCells Templates.sum (Sections.selectEnd a)
 
-  -- the select cells with their zeros
-  abbrev pub selects : List Gate
-  selects = selectLine ++ selectEnd
-
   -- ---- what changes in levels, T and F, and depth
 
   -- one of a level's three sets of wires, a chain along the levels for each variable
   abbrev pub levels : ℕ → ℕ → ℕ → ℕ → List Gate
-  levels b x s k = inArray Templates.level (Sections.levels a b x s k)
+  levels b x u s = inArray Templates.level (Sections.levels a b x u s)
 
   -- a level's T
   abbrev pub levelsT : List Gate
@@ -77,21 +119,17 @@ module _ (a : Addresses) where
   abbrev pub levelsV : List Gate
   levelsV = inArray Templates.level (Sections.levelsV a)
 
-  -- the change of T or F
-  abbrev pub assignments : ℕ → ℕ → ℕ → ℕ → ℕ → ℕ → List Gate
-  assignments b t p q k s = inCells Templates.assignment (Sections.assignments a b t p q k s)
-
-  -- T gets back a level's T
+  -- the change of T: what a pop takes and gives back, and the variable
   abbrev pub assignT : List Gate
   assignT = inCells Templates.assignment (Sections.assignT a)
 
-  -- F gets back a level's F with the chosen variable
+  -- the change of F, which a pop gives the chosen variable too
   abbrev pub assignF : List Gate
   assignF = inCells Templates.assignment (Sections.assignF a)
 
   -- the change of each depth wire
   abbrev pub depths : List Gate
-  depths = inCells Templates.depth (Sections.depths a)
+  depths = inCells Templates.sum (Sections.depths a)
 
   -- ---- the next state and the closing wire, the last wires of the circuit
 
@@ -115,11 +153,19 @@ module _ (a : Addresses) where
 
   -- what the rows say, in order
   abbrev pub judging : List Gate
-  judging = zeroGate ++ (variables ++ (literals ++ (scan ++ weights)))
+  judging = zeroGate ++ (literals ++ (counts ++ ranks))
 
-  -- the rule and its variable
+  -- the rows' keys
+  abbrev pub weighing : List Gate
+  weighing = rows digit (a .b) ++ (keySign ++ (rows keyDigit (a .b) ++ (keyLow ++ keyHigh)))
+
+  -- the greatest key, the rule and its variable
   abbrev pub choosing : List Gate
-  choosing = picks ++ (lowest ++ (rule ++ selects))
+  choosing = bye ++ (pairs ++ (nodes ++ (greatest ++ (rule ++ (root ++ rows split (a .b))))))
+
+  -- what the rule does
+  abbrev pub holding : List Gate
+  holding = targets ++ (guards ++ (selectLine ++ selectEnd))
 
   -- all changes
   abbrev pub changing : List Gate
@@ -131,7 +177,7 @@ module _ (a : Addresses) where
 
   -- the circuit of the giant step
   abbrev pub circuit : List Gate
-  circuit = judging ++ (choosing ++ (changing ++ outputs))
+  circuit = judging ++ (weighing ++ (choosing ++ (holding ++ (changing ++ outputs))))
 
 -- the gates for n variables and m rows
 unfoldable pub gatesFor : ℕ → ℕ → List Gate

@@ -7,56 +7,65 @@ use Rattle.gates.specs.Gates.Gate.{XOR, AND, INV}
 abbrev pub sum : List Gate
 sum = XOR 0 1 ∷ []
 
--- slots T, F: gate 1 is whether the variable is free
-abbrev pub variable : List Gate
-variable = XOR 0 1 ∷ INV 8 ∷ []
-
--- slots p, q, F, free; satisfied, odd, many, sign. Gate 2: a free literal; gate 3: and it is positive
+-- slots p, q, T, F; satisfied, sign. Where the row is not satisfied, gates 2 and 5 are a free positive and a free negative literal, gate 8 a free literal
 abbrev pub literal : List Gate
 literal =
-    XOR 0 1 ∷ AND 2 8 ∷ AND 3 8 ∷ AND 10 0 ∷ XOR 0 9 ∷ XOR 12 11 ∷ XOR 4 13 ∷ AND 4 13 ∷ AND 5 10 ∷ XOR 6 16 ∷ AND 6 16
-    ∷ XOR 14 15 ∷ XOR 5 10 ∷ XOR 17 18 ∷ XOR 7 11 ∷ []
+    XOR 4 0 ∷ XOR 0 3 ∷ AND 8 9 ∷ XOR 4 1 ∷ XOR 1 2 ∷ AND 11 12 ∷ XOR 3 10 ∷ XOR 2 13 ∷ XOR 10 13 ∷ AND 14 15 ∷ XOR 4 17 ∷ XOR 5 10 ∷ []
 
--- slots satisfied, odd, many, sign; any unsatisfied, any conflict, any unit, positive. Gate 0: unsatisfied; gate 10: the first unit row
-abbrev pub row : List Gate
-row =
-    INV 0 ∷ INV 2 ∷ AND 8 9 ∷ AND 10 1 ∷ XOR 10 11 ∷ XOR 4 8 ∷ AND 4 8 ∷ XOR 5 12 ∷ AND 5 12 ∷ AND 11 6 ∷ XOR 11 17 ∷ AND 18 3
-    ∷ XOR 13 14 ∷ XOR 15 16 ∷ XOR 6 18 ∷ XOR 7 19 ∷ []
+-- slots free literal; some, many
+abbrev pub count : List Gate
+count = AND 1 0 ∷ XOR 2 8 ∷ AND 2 8 ∷ XOR 1 0 ∷ XOR 11 8 ∷ XOR 9 10 ∷ []
 
--- slots unsatisfied, first, any unit: gate 2 is whether the row counts
-abbrev pub weight : List Gate
-weight = XOR 1 0 ∷ AND 2 8 ∷ XOR 0 9 ∷ []
+-- slots satisfied, some, many. Gate 2: high digit of the rank; gate 4: low digit
+abbrev pub rank : List Gate
+rank = INV 0 ∷ INV 2 ∷ AND 8 9 ∷ AND 10 1 ∷ XOR 8 11 ∷ []
 
--- slots weight, free literal; picked
-abbrev pub pick : List Gate
-pick = AND 0 1 ∷ XOR 2 8 ∷ AND 2 8 ∷ XOR 9 10 ∷ []
+-- A line of the tree has two items. Gate 1: the left one, gate 4: where they differ, gate 7: the right one greater, on the digits so far.
+-- slot key: the left item, and it is kept
+abbrev pub bye : List Gate
+bye = XOR 0 0 ∷ XOR 0 8 ∷ XOR 0 0 ∷ XOR 0 0 ∷ XOR 0 0 ∷ XOR 0 0 ∷ XOR 0 0 ∷ XOR 0 0 ∷ []
 
--- slots picked; seen. Gate 1: the lowest picked variable
-abbrev pub lowest : List Gate
-lowest = INV 1 ∷ AND 0 8 ∷ XOR 1 9 ∷ []
+-- slots left key, right key; greater
+abbrev pub pair : List Gate
+pair = XOR 0 0 ∷ XOR 0 8 ∷ XOR 0 0 ∷ XOR 0 0 ∷ XOR 0 1 ∷ XOR 1 2 ∷ AND 12 13 ∷ XOR 2 14 ∷ []
 
--- slots satisfied, refuted, any unsatisfied, any conflict, any unit, positive, depth 0.
--- Gates: 1 open, 3 done, 4 conflict, 5 refute, 6 pop, 8 neither done nor conflict, 9 force, 10 push, 12 set F, 13 set T
+-- slots left, differs and keep of a line, left, differs and keep of the next; greater. Gates 1 and 3: what the two lines keep
+abbrev pub node : List Gate
+node = AND 2 1 ∷ XOR 0 8 ∷ AND 5 4 ∷ XOR 3 10 ∷ XOR 9 11 ∷ XOR 11 6 ∷ AND 12 13 ∷ XOR 6 14 ∷ []
+
+-- slots left, differs and keep of a line: gate 1 is what it keeps
+abbrev pub choice : List Gate
+choice = AND 2 1 ∷ XOR 0 8 ∷ []
+
+-- slots satisfied, refuted, high and low digit of the rank, sign, depth 0.
+-- Gates: 1 open, 3 conflict, 4 force, 6 push, 7 done, 8 refute, 9 pop, 10 a variable is set, 12 set F
 abbrev pub rule : List Gate
 rule =
-    XOR 0 1 ∷ INV 8 ∷ INV 2 ∷ AND 9 10 ∷ AND 9 3 ∷ AND 12 6 ∷ XOR 12 13 ∷ XOR 9 11 ∷ XOR 15 12 ∷ AND 16 4 ∷ XOR 16 17
-    ∷ INV 5 ∷ AND 17 19 ∷ XOR 16 20 ∷ []
+    XOR 0 1 ∷ INV 8 ∷ AND 9 2 ∷ AND 10 3 ∷ XOR 10 11 ∷ XOR 9 10 ∷ AND 13 3 ∷ XOR 13 14 ∷ AND 11 5 ∷ XOR 11 16 ∷ XOR 12 14 ∷ INV 4 ∷ AND 12 19 ∷ []
 
--- slots pop, the depth above, push, the depth: gate 0 is a pop from this level, gate 1 a push onto it
+-- slots node, digit: the node's child where the digit is 1, and where it is 0
+abbrev pub split : List Gate
+split = AND 0 1 ∷ XOR 0 8 ∷ []
+
+-- slots variable, set F, push: gate 0 sets F, gate 1 is pushed, gate 2 sets T
+abbrev pub target : List Gate
+target = AND 0 1 ∷ AND 0 2 ∷ XOR 0 8 ∷ []
+
+-- slots state's wire, pop, push
+abbrev pub guard : List Gate
+guard = AND 0 1 ∷ AND 0 2 ∷ []
+
+-- slots push, the depth above, pop, the depth: gate 2 is whether the level changes
 abbrev pub select : List Gate
-select = AND 0 1 ∷ AND 2 3 ∷ []
+select = XOR 0 1 ∷ XOR 2 3 ∷ AND 8 9 ∷ []
 
--- slots pop, level's wire, push, state's wire; restored. Gate 2: the change of the level's wire
+-- slots changes, level's wire, what is pushed; total. Gate 1: the change of the level's wire
 abbrev pub level : List Gate
-level = AND 0 1 ∷ AND 2 3 ∷ XOR 8 9 ∷ XOR 4 8 ∷ []
+level = XOR 1 2 ∷ AND 0 8 ∷ XOR 3 9 ∷ []
 
--- slots pop, state's wire, two restored, set, variable: gate 4 is the change of the state's wire
+-- the XOR of six slots: gate 4 is the change of the state's wire
 abbrev pub assignment : List Gate
-assignment = AND 0 1 ∷ AND 4 5 ∷ XOR 2 3 ∷ XOR 8 10 ∷ XOR 11 9 ∷ []
-
--- slots pop and push of the level below, pop and push of the level: gate 2 is the change of the depth wire
-abbrev pub depth : List Gate
-depth = XOR 0 1 ∷ XOR 8 2 ∷ XOR 9 3 ∷ []
+assignment = XOR 0 1 ∷ XOR 8 2 ∷ XOR 9 3 ∷ XOR 10 4 ∷ XOR 11 5 ∷ []
 
 -- slots satisfied, done, refuted, refute: the next satisfied, the next refuted, and whether the next state is closed
 abbrev pub standing : List Gate

@@ -1,18 +1,72 @@
--- Which section stands at a number: by the tests of the definition.
--- Assumes nothing.
-use mathlib.Core.Path.{_≡_}
-use Prim.Native.Nat.{ℕ, _-_, _≤_, _<_}
+-- Which section stands at a number: by the tests of the definition, and by the places in the list of those before the next levels.
+use mathlib.Core.Path.{_≡_, refl, ap, sym, _∙_}
+use Prim.Native.Nat.{ℕ, zero, suc, _+_, _-_, _≤_, _<_}
+use native.Mathlib.Omega.{arith}
 use borrow.Author.Tests.{lt-ltb, le-ltb}
 use lib.ListN.{getD}
 use Rattle.sections.specs.declared.Addresses.{Addresses}
-use Rattle.sections.specs.Sections.{first, nextLevel, nextStanding, sectionAt}
+use Rattle.sections.specs.declared.Section.{Section}
+use Rattle.sections.specs.Sections.{digit, keyDigit, split, nextLevel, nextStanding, noSection, ifDigit, first, sectionAt}
 
-module _ (a : Addresses) (k : ℕ) where
-  pub at-first : k < 18 → getD (first a) k (nextStanding a) ≡ sectionAt a k
-  at-first h = rw (lt-ltb k 18 h)
+-- k is none of j numbers from i on
+unfoldable pub Past : ℕ → ℕ → ℕ → Type 0
+Past i zero k = Unit {0}
+Past i (suc j) k = Past i j k × (k ≡ i + j → ⊥)
 
-  pub at-level : 18 ≤ k → k - 18 < a .n → nextLevel a (k - 18) ≡ sectionAt a k
-  at-level h l = rw (le-ltb k 18 h, lt-ltb (k - 18) (a .n) l)
+pub past-least : (i j k : ℕ) → i ≤ k → Past i j k → i + j ≤ k
+unfolding Past
+past-least i zero k h p = omega arith
+past-least i (suc j) k h p = omega (arith, past-least i j k h (p .0), p .1)
 
-  pub at-last : 18 ≤ k → a .n ≤ k - 18 → nextStanding a ≡ sectionAt a k
-  at-last h l = rw (le-ltb k 18 h, le-ltb (k - 18) (a .n) l)
+module _ (a : Addresses) where
+  -- ---- a family's members
+
+  pub if-digit : (f : ℕ → Section) (d : ℕ) → d < a .b → f d ≡ ifDigit a f d
+  if-digit f d h = rw (lt-ltb d (a .b) h)
+
+  pub no-digit : (f : ℕ → Section) (d : ℕ) → a .b ≤ d → noSection a ≡ ifDigit a f d
+  no-digit f d h = rw (le-ltb d (a .b) h)
+
+  -- ---- before the next levels
+
+  abbrev pub firstAt : ℕ → Section
+  firstAt k = getD (first a) k (nextStanding a)
+
+  pub by-number : (s : Section) (k j : ℕ) → s ≡ firstAt j → k ≡ j → s ≡ firstAt k
+  by-number s k j e h = e ∙ ap firstAt (sym h)
+
+  pub digit-at : (d : ℕ) → d < 5 → ifDigit a (digit a) d ≡ firstAt (4 + d)
+  digit-at zero h = refl
+  digit-at (suc zero) h = refl
+  digit-at (suc (suc zero)) h = refl
+  digit-at (suc (suc (suc zero))) h = refl
+  digit-at (suc (suc (suc (suc zero)))) h = refl
+  digit-at (suc (suc (suc (suc (suc d))))) h = absurd (omega arith)
+
+  pub key-digit-at : (d : ℕ) → d < 5 → ifDigit a (keyDigit a) d ≡ firstAt (10 + d)
+  key-digit-at zero h = refl
+  key-digit-at (suc zero) h = refl
+  key-digit-at (suc (suc zero)) h = refl
+  key-digit-at (suc (suc (suc zero))) h = refl
+  key-digit-at (suc (suc (suc (suc zero)))) h = refl
+  key-digit-at (suc (suc (suc (suc (suc d))))) h = absurd (omega arith)
+
+  pub split-at : (d : ℕ) → d < 5 → ifDigit a (split a) d ≡ firstAt (23 + d)
+  split-at zero h = refl
+  split-at (suc zero) h = refl
+  split-at (suc (suc zero)) h = refl
+  split-at (suc (suc (suc zero))) h = refl
+  split-at (suc (suc (suc (suc zero)))) h = refl
+  split-at (suc (suc (suc (suc (suc d))))) h = absurd (omega arith)
+
+  -- ---- all sections
+
+  module _ (k : ℕ) where
+    pub at-first : k < 40 → firstAt k ≡ sectionAt a k
+    at-first h = rw (lt-ltb k 40 h)
+
+    pub at-level : 40 ≤ k → k - 40 < a .n → nextLevel a (k - 40) ≡ sectionAt a k
+    at-level h l = rw (le-ltb k 40 h, lt-ltb (k - 40) (a .n) l)
+
+    pub at-last : 40 ≤ k → a .n ≤ k - 40 → nextStanding a ≡ sectionAt a k
+    at-last h l = rw (le-ltb k 40 h, le-ltb (k - 40) (a .n) l)

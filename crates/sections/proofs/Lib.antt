@@ -1,2 +1,3 @@
+pub mod DigitLaws
 pub mod Bounds
 pub mod InOrder

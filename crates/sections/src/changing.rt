@@ -3,19 +3,36 @@ use crate::Addresses;
 use crate::Section;
 use crate::templates;
 ghost use mathlib.Core.Path.{_≡_};
+ghost use Prim.Native.Nat.{_≤_, _<_};
+ghost use lib.ListN.{getD};
 ghost use Rattle.sections.specs.Addressing.{Small};
 ghost use Rattle.sections.specs.Sections as Sections;
 
+// Sections 32 to 37.
+pub(crate) fn at(a: Addresses, k: u32) -> Section
+    requires { ⌜ Small a × (32 ≤ k) × (k < 38) ⌝ }
+    ensures { λ r. ⌜ r ≡ getD (Sections.first a) k (Sections.nextStanding a) ⌝ }
+{
+    match k {
+        32 => levels_t(a),
+        33 => levels_f(a),
+        34 => levels_v(a),
+        35 => assign_t(a),
+        36 => assign_f(a),
+        _ => depths(a),
+    }
+}
+
 // A level's T.
-pub(crate) fn levels_t(a: Addresses) -> Section
+fn levels_t(a: Addresses) -> Section
     requires { ⌜ Small a ⌝ }
     ensures { λ r. ⌜ r ≡ Sections.levelsT a ⌝ }
 {
-    levels(a, a.levels, a.state + 3 * a.n + 1, a.state, 1)
+    levels(a, a.levels, a.state + 3 * a.n + 1, a.guards + 1, 2)
 }
 
 // A level's F.
-pub(crate) fn levels_f(a: Addresses) -> Section
+fn levels_f(a: Addresses) -> Section
     requires { ⌜ Small a ⌝ }
     ensures { λ r. ⌜ r ≡ Sections.levelsF a ⌝ }
 {
@@ -23,13 +40,13 @@ pub(crate) fn levels_f(a: Addresses) -> Section
         a,
         a.levels + a.block,
         a.state + 4 * a.n + 1,
-        a.state + a.n,
-        1,
+        a.guards + 2 * a.n + 1,
+        2,
     )
 }
 
 // A level's chosen variable.
-pub(crate) fn levels_v(a: Addresses) -> Section
+fn levels_v(a: Addresses) -> Section
     requires { ⌜ Small a ⌝ }
     ensures { λ r. ⌜ r ≡ Sections.levelsV a ⌝ }
 {
@@ -37,99 +54,95 @@ pub(crate) fn levels_v(a: Addresses) -> Section
         a,
         a.levels + 2 * a.block,
         a.state + 5 * a.n + 1,
-        a.lowest + 2,
+        a.targets + 1,
         3,
     )
 }
 
-// One of a level's three sets of wires, from wire x at level 0; a push stores the wires from s, k apart.
-fn levels(a: Addresses, b: u32, x: u32, s: u32, k: u32) -> Section
+// One of a level's three sets of wires, from wire x at level 0; what is pushed stands from u, s apart.
+fn levels(a: Addresses, b: u32, x: u32, u: u32, s: u32) -> Section
     requires { ⌜ Small a ⌝ }
-    ensures { λ r. ⌜ r ≡ Sections.levels a b x s k ⌝ }
+    ensures { λ r. ⌜ r ≡ Sections.levels a b x u s ⌝ }
 {
     let n = a.n;
-    let p = a.selects + 2;
     Section {
         base: b,
         zeros: 1,
         template: templates::LEVEL,
-        size: 4,
+        size: 3,
         lines: n,
         cells: n,
-        slots: [p, x, p + 1, s, b, 0, 0, 0],
-        outer: [0, 1, 0, k, 1 + 4 * n, 0, 0, 0],
-        inner: [2, 3 * n, 2, 0, 4, 0, 0, 0],
+        slots: [a.selects + 3, x, u, b, 0, 0, 0, 0],
+        outer: [0, 1, s, 1 + 3 * n, 0, 0, 0, 0],
+        inner: [3, 3 * n, 0, 3, 0, 0, 0, 0],
     }
 }
 
-// T gets back a level's T.
-pub(crate) fn assign_t(a: Addresses) -> Section
+// The change of T.
+fn assign_t(a: Addresses) -> Section
     requires { ⌜ Small a ⌝ }
     ensures { λ r. ⌜ r ≡ Sections.assignT a ⌝ }
 {
-    assignments(
-        a,
-        a.assignments,
-        a.state,
-        a.levels + 4 * a.n,
-        a.inputs,
-        0,
-        a.rule + 13,
-    )
-}
-
-// F gets back a level's F with the chosen variable.
-pub(crate) fn assign_f(a: Addresses) -> Section
-    requires { ⌜ Small a ⌝ }
-    ensures { λ r. ⌜ r ≡ Sections.assignF a ⌝ }
-{
     let n = a.n;
-    let back = a.levels + a.block + 4 * n;
-    let chosen = a.levels + 2 * a.block + 4 * n;
-    assignments(
-        a,
-        a.assignments + 5 * n,
-        a.state + n,
-        back,
-        chosen,
-        1 + 4 * n,
-        a.rule + 12,
-    )
-}
-
-// The change of T or F, from wire t: a pop restores what stands from p and from q, k apart, and wire s sets the variable.
-fn assignments(a: Addresses, b: u32, t: u32, p: u32, q: u32, k: u32, s: u32) -> Section
-    requires { ⌜ Small a ⌝ }
-    ensures { λ r. ⌜ r ≡ Sections.assignments a b t p q k s ⌝ }
-{
+    let g = a.guards;
     Section {
-        base: b,
+        base: a.assignments,
         zeros: 0,
         template: templates::ASSIGNMENT,
         size: 5,
         lines: 1,
-        cells: a.n,
-        slots: [a.rule + 6, t, p, q, s, a.lowest + 2, 0, 0],
+        cells: n,
+        slots: [
+            g,
+            a.levels + 3 * n,
+            g + 1,
+            a.targets + 2,
+            a.inputs,
+            a.inputs,
+            0,
+            0,
+        ],
         outer: [0; 8],
-        inner: [0, 1, 1 + 4 * a.n, k, 0, 3, 0, 0],
+        inner: [2, 1 + 3 * n, 2, 3, 0, 0, 0, 0],
+    }
+}
+
+// The change of F.
+fn assign_f(a: Addresses) -> Section
+    requires { ⌜ Small a ⌝ }
+    ensures { λ r. ⌜ r ≡ Sections.assignF a ⌝ }
+{
+    let n = a.n;
+    let g = a.guards + 2 * n;
+    let back = a.levels + a.block + 3 * n;
+    let chosen = a.levels + 2 * a.block + 3 * n;
+    Section {
+        base: a.assignments + 5 * n,
+        zeros: 0,
+        template: templates::ASSIGNMENT,
+        size: 5,
+        lines: 1,
+        cells: n,
+        slots: [g, back, g + 1, chosen, a.targets + 1, a.targets, 0, 0],
+        outer: [0; 8],
+        inner: [2, 1 + 3 * n, 2, 1 + 3 * n, 3, 3, 0, 0],
     }
 }
 
 // The change of the depth.
-pub(crate) fn depths(a: Addresses) -> Section
+fn depths(a: Addresses) -> Section
     requires { ⌜ Small a ⌝ }
     ensures { λ r. ⌜ r ≡ Sections.depths a ⌝ }
 {
-    let p = a.selects;
     Section {
         base: a.depths,
         zeros: 0,
-        template: templates::DEPTH,
-        size: 3,
+        template: templates::SUM,
+        size: 1,
         lines: 1,
         cells: a.n + 1,
-        slots: [p, p + 1, p + 2, p + 3, 0, 0, 0, 0],
+        slots: [a.selects, a.selects + 3, 0, 0, 0, 0, 0, 0],
         outer: [0; 8],
-        inner: [2, 2, 2, 2, 0, 0, 0, 0],
+        inner: [3, 3, 0, 0, 0, 0, 0, 0],
     }
 }

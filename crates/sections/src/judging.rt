@@ -1,13 +1,28 @@
-// What the rows say: the variables that are free, each row's literals, the rows in turn, and the rows that count.
+// What the rows say: each row's literals, how many of them are free, and the row's rank.
 use crate::Addresses;
 use crate::Section;
 use crate::templates;
 ghost use mathlib.Core.Path.{_≡_};
+ghost use Prim.Native.Nat.{_<_};
+ghost use lib.ListN.{getD};
 ghost use Rattle.sections.specs.Addressing.{Small};
 ghost use Rattle.sections.specs.Sections as Sections;
 
+// Sections 0 to 3.
+pub(crate) fn at(a: Addresses, k: u32) -> Section
+    requires { ⌜ Small a × (k < 4) ⌝ }
+    ensures { λ r. ⌜ r ≡ getD (Sections.first a) k (Sections.nextStanding a) ⌝ }
+{
+    match k {
+        0 => zero_gate(a),
+        1 => literals(a),
+        2 => counts(a),
+        _ => ranks(a),
+    }
+}
+
 // A gate that is 0.
-pub(crate) fn zero_gate(a: Addresses) -> Section
+fn zero_gate(a: Addresses) -> Section
     requires { ⌜ Small a ⌝ }
     ensures { λ r. ⌜ r ≡ Sections.zeroGate a ⌝ }
 {
@@ -24,81 +39,73 @@ pub(crate) fn zero_gate(a: Addresses) -> Section
     }
 }
 
-// Free variables.
-pub(crate) fn variables(a: Addresses) -> Section
-    requires { ⌜ Small a ⌝ }
-    ensures { λ r. ⌜ r ≡ Sections.variables a ⌝ }
-{
-    Section {
-        base: a.inputs + 1,
-        zeros: 0,
-        template: templates::VARIABLE,
-        size: 2,
-        lines: 1,
-        cells: a.n,
-        slots: [a.state, a.state + a.n, 0, 0, 0, 0, 0, 0],
-        outer: [0; 8],
-        inner: [1, 1, 0, 0, 0, 0, 0, 0],
-    }
-}
-
 // Each row's literals.
-pub(crate) fn literals(a: Addresses) -> Section
+fn literals(a: Addresses) -> Section
     requires { ⌜ Small a ⌝ }
     ensures { λ r. ⌜ r ≡ Sections.literals a ⌝ }
 {
     let n = a.n;
     let b = a.literals;
-    let row = 4 + 15 * n;
+    let row = 2 + 12 * n;
     Section {
         base: b,
-        zeros: 4,
+        zeros: 2,
         template: templates::LITERAL,
-        size: 15,
+        size: 12,
         lines: a.m,
         cells: n,
-        slots: [0, n, a.state + n, a.inputs + 2, b, b + 1, b + 2, b + 3],
-        outer: [2 * n, 2 * n, 0, 0, row, row, row, row],
-        inner: [1, 1, 1, 2, 15, 15, 15, 15],
+        slots: [0, n, a.state, a.state + n, b, b + 1, 0, 0],
+        outer: [2 * n, 2 * n, 0, 0, row, row, 0, 0],
+        inner: [1, 1, 1, 1, 12, 12, 0, 0],
     }
 }
 
-// The rows in turn.
-pub(crate) fn scan(a: Addresses) -> Section
+// Whether a row has some free literal, and whether it has many.
+fn counts(a: Addresses) -> Section
     requires { ⌜ Small a ⌝ }
-    ensures { λ r. ⌜ r ≡ Sections.scan a ⌝ }
+    ensures { λ r. ⌜ r ≡ Sections.counts a ⌝ }
 {
-    let b = a.scan;
-    let r = a.literals + 15 * a.n;
-    let row = 4 + 15 * a.n;
+    let n = a.n;
+    let b = a.counts;
+    let counted = 2 + 6 * n;
     Section {
         base: b,
-        zeros: 4,
-        template: templates::ROW,
-        size: 16,
-        lines: 1,
-        cells: a.m,
-        slots: [r, r + 1, r + 2, r + 3, b, b + 1, b + 2, b + 3],
-        outer: [0; 8],
-        inner: [row, row, row, row, 16, 16, 16, 16],
+        zeros: 2,
+        template: templates::COUNT,
+        size: 6,
+        lines: a.m,
+        cells: n,
+        slots: [a.literals + 10, b, b + 1, 0, 0, 0, 0, 0],
+        outer: [2 + 12 * n, counted, counted, 0, 0, 0, 0, 0],
+        inner: [12, 6, 6, 0, 0, 0, 0, 0],
     }
 }
 
-// The rows that count.
-pub(crate) fn weights(a: Addresses) -> Section
+// Each row's rank.
+fn ranks(a: Addresses) -> Section
     requires { ⌜ Small a ⌝ }
-    ensures { λ r. ⌜ r ≡ Sections.weights a ⌝ }
+    ensures { λ r. ⌜ r ≡ Sections.ranks a ⌝ }
 {
-    let s = a.scan;
+    let n = a.n;
+    let counted = 2 + 6 * n;
     Section {
-        base: a.weights,
+        base: a.ranks,
         zeros: 0,
-        template: templates::WEIGHT,
-        size: 3,
+        template: templates::RANK,
+        size: 5,
         lines: 1,
         cells: a.m,
-        slots: [s + 4, s + 14, s + 16 * a.m + 2, 0, 0, 0, 0, 0],
+        slots: [
+            a.literals + 12 * n,
+            a.counts + 6 * n,
+            a.counts + 6 * n + 1,
+            0,
+            0,
+            0,
+            0,
+            0,
+        ],
         outer: [0; 8],
-        inner: [16, 16, 0, 0, 0, 0, 0, 0],
+        inner: [2 + 12 * n, counted, counted, 0, 0, 0, 0, 0],
     }
 }

@@ -39,9 +39,9 @@ pub(crate) fn next_depth(a: Addresses) -> Section
         size: 1,
         lines: 1,
         cells: n + 1,
-        slots: [a.state + 2 * n, a.depths + 2, 0, 0, 0, 0, 0, 0],
+        slots: [a.state + 2 * n, a.depths, 0, 0, 0, 0, 0, 0],
         outer: [0; 8],
-        inner: [1, 3, 0, 0, 0, 0, 0, 0],
+        inner: [1, 1, 0, 0, 0, 0, 0, 0],
     }
 }
 
@@ -60,7 +60,7 @@ pub(crate) fn next_level(a: Addresses, l: u32) -> Section
         cells: n,
         slots: [
             a.state + 3 * n + 1 + 3 * n * l,
-            a.levels + 3 + 4 * l,
+            a.levels + 2 + 3 * l,
             0,
             0,
             0,
@@ -69,7 +69,7 @@ pub(crate) fn next_level(a: Addresses, l: u32) -> Section
             0,
         ],
         outer: [n, a.block, 0, 0, 0, 0, 0, 0],
-        inner: [1, 1 + 4 * n, 0, 0, 0, 0, 0, 0],
+        inner: [1, 1 + 3 * n, 0, 0, 0, 0, 0, 0],
     }
 }
 
@@ -88,7 +88,7 @@ pub(crate) fn next_standing(a: Addresses) -> Section
         size: 3,
         lines: 1,
         cells: 1,
-        slots: [e, r + 3, e + 1, r + 5, 0, 0, 0, 0],
+        slots: [e, r + 7, e + 1, r + 8, 0, 0, 0, 0],
         outer: [0; 8],
         inner: [0; 8],
     }

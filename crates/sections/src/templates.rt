@@ -1,26 +1,32 @@
 // Where each template begins among the gates of all templates.
 pub(crate) const SUM: u32 = 0;
 
-pub(crate) const VARIABLE: u32 = 1;
+pub(crate) const LITERAL: u32 = 1;
 
-pub(crate) const LITERAL: u32 = 3;
+pub(crate) const COUNT: u32 = 13;
 
-pub(crate) const ROW: u32 = 18;
+pub(crate) const RANK: u32 = 19;
 
-pub(crate) const WEIGHT: u32 = 34;
+pub(crate) const BYE: u32 = 24;
 
-pub(crate) const PICK: u32 = 37;
+pub(crate) const PAIR: u32 = 32;
 
-pub(crate) const LOWEST: u32 = 41;
+pub(crate) const NODE: u32 = 40;
 
-pub(crate) const RULE: u32 = 44;
+pub(crate) const CHOICE: u32 = 48;
 
-pub(crate) const SELECT: u32 = 58;
+pub(crate) const RULE: u32 = 50;
 
-pub(crate) const LEVEL: u32 = 60;
+pub(crate) const SPLIT: u32 = 63;
 
-pub(crate) const ASSIGNMENT: u32 = 64;
+pub(crate) const TARGET: u32 = 65;
 
-pub(crate) const DEPTH: u32 = 69;
+pub(crate) const GUARD: u32 = 68;
 
-pub(crate) const STANDING: u32 = 72;
+pub(crate) const SELECT: u32 = 70;
+
+pub(crate) const LEVEL: u32 = 73;
+
+pub(crate) const ASSIGNMENT: u32 = 76;
+
+pub(crate) const STANDING: u32 = 81;

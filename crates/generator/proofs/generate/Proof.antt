@@ -6,7 +6,8 @@ use Rattle.refusals.specs.Checks.{outcome}
 use Rattle.refusals.specs.declared.Outcome.the-variants.{Taken}
 use Rattle.dimensions.specs.Sizes.{sizeChecks}
 use Rattle.dimensions.proofs.Limits.{within}
-use Rattle.generator.proofs.Generating.{ceiling-small, with-said, refuse-size, refuse-buffer, taken}
+use Rattle.generator.proofs.Room.{ceiling-small}
+use Rattle.generator.proofs.Generating.{with-said, refuse-size, refuse-buffer, taken}
 use borrow.Author.Needs.{needs}
 use Rattle.generator.proofs.generate.Statement.{statement}
 use Rattle.generator.proofs.generate.Tie as tie
@@ -56,9 +57,7 @@ returns-2 c =
 write-requires : tie.Need-write-requires
 write-requires c κs =
     let at-ceiling = c .before .before in
-    let d = start (checked (at-ceiling .before)) .args .d in
-    let w = within d (sizes (at-ceiling .before)) in
-    (w .n-most, w .rows-most, rw (at-ceiling .ceiling .ensures) at (c .before .if1 .left))
+    (sizes (at-ceiling .before), rw (at-ceiling .ceiling .ensures) at (c .before .if1 .left))
 
 same-length : tie.Need-same-length
 same-length c = search needs

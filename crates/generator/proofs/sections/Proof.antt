@@ -2,15 +2,18 @@
 -- Assumes nothing.
 use borrow.Author.Needs.{needs}
 use mathlib.Core.Path.{_≡_, refl, ap}
-use Prim.Native.Nat.{_+_, _*_, _-_, _≤_}
+use Prim.Native.Nat.{_+_, _*_, _-_, _≤_, _<_}
 use native.Mathlib.Omega.{arith}
 use lib.ListN.{length}
 use lib.Seq.{sets, length-sets}
 use Rattle.dimensions.specs.Sizes.{rowCount, ceiling}
+use Rattle.dimensions.proofs.Limits.{within}
 use Rattle.gates.specs.Memory.{wordsOf}
+use Rattle.sections.specs.Addressing.{digitsFor}
+use Rattle.sections.proofs.DigitLaws.{digits-most}
 use Rattle.netlist.specs.Arrays.{rows}
 use Rattle.generator.specs.Storing.{gatesAt}
-use Rattle.generator.proofs.Circuit.{section-more}
+use Rattle.generator.proofs.Order.{section-more}
 use Rattle.generator.proofs.Room.{fits}
 use Rattle.generator.proofs.sections.Statement.{statement}
 use Rattle.generator.proofs.sections.Tie as tie
@@ -46,8 +49,9 @@ section-requires c κs =
     let a = l .before .before in
     let d = a .args .d in
     let k = kept l in
-    let room : 3 * ceiling d ≤ length (l .loop .words) = omega (arith, a .pre .0 .2) in
-    ((refl, refl), fits (d .n) (rowCount d) (length (l .loop .words)) (a .pre .0 .0) (a .pre .0 .1) room (a .args .inputs) (a .pre .1 .0) (l .loop .k) _ (c .before .before .before .at .ensures))
+    let room : 3 * ceiling d ≤ length (l .loop .words) = omega (arith, a .pre .0 .1) in
+    let below : l .loop .k < 41 + d .n = omega (arith, c .before .before .before .before .loop-test .taken, a .pre .1 .1) in
+    ((refl, refl), fits d (within d (a .pre .0 .0)) (length (l .loop .words)) room (a .args .inputs) (a .pre .1 .0) (l .loop .k) below _ (c .before .before .before .at .ensures))
 
 add-k : tie.Need-add-k Inv-loop μ-loop
 add-k c = search needs
@@ -65,7 +69,7 @@ loop-again c =
     let d = a .args .d in
     let test = at-loop-test .loop-test .taken in (
       omega (arith, test),
-      section-more (d .n) (rowCount d) (l .loop .k) (omega (arith, test, a .pre .1 .1)) (a .args .inputs) (a .pre .1 .0) _ (at-at .at .ensures)
+      section-more (d .n) (rowCount d) (digitsFor (d .n)) (digits-most (d .n)) (l .loop .k) (omega (arith, test, a .pre .1 .1)) (a .args .inputs) (a .pre .1 .0) _ (at-at .at .ensures)
           (a .args .words .now) (l .loop .words) _ (l .loop .inv .1) (at-section .section .ensures),
     )
 

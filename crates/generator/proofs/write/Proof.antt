@@ -6,9 +6,12 @@ use Prim.Native.Nat.{_+_}
 use native.Mathlib.Omega.{arith}
 use lib.Seq.{sets}
 use Rattle.dimensions.specs.Sizes.{rowCount}
+use Rattle.dimensions.proofs.Limits.{within}
 use Rattle.gates.specs.Gates.{Gate}
 use Rattle.gates.specs.Memory.{wordsOf}
 use Rattle.sections.specs.declared.Addresses.{Addresses}
+use Rattle.sections.specs.Addressing.{addressesOn}
+use Rattle.sections.proofs.DigitLaws.{digits-most}
 use Rattle.generator.proofs.Circuit.{all-sections}
 use Rattle.generator.proofs.Room.{wires-few}
 use Rattle.generator.proofs.Generating.{counted}
@@ -31,7 +34,7 @@ sub-gates : tie.Need-sub-gates
 sub-gates c =
     let s = start (c .before) in
     let d = s .args .d in
-    omega (arith, wires-few (d .n) (rowCount d) (s .pre .0) (s .pre .1) _ (c .before .of .ensures))
+    omega (arith, wires-few d (within d (s .pre .0)) _ (c .before .of .ensures))
 
 cast-sections : tie.Need-cast-sections
 cast-sections c = search needs
@@ -43,14 +46,14 @@ sections-requires : tie.Need-sections-requires
 sections-requires c κs =
     let at-of = c .before .before .before in
     let s = start at-of in
-    ((s .pre .0, s .pre .1, s .pre .2), (ap (λ (a : Addresses). a .inputs) (at-of .of .ensures), omega arith))
+    ((s .pre .0, s .pre .1), (ap (λ (a : Addresses). a .inputs) (at-of .of .ensures), omega arith))
 
 cast-result : tie.Need-cast-result
 cast-result c =
     let at-of = addressed (c .before .before) in
     let s = start at-of in
     let d = s .args .d in
-    omega (arith, wires-few (d .n) (rowCount d) (s .pre .0) (s .pre .1) _ (at-of .of .ensures))
+    omega (arith, wires-few d (within d (s .pre .0)) _ (at-of .of .ensures))
 
 same-length : tie.Need-same-length
 same-length c = search needs
@@ -62,7 +65,7 @@ returns c =
     let s = start at-of in
     let d = s .args .d in (
       counted (d .n) (rowCount d) _ (at-of .of .ensures),
-      at-sections .sections .ensures ∙ ap (λ (l : List Gate). sets (s .args .words .now) 0 (wordsOf l)) (all-sections (d .n) (rowCount d) (19 + d .n) refl),
+      at-sections .sections .ensures ∙ ap (λ (l : List Gate). sets (s .args .words .now) 0 (wordsOf l)) (all-sections (addressesOn d) (digits-most (d .n)) (41 + d .n) refl),
     )
 
 pub write-spec : {M : Type 1} → statement M

@@ -1,5 +1,4 @@
 -- `Section::at` meets its contract: the tests are the definition's, and sums over the addresses fit.
--- Assumes nothing.
 use mathlib.Core.Path.{ap, _∙_}
 use Prim.Native.Nat.{_-_}
 use native.Mathlib.Omega.{arith}
@@ -34,7 +33,7 @@ returns c =
 next-level-requires : tie.Need-next-level-requires
 next-level-requires c κs =
     let s = c .before .before .before .before .args in
-    small-before (s .d .n) (rowCount (s .d)) (omega arith) (omega arith) _ (c .before .before .before .of .ensures) (s .k - 18) (omega arith)
+    small-before (s .d .n) (rowCount (s .d)) (omega arith) (omega arith) _ (c .before .before .before .of .ensures) (s .k - 40) (omega arith)
 
 next-standing-requires : tie.Need-next-standing-requires
 next-standing-requires c κs =
@@ -44,7 +43,7 @@ next-standing-requires c κs =
 returns-2 : tie.Need-returns-2
 returns-2 c =
     let s = c .before .before .before .before .before .args in
-    c .next-level .ensures ∙ ap (λ (a : Addresses). nextLevel a (s .k - 18)) (c .before .before .before .before .of .ensures)
+    c .next-level .ensures ∙ ap (λ (a : Addresses). nextLevel a (s .k - 40)) (c .before .before .before .before .of .ensures)
     ∙ at-level (addressesOn (s .d)) (s .k) (c .before .before .if1 .left) (c .before .if2 .taken)
 
 returns-3 : tie.Need-returns-3
