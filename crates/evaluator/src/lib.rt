@@ -20,36 +20,36 @@ pub fn evaluate(gates: &[u32], inputs: &[u8], wires: &mut [u8]) -> Outcome
     ensures { λ _. ⌜ now (wires .exit) ≡ filled (now (gates .entry)) (now (inputs .entry)) (now (wires .entry)) ⌝ }
 {
     let end = inputs.len() + gates.len() / 3;
-    // Few wires do not repay a trial's array. The giant step's largest circuit has 197,346 without public rows and 286,306 with them:
+    // Few wires do not repay a trial's array. The giant step's largest circuit has 217,129 without public rows and 317,481 with them:
     // two arrays, so that fewer wires do not clear the larger one.
-    if 8192 <= end && end <= 204800 && gates::bits(inputs) {
+    if 8192 <= end && end <= 221184 && gates::bits(inputs) {
         return try_out(gates, inputs, wires);
     }
-    if 204800 < end && end <= 286720 && gates::bits(inputs) {
+    if 221184 < end && end <= 319488 && gates::bits(inputs) {
         return try_out_large(gates, inputs, wires);
     }
     two_pass::evaluate(gates, inputs, wires)
 }
 
-// Tries the gates out in an array of its own, 200 KiB on the stack.
+// Tries the gates out in an array of its own, 216 KiB on the stack.
 fn try_out(gates: &[u32], inputs: &[u8], wires: &mut [u8]) -> Outcome
-    requires { ⌜ length (now inputs) + length (now gates) / 3 ≤ 204800 ⌝ }
+    requires { ⌜ length (now inputs) + length (now gates) / 3 ≤ 221184 ⌝ }
     requires { ⌜ Memory.bits (now inputs) ≡ true ⌝ }
     ensures { λ r. ⌜ r ≡ outcome (checks (now (gates .entry)) (now (inputs .entry)) (now (wires .entry))) ⌝ }
     ensures { λ _. ⌜ now (wires .exit) ≡ filled (now (gates .entry)) (now (inputs .entry)) (now (wires .entry)) ⌝ }
 {
-    let mut own = [0u8; 204800];
+    let mut own = [0u8; 221184];
     try_in(gates, inputs, &mut own, wires)
 }
 
-// Tries more gates out, in 280 KiB on the stack.
+// Tries more gates out, in 312 KiB on the stack.
 fn try_out_large(gates: &[u32], inputs: &[u8], wires: &mut [u8]) -> Outcome
-    requires { ⌜ length (now inputs) + length (now gates) / 3 ≤ 286720 ⌝ }
+    requires { ⌜ length (now inputs) + length (now gates) / 3 ≤ 319488 ⌝ }
     requires { ⌜ Memory.bits (now inputs) ≡ true ⌝ }
     ensures { λ r. ⌜ r ≡ outcome (checks (now (gates .entry)) (now (inputs .entry)) (now (wires .entry))) ⌝ }
     ensures { λ _. ⌜ now (wires .exit) ≡ filled (now (gates .entry)) (now (inputs .entry)) (now (wires .entry)) ⌝ }
 {
-    let mut own = [0u8; 286720];
+    let mut own = [0u8; 319488];
     try_in(gates, inputs, &mut own, wires)
 }
 

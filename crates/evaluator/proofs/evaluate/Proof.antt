@@ -22,7 +22,7 @@ try-out-requires : tie.Need-try-out-requires
 try-out-requires c κs =
     let at-if2 = c .before .before .before in
     let a = start (at-if2 .before .before) .args in
-    (leb-true (length (a .inputs .now) + length (a .gates .now) / 3) 204800 (at-if2 .if2 .taken), sym (c .before .before .bits .ensures) ∙ c .before .if3 .taken)
+    (leb-true (length (a .inputs .now) + length (a .gates .now) / 3) 221184 (at-if2 .if2 .taken), sym (c .before .before .bits .ensures) ∙ c .before .if3 .taken)
 
 same-length : tie.Need-same-length
 same-length c = search needs
@@ -37,7 +37,7 @@ try-out-large-requires : tie.Need-try-out-large-requires
 try-out-large-requires c κs =
     let at-if5 = c .before .before .before in
     let a = start (at-if5 .before .before .before) .args in
-    (leb-true (length (a .inputs .now) + length (a .gates .now) / 3) 286720 (at-if5 .if5 .taken), sym (c .before .before .bits2 .ensures) ∙ c .before .if6 .taken)
+    (leb-true (length (a .inputs .now) + length (a .gates .now) / 3) 319488 (at-if5 .if5 .taken), sym (c .before .before .bits2 .ensures) ∙ c .before .if6 .taken)
 
 same-length-2 : tie.Need-same-length-2
 same-length-2 c = search needs
