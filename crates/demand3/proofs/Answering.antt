@@ -29,7 +29,7 @@ use Rattle.repeats.specs.declared.Repeated.{Repeated}
 use Rattle.repeats.specs.Repeats.{Attempt, Repeat, lastRun, longEnough, longOnes}
 use Rattle.repeats.specs.Repeating.{whole, made, repeatedBy, refusedWith, allowed, repeated}
 use Rattle.demand3.specs.Demand3.{historyOf, answerFor}
-use Rattle.repeats.proofs.RepeatChecks.{Passed, passed}
+use Rattle.repeats.proofs.RepeatChecks.{sizes-taken, Passed, passed}
 use Rattle.demand3.proofs.Demand3.{demand3}
 use Rattle.demand3.proofs.Consequences.{answer-is}
 
@@ -67,7 +67,7 @@ module _ (d : Dimensions) (tables : Tables) (budget : ℕ) (gates bytes wires : 
     answer-of : answered (repeatedBy run history) ≡ answerOf (d .n) (always (rowsOf d tables)) budget
     answer-of =
         ap (λ (k : ℕ). record { count = k; verdict = verdictOf (lastRun run history .standing) (lastRun run history .t) }) (sym (length-map history (λ (r : Repeat). r .mark)))
-        ∙ answer-is d (demand3 d) (λ i. tables) (λ i. p .tables-taken) budget attempts (answerFor d (λ i. tables) budget) refl
+        ∙ answer-is d (demand3 d (sizes-taken d tables (p .tables-taken))) (λ i. tables) (λ i. p .tables-taken) budget attempts (answerFor d (λ i. tables) budget) refl
         (omega (arith, all-long d (whole d bytes wires) long budget, count-most (d .n) budget (always (rowsOf d tables))))
 
   -- repeats and verdict of a call that is taken are the budgeted run's

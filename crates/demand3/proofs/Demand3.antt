@@ -195,12 +195,13 @@ same-seen d tables tables′ acc acc′ same budget attempts attempts′ q e e�
 -- the writer takes the circuit's words
 writer-takes : (d : Dimensions) → outcome (sizeChecks d) ≡ Taken → outcome (circuitChecks d (circuitWords d)) ≡ Taken
 writer-takes d e =
-    outcome-taken (sizeChecks d) (check (not (accepted (inputWires d) (circuitWords d))) Gates ∷ []) e ∙ rw (words-accepted d)
+    outcome-taken (sizeChecks d) (check (not (accepted (inputWires d) (circuitWords d))) Gates ∷ []) e ∙ rw (words-accepted d e)
 
-pub demand3 : (d : Dimensions) → Demand3 d
+-- of dimensions within their limits: for others no circuit is made
+pub demand3 : (d : Dimensions) → outcome (sizeChecks d) ≡ Taken → Demand3 d
 unfolding circuitWords
-demand3 d = record {
-  every-state = gates-carry-out d;
+demand3 d fits = record {
+  every-state = gates-carry-out d fits;
   history = λ tables acc budget attempts. follows d tables acc budget attempts;
   end = λ tables acc budget attempts. (ends d tables acc budget attempts, reached d tables acc budget attempts);
   text = λ e lent room k h. (

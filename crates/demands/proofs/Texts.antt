@@ -20,7 +20,8 @@ use Rattle.reply.proofs.Accepted.{n-high, tables-taken, rowsRead, reply-answers
 use Rattle.demand2.specs.Demand2.{Demand2}
 use Rattle.demand2.proofs.Demand2.{demand2}
 use Rattle.repeats.specs.Repeats.{Attempt, longOnes}
-use Rattle.demand3.specs.Demand3.{historyOf, answerFor, Follows, seen, AllAccepts}
+use Rattle.repeats.proofs.RepeatChecks.{sizes-taken}
+use Rattle.demand3.specs.Demand3.{historyOf, answerFor, Follows, seen, AllAccepts, Demand3}
 use Rattle.demand3.proofs.Demand3.{demand3}
 use Rattle.demand3.proofs.Consequences.{answer-is}
 
@@ -38,13 +39,16 @@ module _ (left right public : List ℕ) (taken : textTables left right public .o
   pub read-accepted : AllAccepts sizes tables
   read-accepted i = tables-taken read (accepted-texts left right public taken)
 
+  circuit-demand3 : Demand3 sizes
+  circuit-demand3 = demand3 sizes (sizes-taken sizes (tablesIn read) (read-accepted 0))
+
   -- the budgeted run over the rows that were read
   pub reply-demand2 : (steps : ℕ) → Demand2 (read .n) (rowsRead left right public) steps (answerOf (read .n) (rowsRead left right public) steps)
   reply-demand2 steps = demand2 sizes (tablesIn read) steps (read-accepted 0)
 
   -- after every repeat, the plain run over the rows that were read
   pub reply-history : (budget : ℕ) (attempts : List Attempt) → Follows sizes tables budget (historyOf sizes tables budget attempts)
-  reply-history = demand3 sizes .history tables read-accepted
+  reply-history = circuit-demand3 .history tables read-accepted
 
   -- at the end the composed answer is the pair program's
   pub reply-demand3 : (line : List ℕ) (steps : ℕ) → budgetOf line ≡ budget.Of steps → (attempts : List Attempt)
@@ -52,6 +56,6 @@ module _ (left right public : List ℕ) (taken : textTables left right public .o
   unfolding replyText
   reply-demand3 line steps e attempts long =
       let low : min (read .n) 32 ≡ read .n = omega (arith, n-high left right public) in
-      ap (answerText (min (read .n) 32)) (answer-is sizes (demand3 sizes) tables read-accepted steps attempts (answerFor sizes tables steps) refl long)
+      ap (answerText (min (read .n) 32)) (answer-is sizes circuit-demand3 tables read-accepted steps attempts (answerFor sizes tables steps) refl long)
       ∙ ap (λ (k : ℕ). answerText k (answerFor sizes tables steps)) low
       ∙ sym (ap (solvedText (read .n)) (reply-answers left right public line steps taken e))

@@ -27,6 +27,7 @@ use Rattle.text.proofs.Decimals.{decimal-length}
 use Rattle.dimensions.specs.declared.Dimensions.{Dimensions}
 use Rattle.dimensions.specs.declared.Sized.the-variants as sized′
 use Rattle.dimensions.specs.Sizes.{dimensions, rowCount, sizeChecks, sized, ceiling, inputWires}
+use Rattle.dimensions.proofs.Limits.{within}
 use Rattle.gates.specs.Memory.{gatesOf, wordsOf, over}
 use Rattle.gates.proofs.InMemory.{words-length, gates-words, accepted-words}
 use Rattle.netlist.specs.Netlist.{gatesOn}
@@ -116,11 +117,12 @@ module _ (d : Dimensions) (words : List ℕ) (h : length words ≡ 16383) where
 
     circuit-short : length (circuitText d (gatesOn d)) ≤ 131072
     circuit-short =
-        served-short d (gatesOn d) few (omega (arith, few, gates-length (d .n) (rowCount d)))
-        (sym (accepted-words (inputWires d) (gatesOn d)) ∙ gates-accepted d)
+        let w = within d (both-taken .0) in
+        served-short d (gatesOn d) few (omega (arith, few, gates-length (d .n) (rowCount d) (w .n-least) (omega (arith, w .left-least))))
+        (sym (accepted-words (inputWires d) (gatesOn d)) ∙ gates-accepted d (both-taken .0))
 
     circuit-taken : outcome (circuitChecks d (wordsOf (gatesOn d))) ≡ Taken
-    circuit-taken = sym (take-circuit d (wordsOf (gatesOn d)) (both-taken .0) (ap not (gates-accepted d)))
+    circuit-taken = sym (take-circuit d (wordsOf (gatesOn d)) (both-taken .0) (ap not (gates-accepted d (both-taken .0))))
 
     circuit-text : circuitText d (gatesOf (wordsOf (gatesOn d))) ≡ textFor d
     circuit-text = ap (circuitText d) (gates-words (gatesOn d)) ∙ ap (λ (o : Outcome). given o (circuitText d (gatesOn d)) refusedLine) (sym checked)

@@ -17,7 +17,7 @@ use Rattle.refusals.specs.declared.Refusal.the-variants.{Wires}
 use Rattle.words.specs.Booleans.{digit}
 use Rattle.words.proofs.Truth.{on, digit-bit}
 use Rattle.dimensions.specs.declared.Dimensions.{Dimensions}
-use Rattle.dimensions.specs.Sizes.{stateWires, inputWires}
+use Rattle.dimensions.specs.Sizes.{sizeChecks, stateWires, inputWires}
 use Rattle.tables.specs.Tables.{Tables}
 use Rattle.tables.specs.Rows.{rowsOf}
 use Rattle.tables.proofs.Accepted.{accepted}
@@ -44,6 +44,7 @@ use Rattle.netlist.specs.Outputs.{closed, outputBits, outputsIn}
 use Rattle.netlist.proofs.EveryState.{gates-accepted, outputs-filled}
 use Rattle.repeats.specs.Application.{Applied, turnedBack, nextRun, judged, wiresAfter, applied}
 use Rattle.repeats.specs.Repeats.{Accepts, Attempt, Lent, Otherwise, Repeat, returned, circuitWords, attempted, comesOf, longEnough}
+use Rattle.repeats.proofs.RepeatChecks.{sizes-taken}
 use Rattle.repeats.proofs.Judging.{refused, refuse-packing, refuse-wires, take-all, wires-then}
 
 -- ---- the circuit in memory
@@ -53,9 +54,9 @@ module _ (d : Dimensions) where
   unfolding circuitWords
   words-third = omega (arith, words-length (gatesOn d))
 
-  pub words-accepted : Memory.accepted (inputWires d) (circuitWords d) ≡ true
+  pub words-accepted : outcome (sizeChecks d) ≡ Taken → Memory.accepted (inputWires d) (circuitWords d) ≡ true
   unfolding circuitWords
-  words-accepted = gates-accepted d
+  words-accepted fits = gates-accepted d fits
 
   words-gates : Memory.gatesOf (circuitWords d) ≡ gatesOn d
   unfolding circuitWords
@@ -66,6 +67,9 @@ module _ (d : Dimensions) where
 module _ (d : Dimensions) (tables : Tables) (acc : Accepts d tables) (run : Run) (ok : outcome (stateChecks d run) ≡ Taken) (bytes wires : List ℕ) where
   abbrev next : State
   next = step (d .n) (rowsOf d tables) (stateOf run)
+
+  fits : outcome (sizeChecks d) ≡ Taken
+  fits = sizes-taken d tables acc
 
   -- too few bytes
   few-bytes : length bytes < inputWires d → judged d tables (circuitWords d) run bytes wires ≡ Refused Wires
@@ -83,7 +87,7 @@ module _ (d : Dimensions) (tables : Tables) (acc : Accepts d tables) (run : Run)
 
     -- too few wires
     few-wires : length wires < inputWires d + length (gatesOn d) → judged d tables (circuitWords d) run bytes wires ≡ Refused Wires
-    few-wires h = refuse-wires d tables (circuitWords d) run bytes wires packs (words-accepted d) (omega (arith, words-third d))
+    few-wires h = refuse-wires d tables (circuitWords d) run bytes wires packs (words-accepted d fits) (omega (arith, words-third d))
 
     -- enough of both
     module _ (space : inputWires d + length (gatesOn d) ≤ length wires) where
@@ -97,11 +101,11 @@ module _ (d : Dimensions) (tables : Tables) (acc : Accepts d tables) (run : Run)
       enough = omega (arith, words-third d)
 
       all-taken : judged d tables (circuitWords d) run bytes wires ≡ Taken
-      all-taken = take-all d tables (circuitWords d) run bytes wires packs (words-accepted d) enough
+      all-taken = take-all d tables (circuitWords d) run bytes wires packs (words-accepted d fits) enough
 
       pub wires-are : wiresAfter d tables (circuitWords d) run bytes wires ≡ over (bytesOf values) wires
       wires-are =
-          wires-then d tables (circuitWords d) run bytes wires packs (words-accepted d) enough
+          wires-then d tables (circuitWords d) run bytes wires packs (words-accepted d fits) enough
           ∙ ap (λ (gs : List Gate). over (bytesOf (wiresOf bits gs)) wires) (words-gates d)
 
       outputs-are : outputsIn d (circuitWords d) (wiresAfter d tables (circuitWords d) run bytes wires)
@@ -109,7 +113,7 @@ module _ (d : Dimensions) (tables : Tables) (acc : Accepts d tables) (run : Run)
       unfolding circuitWords
       outputs-are =
           ap (outputsIn d (circuitWords d)) wires-are
-          ∙ outputs-filled d tables (stateOf run) formed wires
+          ∙ outputs-filled d fits tables (stateOf run) formed wires
 
       abbrev outputs : List ℕ
       outputs = bytesOf (stateBits (d .n) next) ++ (digit (closed next) ∷ [])

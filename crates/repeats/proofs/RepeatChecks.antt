@@ -27,7 +27,7 @@ use Rattle.state.specs.WellFormed.{stateChecks}
 use Rattle.gates.specs.Memory.{wordsOf, over}
 use Rattle.gates.proofs.InMemory.{words-length}
 use Rattle.sections.specs.declared.Addresses.{Addresses}
-use Rattle.sections.specs.Addressing.{addressesOn}
+use Rattle.sections.specs.Addressing.{digitsFor, addressesOn}
 use Rattle.netlist.specs.Netlist.{gatesFor, gatesOn}
 use Rattle.netlist.proofs.Counts.{circuit-length}
 use Rattle.generator.specs.Generation.{generatorChecks, written}
@@ -39,16 +39,16 @@ use Rattle.repeats.specs.Repeating.{repeatChecks, made, bytesLeft, wires
 -- all wires of the circuit: its inputs and its own gates
 pub all-wires : (d : Dimensions) → addressesOn d .wires ≡ inputWires d + length (gatesOn d)
 unfolding gatesFor
-all-wires d = omega (arith, circuit-length (addressesOn d))
+all-wires d = omega (arith, circuit-length (d .n) (rowCount d) (digitsFor (d .n)))
 
 -- dimensions that the tables' checks passed
 pub sizes-taken : (d : Dimensions) (tables : Tables) → outcome (tableChecks d tables) ≡ Taken → outcome (sizeChecks d) ≡ Taken
 sizes-taken d tables e = outcome-parts (sizeChecks d) (wordChecks d tables) e .0
 
--- their wires are few
+-- their wires are few, and without the inputs no more than the ceiling
 pub wires-small : (d : Dimensions) (tables : Tables) → outcome (tableChecks d tables) ≡ Taken → (a : Addresses) → a ≡ addressesOn d
-    → (a .inputs ≤ a .wires) × (a .wires ≤ 286306)
-wires-small d tables e = let h = within d (sizes-taken d tables e) in wires-few (d .n) (rowCount d) (h .n-most) (h .rows-most)
+    → (a .inputs ≤ a .wires) × (a .wires ≤ 1048576) × (a .wires - a .inputs ≤ ceiling d)
+wires-small d tables e = wires-few d (within d (sizes-taken d tables e))
 
 -- ---- what the checks say
 
@@ -103,10 +103,6 @@ passed d tables gates bytes wires run e =
     }
 
 -- ---- the circuit's words
-
--- three for each gate of the circuit
-pub words-fit : (d : Dimensions) (k : ℕ) → 3 * ceiling d ≤ k → 3 * (addressesOn d .wires - addressesOn d .inputs) ≤ k
-words-fit d k h = omega arith
 
 -- the generated words, from the front
 pub words-generated : (d : Dimensions) (tables : Tables) (gates : List ℕ) → outcome (tableChecks d tables) ≡ Taken → 3 * ceiling d ≤ length gates

@@ -14,7 +14,7 @@ use Rattle.dimensions.proofs.Limits.{within}
 use Rattle.tables.specs.Tables.{Tables, allTables}
 use Rattle.tables.specs.Acceptance.{tableChecks}
 use Rattle.netlist.specs.Netlist.{gatesOn}
-use Rattle.generator.proofs.Generating.{ceiling-small}
+use Rattle.generator.proofs.Room.{ceiling-small}
 use Rattle.repeats.proofs.RepeatChecks.{all-wires, sizes-taken, wires-small, refuse-tables, refuse-gates, refuse-room, state-decides}
 use borrow.Author.Needs.{needs}
 use Rattle.repeats.proofs.check.Statement.{statement}

@@ -9,11 +9,12 @@ use lib.ListN.{length, take}
 use lib.Seq.{length-take-le}
 use Rattle.refusals.specs.Checks.{outcome}
 use Rattle.refusals.specs.declared.Outcome.the-variants.{Taken}
+use Rattle.dimensions.specs.Sizes.{ceiling}
 use Rattle.tables.specs.Tables.{Tables, allTables}
 use Rattle.sections.specs.declared.Addresses.{Addresses}
 use Rattle.sections.specs.Addressing.{addressesOn}
 use Rattle.repeats.specs.Repeating.{repeatChecks}
-use Rattle.repeats.proofs.RepeatChecks.{wires-small, Passed, passed, words-fit, words-generated, repeat-refused, repeat-taken}
+use Rattle.repeats.proofs.RepeatChecks.{wires-small, Passed, passed, words-generated, repeat-refused, repeat-taken}
 use Rattle.repeats.proofs.repeat.Statement.{statement}
 use Rattle.repeats.proofs.repeat.Tie as tie
 
@@ -54,7 +55,8 @@ counted : (c : tie.After-struct-known) → let a = c .before .of .result in
     3 * (a .wires - a .inputs) ≡ 3 * (addressesOn (start (checked (generating c)) .args .d) .wires - addressesOn (start (checked (generating c)) .args .d) .inputs)
 counted c = ap (λ (a : Addresses). 3 * (a .wires - a .inputs)) (c .before .of .ensures)
 
-few : (c : tie.After-struct-known) → let a = c .before .of .result in (a .inputs ≤ a .wires) × (a .wires ≤ 286306)
+few : (c : tie.After-struct-known) → let a = c .before .of .result in
+    (a .inputs ≤ a .wires) × (a .wires ≤ 1048576) × (a .wires - a .inputs ≤ ceiling (start (checked (generating c)) .args .d))
 few c =
     let s = start (checked (generating c)) in
     wires-small (s .args .d) (tables s) (known (checked (generating c)) .tables-taken) (c .before .of .result) (c .before .of .ensures)
@@ -65,7 +67,7 @@ fit c =
     let g = generating c in
     let s = start (checked g) in
     let l : length (g .generate .last .1 .0) ≡ length (s .args .gates .now) = g .generate .kept .1 .0 in
-    omega (arith, counted c, words-fit (s .args .d) (length (s .args .gates .now)) (known (checked g) .words-enough))
+    omega (arith, few c, known (checked g) .words-enough)
 
 check-requires : tie.Need-check-requires
 check-requires c κs = search needs
