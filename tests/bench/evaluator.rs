@@ -177,7 +177,7 @@ fn compared(label: &str, gates: &[u32], inputs: usize, numbers: &mut Numbers) {
 
 fn main() {
     // The literal cell of the giant step's circuit, as a sequence of kinds.
-    let cell = [0, 1, 1, 1, 0, 0, 0, 1, 1, 0, 1, 0, 0, 0, 0];
+    let cell = [0, 0, 1, 0, 0, 1, 0, 0, 0, 1, 0, 0];
     let mut numbers = Numbers(2026);
     println!(
         "speed of the proved evaluator on 200,000 gates, the other's being 1 (median of {RUNS} runs side by side)"

@@ -4,7 +4,9 @@
 
 mod plain;
 
+use forkhemit_tests::bristol::Circuit;
 use forkhemit_tests::clock::{self, median};
+use forkhemit_tests::counts::{self, Counts};
 use forkhemit_tests::memory;
 use forkhemit_tests::model::{self, Row, Size};
 use forkhemit_tests::random::Random;
@@ -37,19 +39,12 @@ const SEED: u64 = 4_300;
 
 // ---- The giant step
 
-/// So many rows as three tables: halves where two tables can hold them, else 128 of them public.
-fn size(n: usize, m: usize) -> Size {
-    let public = if m > 256 { 128 } else { 0 };
-    let left = (m - public) / 2;
-    Size { n, left, right: m - public - left, public }
-}
-
 /// Rows of three different variables, and padding behind them; as words of three tables.
 fn hard(n: usize, m: usize, padding: usize, seed: u64) -> [Vec<u32>; 3] {
     let random = &mut Random::new(seed);
     let mut rows: Vec<Row> = (0..m - padding).map(|_| tables::strict(n, 3, random)).collect();
     rows.extend(vec![vec![1, -1]; padding]);
-    let Size { left, right, .. } = size(n, m);
+    let Size { left, right, .. } = Size::split(n, m);
     [&rows[..left], &rows[left..left + right], &rows[left + right..]].map(memory::row_words)
 }
 
@@ -349,19 +344,38 @@ fn generate(size: Size, gates: &mut [u32]) -> usize {
     count[0] as usize
 }
 
-/// Times the generator for a size and counts its gates.
+/// The heading of the circuits' table.
+fn circuit_heading() {
+    println!(
+        "circuit{:>19}{:>9}{:>9}{:>8}{:>8}{:>7}{:>7}{:>9}   AND for each row times variable, of 72 (before: rule 3 by the lowest row)",
+        "gates", "before", "AND", "before", "ratio", "depth", "before", "made in"
+    );
+}
+
+/// Times the generator for a size, and prints its gates, AND gates and AND depth beside those of the circuit of the earlier rule 3.
 fn circuit(n: usize, m: usize) {
-    let mut gates = vec![0u32; 3 * size(n, m).ceiling()];
-    let mut count = 0;
+    let size = Size::split(n, m);
+    let mut words = vec![0u32; 3 * size.ceiling()];
+    let mut made = 0;
     let mut times = vec![];
     for _ in 0..RUNS {
-        let (made, time) = clock::of(|| generate(size(n, m), &mut gates));
-        count = made;
+        let (count, time) = clock::of(|| generate(size, &mut words));
+        made = count;
         times.push(time);
     }
-    let ands = gates[..3 * count].chunks(3).filter(|gate| gate[0] == 1).count();
-    let each = ands as f64 / (n * m) as f64;
-    println!("circuit, n = {n}, m = {m}: {count} gates, {ands} AND, made in {:.0} us; {each:.1} AND a row times variable, {:.2} of 72", median(times), each / 72.0);
+    let gates = memory::gates(&words[..3 * made], memory::input_wires(size)).expect("the words are gates");
+    let outputs = vec![wires::state_width(n), 1];
+    let Counts { gates, ands, depth } = Circuit { inputs: wires::input_widths(size), outputs, gates }.counts();
+    let (before, each) = (counts::before(n, m), ands as f64 / (n * m) as f64);
+    println!(
+        "n = {n:>2}, m = {m:>3}{gates:>12}{:>9}{ands:>9}{:>8}{:>8.2}{depth:>7}{:>7}{:>6.0} us   {each:.1}, {:.2}",
+        before.gates,
+        before.ands,
+        ands as f64 / before.ands as f64,
+        before.depth,
+        median(times),
+        each / 72.0
+    );
 }
 
 /// Writes a circuit's text with one call; how many bytes.
@@ -380,7 +394,7 @@ fn write(size: Size, gates: &[u32], bytes: &mut [u8]) -> usize {
 
 /// Times the writer of a circuit's text beside plain Rust that judges the gates too.
 fn text(n: usize, m: usize) {
-    let size = size(n, m);
+    let size = Size::split(n, m);
     let mut gates = vec![0u32; 3 * size.ceiling()];
     let count = generate(size, &mut gates);
     gates.truncate(3 * count);
@@ -419,7 +433,8 @@ fn main() {
     reader("mostly separators", spaced);
     reader("a long remark", remarked);
     reader("a remark before every clause", amid);
-    for (n, m) in [(4, 12), (8, 32), (16, 64), (20, 91), (32, 256), (32, 384)] {
+    circuit_heading();
+    for (n, m) in [(1, 2), (2, 4), (4, 12), (8, 32), (16, 64), (20, 91), (32, 256), (32, 384)] {
         circuit(n, m);
     }
     for (n, m) in [(20, 91), (32, 256), (32, 384)] {

@@ -9,9 +9,10 @@ fn restored(level: Level) -> (u32, u32) {
     (level.0, level.1 | 1 << level.2)
 }
 
-/// T and F after a unit row's literal is made true.
+/// T and F after the lowest of the forced variables is set: true where some row forces it so.
 #[inline(always)]
-fn forced(t: u32, f: u32, unit: u32, positive: u32) -> (u32, u32) {
+fn forced(t: u32, f: u32, units: u32, positive: u32) -> (u32, u32) {
+    let unit = units & units.wrapping_neg();
     if positive & unit != 0 {
         (t | unit, f)
     } else {
@@ -26,10 +27,10 @@ fn chosen(t: u32, f: u32, free: u32) -> (Level, u32) {
     ((t, f, variable), t | 1 << variable)
 }
 
-/// What a look at all rows finds: a conflict; the first unit row's free variable and its positive word; all free variables.
+/// What a look at all rows finds: a conflict; the variables that unit rows force, and those that they force true; all free variables.
 struct Scan {
     conflict: bool,
-    unit: u32,
+    units: u32,
     positive: u32,
     free: u32,
 }
@@ -38,7 +39,7 @@ struct Scan {
 #[inline(always)]
 fn scan(rows: &[u32], t: u32, f: u32) -> Scan {
     let unset = !(t | f);
-    let mut found = Scan { conflict: false, unit: 0, positive: 0, free: 0 };
+    let mut found = Scan { conflict: false, units: 0, positive: 0, free: 0 };
     for row in rows.chunks_exact(2) {
         if row[0] & row[1] | row[0] & t | row[1] & f != 0 {
             continue;
@@ -49,8 +50,9 @@ fn scan(rows: &[u32], t: u32, f: u32) -> Scan {
             break;
         }
         found.free |= open;
-        if found.unit == 0 && open & (open - 1) == 0 {
-            (found.unit, found.positive) = (open, row[0]);
+        if open & (open - 1) == 0 {
+            found.units |= open;
+            found.positive |= open & row[0];
         }
     }
     found
@@ -63,7 +65,7 @@ pub fn solve(rows: &[u32], budget: u64) -> [u64; 3] {
     let (mut depth, mut count) = (0, 0);
     while count < budget {
         count += 1;
-        let Scan { conflict, unit, positive, free } = scan(rows, t, f);
+        let Scan { conflict, units, positive, free } = scan(rows, t, f);
         if conflict {
             if depth == 0 {
                 return [count, 2, 0];
@@ -72,8 +74,8 @@ pub fn solve(rows: &[u32], budget: u64) -> [u64; 3] {
             (t, f) = restored(levels[depth]);
         } else if free == 0 {
             return [count, 1, u64::from(t)];
-        } else if unit != 0 {
-            (t, f) = forced(t, f, unit, positive);
+        } else if units != 0 {
+            (t, f) = forced(t, f, units, positive);
         } else {
             (levels[depth], t) = chosen(t, f, free);
             depth += 1;
@@ -110,7 +112,7 @@ pub fn step(n: u32, rows: &[u32], run: &mut [u32; 101]) -> bool {
         return true;
     }
     let (t, f, depth) = (run[2], run[3], run[4] as usize);
-    let Scan { conflict, unit, positive, free } = scan(rows, t, f);
+    let Scan { conflict, units, positive, free } = scan(rows, t, f);
     if conflict && depth == 0 {
         run[1] = 2;
     } else if conflict {
@@ -120,8 +122,8 @@ pub fn step(n: u32, rows: &[u32], run: &mut [u32; 101]) -> bool {
         run[4] -= 1;
     } else if free == 0 {
         run[1] = 1;
-    } else if unit != 0 {
-        (run[2], run[3]) = forced(t, f, unit, positive);
+    } else if units != 0 {
+        (run[2], run[3]) = forced(t, f, units, positive);
     } else {
         let at = 5 + 3 * depth;
         let (level, after) = chosen(t, f, free);

@@ -1,17 +1,19 @@
-//! The library's circuits. Document 01 leaves their gates free: the first one of a size is judged by what it carries out, and
-//! every later one must be the same.
+//! The library's circuits. Document 01 leaves their gates free: the first one of a size is judged by what it carries out and by its
+//! counts, and every later one must be the same.
 
 use crate::calls::{self, Call, Function, Lent};
 use forkhemit_tests::bristol::Circuit;
 use forkhemit_tests::circuits;
+use forkhemit_tests::counts;
 use forkhemit_tests::memory;
 use forkhemit_tests::model::{Row, Run, Size};
 use forkhemit_tests::random::Random;
 use forkhemit_tests::report::{Ledger, Tally};
 use forkhemit_tests::sections::{self, Section};
-use forkhemit_tests::{states, wires};
+use forkhemit_tests::{netlists, states, wires};
 use std::cell::RefCell;
 use std::collections::BTreeMap;
+use std::path::Path;
 
 const STATES: usize = 64;
 const SEED: u64 = 77_003;
@@ -30,6 +32,21 @@ impl Circuits {
         let list = std::fs::read_to_string(list).expect("the documents list the circuit's sections");
         let sections = sections::read(&list).unwrap_or_else(|fault| panic!("{fault}"));
         Circuits { known: RefCell::default(), sections, ledger: Ledger::default() }
+    }
+
+    /// Holds circuits up to the largest to the gates that another program gave them.
+    pub fn known(&self) -> Tally {
+        let ledger = Ledger::default();
+        let known = netlists::known(Path::new(env!("CARGO_MANIFEST_DIR"))).expect("the folder of circuits can be read");
+        for known in &known {
+            let size = known.size;
+            let gates = self.words(size).and_then(|words| {
+                memory::gates(&words, memory::input_wires(size)).map_err(|_| "words that are no gates".into())
+            });
+            let lines = gates.map(|gates| memory::lines(size, &gates, 4).collect::<String>());
+            ledger.test(lines.map_or_else(Some, |lines| known.unlike(lines.as_bytes())));
+        }
+        ledger.close(&format!("gates of {} circuits beside those of another program", known.len()))
     }
 
     /// What the circuits' steps came to, and how many circuits there were.
@@ -57,9 +74,10 @@ impl Circuits {
         let gates = memory::gates(words, memory::input_wires(size)).map_err(|_| "words that are no gates")?;
         let outputs = vec![wires::state_width(n), 1];
         let circuit = Circuit { inputs: wires::input_widths(size), outputs, gates };
-        let counts = (circuit.gates.len(), circuit.ands());
-        if counts.0 > size.ceiling() || counts != sections::totals(&self.sections, n, m) {
-            return Err(format!("{} gates, {} of them AND", counts.0, counts.1));
+        let counts = circuit.counts();
+        let listed = sections::totals(&self.sections, n, m);
+        if counts.gates > size.ceiling() || counts != counts::now(n, m) || (counts.gates, counts.ands) != listed {
+            return Err(format!("{counts:?}"));
         }
         let random = &mut Random::new(SEED + (public << 24 | n << 16 | left << 8 | right) as u64);
         let case = |_| {

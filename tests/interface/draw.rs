@@ -182,7 +182,7 @@ fn to_solve(size: Size, random: &mut Random) -> (Vec<Row>, u64) {
 }
 
 /// Any gates behind so many inputs.
-fn some_gates(inputs: usize, count: usize, random: &mut Random) -> Vec<u32> {
+pub fn some_gates(inputs: usize, count: usize, random: &mut Random) -> Vec<u32> {
     let gate = |g: usize| {
         let kind = if inputs + g == 0 { 3 } else { random.below(3) as u32 };
         let mut wire = || random.below((inputs + g).max(1)) as u32;

@@ -14,6 +14,9 @@ const DRAWS: usize = 2;
 /// How often a circuit is repeated from the fresh state.
 const REPEATS: u64 = 12;
 
+/// Numbers of wires at which the evaluator goes over to another way.
+const WAYS: [usize; 3] = [8_192, 221_184, 319_488];
+
 /// Every size at the limits; the last is the largest.
 pub fn sizes() -> Vec<Size> {
     let mut sizes = vec![];
@@ -46,4 +49,29 @@ fn repeated(size: Size, circuits: &Circuits, random: &mut Random) -> Result<Call
     lent.extend([Lent::Bytes(vec![7; inputs + gates]), Lent::Run(memory::run_words(&Run::fresh(size.n)))]);
     lent.push(Lent::Numbers(vec![7; 2]));
     Ok(Call { function: Function::Repeat, numbers: [numbers(size), vec![REPEATS]].concat(), lent })
+}
+
+/// Random gates with so many wires as the evaluator goes over at, one less and one more: as they are, with a last gate that reads
+/// its own wire, with an input that is no bit, and with a byte too few for the wires. For a memory checker the fewest alone.
+pub fn evaluations(guard: usize) -> Vec<Call> {
+    let random = &mut Random::new(SEED);
+    let mut calls = vec![];
+    for wires in
+        WAYS.into_iter().take(if guard > 0 { WAYS.len() } else { 1 }).flat_map(|wires| [wires - 1, wires, wires + 1])
+    {
+        let inputs: Vec<u8> = (0..random.between(1, 9)).map(|_| random.below(2) as u8).collect();
+        let gates = draw::some_gates(inputs.len(), wires - inputs.len(), random);
+        let mut own = gates.clone();
+        let last = own.len() - 3;
+        own[last..].copy_from_slice(&[0, wires as u32 - 1, 0]);
+        let two = [&inputs[1..], &[2]].concat();
+        let call = |gates: &[u32], inputs: &[u8], room: usize| Call {
+            function: Function::Evaluate,
+            numbers: vec![],
+            lent: vec![Lent::Words(gates.to_vec()), Lent::Bytes(inputs.to_vec()), Lent::Bytes(vec![7; room])],
+        };
+        calls.extend([call(&gates, &inputs, wires), call(&own, &inputs, wires)]);
+        calls.extend([call(&gates, &two, wires), call(&gates, &inputs, wires - 1)]);
+    }
+    calls
 }

@@ -1,8 +1,8 @@
 //! Tests of the library as hosts call it. Use: interface CALLS [exact]
 //! Every refusal as it was written by hand, alone and two at once, then calls at the limits of size, then rows of every shape judged and
-//! counted, then runs with index and number beside the plain ones, then random calls over all functions: each result and every lent buffer
-//! is held to the model. With `exact` each buffer has an allocation of its own of exactly its length, for a memory checker; else it stands
-//! between guards. The last line is `N passed, M failed`, and the status 0 where M is 0.
+//! counted, then runs with index and number beside the plain ones, then steps where several literals are forced, then random calls over all
+//! functions: each result and every lent buffer is held to the model. With `exact` each buffer has an allocation of its own of exactly its
+//! length, for a memory checker; else it stands between guards. The last line is `N passed, M failed`, and the status 0 where M is 0.
 
 mod calls;
 mod circuits;
@@ -12,6 +12,7 @@ mod extremes;
 mod indexed;
 mod judged;
 mod refusals;
+mod ties;
 
 use calls::{Call, Given, ALL};
 use circuits::Circuits;
@@ -102,7 +103,10 @@ fn largest(circuits: &Circuits, guard: usize) -> Tally {
             }
         }
     }
-    ledger.close(&format!("calls over {} sizes at the limits", sizes.len()))
+    for call in extremes::evaluations(guard) {
+        tried(Ok(call), "of many gates", circuits, guard, &ledger);
+    }
+    ledger.close(&format!("calls over {} sizes at the limits, and evaluations where the way changes", sizes.len()))
 }
 
 /// Random calls, the functions in turn.
@@ -131,6 +135,10 @@ fn main() -> ExitCode {
     total.add(indexed::handed_over(guard));
     total.add(indexed::damaged(&circuits, guard));
     total.add(indexed::solved(guard));
+    total.add(ties::stepped(&circuits, guard));
+    if guard > 0 {
+        total.add(circuits.known());
+    }
     total.add(drawn(count, &circuits, guard));
     total.add(circuits.close());
     println!("{} passed, {} failed", total.passed, total.failed);

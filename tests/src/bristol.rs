@@ -1,5 +1,6 @@
 //! A circuit's text in Bristol Fashion, read strictly as document 01 describes it, and what its circuit makes of inputs.
 
+use crate::counts::Counts;
 use crate::report::Tally;
 
 #[derive(Clone, Copy, Debug, PartialEq)]
@@ -91,8 +92,26 @@ pub fn read(text: &[u8]) -> Result<Circuit, String> {
 
 impl Circuit {
     /// How many of the gates are AND.
-    pub fn ands(&self) -> usize {
+    fn ands(&self) -> usize {
         self.gates.iter().filter(|gate| matches!(gate, Gate::And(..))).count()
+    }
+
+    /// How many AND gates lie one behind the other at most.
+    pub fn depth(&self) -> usize {
+        let mut depths = vec![0; self.inputs.iter().sum()];
+        for gate in &self.gates {
+            depths.push(match *gate {
+                Gate::Xor(first, second) => depths[first].max(depths[second]),
+                Gate::And(first, second) => depths[first].max(depths[second]) + 1,
+                Gate::Inv(operand) => depths[operand],
+            });
+        }
+        depths.into_iter().max().unwrap_or(0)
+    }
+
+    /// What a back end pays for.
+    pub fn counts(&self) -> Counts {
+        Counts { gates: self.gates.len(), ands: self.ands(), depth: self.depth() }
     }
 
     /// The output wires for each of these inputs. Sixty-four are worked out together, one in each bit of a word.
@@ -138,7 +157,9 @@ pub fn run() -> Tally {
     let mut tally = Tally::default();
     let inputs: Vec<Vec<bool>> = (0..4).map(|k| vec![k & 2 != 0, k & 1 != 0]).collect();
     let expected: Vec<Vec<bool>> = inputs.iter().map(|i| vec![i[0] != i[1], i[0] && i[1], !i[0]]).collect();
-    let right = read(SAMPLE.as_bytes()).map_or(false, |circuit| circuit.evaluate(&inputs) == expected);
+    let counts = Counts { gates: 3, ands: 1, depth: 1 };
+    let is = |circuit: Circuit| circuit.evaluate(&inputs) == expected && circuit.counts() == counts;
+    let right = read(SAMPLE.as_bytes()).map_or(false, is);
     tally.count(right);
     if !right {
         println!("FAILED the sample of a circuit text");

@@ -3,17 +3,21 @@
 
 use crate::bristol::{self, Circuit};
 use crate::model::{self, Answer, Read, Row, Run, Size, Standing};
+use crate::netlists::{self, Known};
 use crate::process::{Room, Source, NAMES, NO_FILES};
 use crate::random::Random;
 use crate::report::{self, Ledger, Tally};
-use crate::{damage, states, tables, wires};
+use crate::ties::{self, Tied};
+use crate::{counts, damage, states, tables, wires};
 use std::collections::BTreeMap;
 use std::fs;
 use std::path::Path;
 use std::time::Duration;
 
-/// States and whole runs for each circuit without public rows, and for each of the many more with some.
+/// States, states with several forced literals and whole runs for each circuit without public rows, and for each of the many more
+/// with some.
 const STATES: [usize; 2] = [512, 64];
+const TIES: [usize; 2] = [192, 64];
 const RUNS: [usize; 2] = [64, 8];
 const SEED: u64 = 30_511;
 const DAMAGES: usize = 2_000;
@@ -201,19 +205,20 @@ fn table(size: Size, random: &mut Random) -> (Vec<Row>, u64) {
 
 // ---- Groups
 
-/// Text, ceiling, AND gates, states and runs of one size, a test each.
+/// Text, ceiling, counts, states, ties and runs of one size, a test each.
 fn size_tests(size: Size, room: &Room, ledger: &Ledger) {
     let (n, m, some) = (size.n, size.rows(), usize::from(size.public > 0));
     let seed = SEED + (size.public << 24 | n << 16 | size.left << 8 | size.right) as u64;
     let told = |failure: String| format!("circuit \"{}\", seed {seed}: {failure}", shown(size));
     let circuit = match circuit(room, size) {
         Ok(circuit) => circuit,
-        Err(failure) => return (0..5).for_each(|_| ledger.test(Some(told(failure.clone())))),
+        Err(failure) => return (0..7).for_each(|_| ledger.test(Some(told(failure.clone())))),
     };
     ledger.test(None);
-    let most = |count: usize, most: usize, what: &str| (count > most).then(|| format!("{count} {what}, not {most}"));
-    ledger.test(most(circuit.gates.len(), size.ceiling(), "gates").map(told));
-    ledger.test(most(circuit.ands(), 8 * m * n + 6 * n * n + 7 * m + 7 * n + 5, "AND gates").map(told));
+    let counts = circuit.counts();
+    ledger.test((counts.gates > size.ceiling()).then(|| told(format!("{} gates", counts.gates))));
+    let law = counts::now(n, m);
+    ledger.test((counts != law).then(|| told(format!("{counts:?}, and not {law:?}"))));
     let random = &mut Random::new(seed);
     let state = |_| {
         let run = states::random(n, random);
@@ -221,10 +226,27 @@ fn size_tests(size: Size, room: &Room, ledger: &Ledger) {
     };
     let cases: Vec<(Vec<Row>, Run)> = (0..STATES[some]).map(state).collect();
     ledger.test(steps(&circuit, &cases, ledger).map(told));
+    let cases: Vec<(Vec<Row>, Run)> = (0..TIES[some]).map(|_| states::tied(n, m, random)).collect();
+    ledger.test(steps(&circuit, &cases, ledger).map(told));
+    let tell = cases.iter().filter(|(rows, run)| ties::tells(rows, run)).count();
+    ledger.kind("ties", tell);
+    ledger.test((2 * tell < cases.len()).then(|| told(format!("only {tell} states tell the earlier rule"))));
     let cases: Vec<(Vec<Row>, u64)> = (0..RUNS[some]).map(|_| table(size, random)).collect();
     ledger.test(runs(&circuit, n, &cases, ledger).map(told));
-    ledger.kind("gates", circuit.gates.len());
-    ledger.kind("AND gates", circuit.ands());
+    ledger.kind("gates", counts.gates);
+    ledger.kind("AND gates", counts.ands);
+}
+
+/// The circuit takes the literal of a state that was written by hand, where the program serves its size.
+fn tied_test(tied: &Tied, room: &Room) -> Option<String> {
+    let told = |failure: String| format!("{}: {failure}", tied.what);
+    let circuit = match circuit(room, tied.size()) {
+        Ok(circuit) => circuit,
+        Err(failure) => return Some(told(failure)),
+    };
+    let (rows, run) = (tied.rows(), tied.run());
+    let outputs = circuit.evaluate(&[[wires::rows(run.values.len(), &rows), wires::state(&run)].concat()]);
+    unlike_step(&rows, &run, &tied.after(), &outputs[0]).map(told)
 }
 
 /// Every state with all tables, a test for each left table's first row.
@@ -298,6 +320,16 @@ fn header_test(([n, left, right, public], lines): ([usize; 4], &str), room: &Roo
     };
     let found: String = text.split_inclusive('\n').skip(1).take(2).collect();
     (found != lines).then(|| format!("line {}: the text has {found:?} and not {lines:?}", report::quoted(&input)))
+}
+
+/// The text has the gates that another program gave the circuit.
+fn known_test(known: &Known, room: &Room) -> Option<String> {
+    let text = match printed(room, &line(known.size), &Source::Missing) {
+        Ok(text) => text,
+        Err(failure) => return Some(failure),
+    };
+    let lines: Vec<&[u8]> = text.split_inclusive(|&byte| byte == b'\n').skip(4).collect();
+    known.unlike(&lines.concat())
 }
 
 // ---- Lines
@@ -453,7 +485,7 @@ pub fn run(program: &Path, own: &Path) -> std::io::Result<Tally> {
         size_tests(sizes[sizes.len() - 1 - number], room, &ledger)
     })?;
     total.add(ledger.close(&format!(
-        "{} circuits, {} without public rows, on {STATES:?} random states and {RUNS:?} whole runs each, seeds from {SEED}",
+        "{} circuits, {} without public rows, on {STATES:?} random states, {TIES:?} with ties and {RUNS:?} whole runs each, seeds from {SEED}",
         sizes.len(),
         sizes.iter().filter(|size| size.public == 0).count()
     )));
@@ -461,6 +493,11 @@ pub fn run(program: &Path, own: &Path) -> std::io::Result<Tally> {
     let ledger = Ledger::default();
     report::spread([program], SMALLEST.len(), |number, [room]| exhaustive(size(SMALLEST[number]), room, &ledger))?;
     total.add(ledger.close(&format!("every state and all tables of {} sizes", SMALLEST.len())));
+
+    let tied: Vec<&Tied> = ties::WRITTEN.iter().filter(|tied| served(&tied.size())).collect();
+    let ledger = Ledger::default();
+    report::spread([program], tied.len(), |number, [room]| ledger.test(tied_test(tied[number], room)))?;
+    total.add(ledger.close(&format!("circuits on {} states with ties, worked out by hand", tied.len())));
 
     let cases =
         fs::read_dir(own.join("cases"))?.map(|case| Ok(written(&case?.path()))).collect::<std::io::Result<Vec<_>>>()?;
@@ -472,6 +509,11 @@ pub fn run(program: &Path, own: &Path) -> std::io::Result<Tally> {
     let ledger = Ledger::default();
     report::spread([program], HEADERS.len(), |number, [room]| ledger.test(header_test(HEADERS[number], room)))?;
     total.add(ledger.close("header lines worked out by hand"));
+
+    let known: Vec<Known> = netlists::known(own)?.into_iter().filter(|known| served(&known.size)).collect();
+    let ledger = Ledger::default();
+    report::spread([program], known.len(), |number, [room]| ledger.test(known_test(&known[number], room)))?;
+    total.add(ledger.close(&format!("gates of {} circuits beside those of another program", known.len())));
 
     let (ledger, lines) = (Ledger::default(), lines());
     report::spread([program], lines.len(), |number, [room]| {

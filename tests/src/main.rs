@@ -8,7 +8,7 @@
 use forkhemit_tests::process::Source;
 use forkhemit_tests::report::{self, Tally};
 use forkhemit_tests::{
-    assumed, cases, circuits, claims, contracts, damage, hosts, pictures, published, symbols, tables,
+    assumed, cases, circuits, claims, contracts, damage, hosts, pictures, published, symbols, tables, ties,
 };
 use std::path::Path;
 use std::process::{Command, ExitCode, Stdio};
@@ -64,7 +64,9 @@ fn all(arguments: &[String]) -> std::io::Result<Tally> {
     total.add(symbols::run(Path::new(crates))?);
     total.add(assumed::run(Path::new(crates))?);
     total.add(claims::run(Path::new(crates))?);
-    total.add(pictures::run(&Path::new(env!("CARGO_MANIFEST_DIR")).join(".."))?);
+    let own = Path::new(env!("CARGO_MANIFEST_DIR"));
+    total.add(pictures::run(&own.join(".."))?);
+    total.add(ties::run(own)?);
     let pair = programs.iter().map(Path::new).find(|program| program.ends_with("pair"));
     for program in programs {
         total.add(program_tests(Path::new(program), pair)?);

@@ -44,6 +44,13 @@ impl Size {
         Ok(Size { n, left, right, public })
     }
 
+    /// So many rows as three tables: halves where two tables can hold them, else 128 of them public.
+    pub fn split(n: usize, m: usize) -> Size {
+        let public = if m > 256 { 128 } else { 0 };
+        let left = (m - public) / 2;
+        Size { n, left, right: m - public - left, public }
+    }
+
     /// The rows of all three tables.
     pub fn rows(&self) -> usize {
         self.left + self.right + self.public
@@ -198,6 +205,25 @@ pub fn budget(input: &[u8]) -> Result<u64, u8> {
 /// A variable's value, None where it is free.
 pub type Value = Option<bool>;
 
+/// Which of several forced literals rule 3 takes.
+#[derive(Clone, Copy, Debug, PartialEq)]
+pub enum Ties {
+    /// The lowest variable among them all, positive where both signs are forced: document 02.
+    LowestVariable,
+    /// The literal of the lowest row, as document 01 had it. Only to show that tests tell the two apart.
+    LowestRow,
+}
+
+impl Ties {
+    /// The literal that is taken of those forced, which stand in the order of their rows.
+    fn take(self, forced: &[i64]) -> Option<i64> {
+        match self {
+            Ties::LowestVariable => forced.iter().copied().min_by_key(|&literal| (variable(literal), literal < 0)),
+            Ties::LowestRow => forced.first().copied(),
+        }
+    }
+}
+
 /// A run: each variable true, false or free, and the levels with what stood before their choice.
 #[derive(Clone, Debug, PartialEq)]
 pub struct Run {
@@ -250,19 +276,24 @@ impl Run {
 
     /// One giant step: the first of the four rules that applies.
     pub fn step(&mut self, rows: &[Row]) {
+        self.step_by(Ties::LowestVariable, rows);
+    }
+
+    /// The same with another choice among forced literals.
+    pub fn step_by(&mut self, ties: Ties, rows: &[Row]) {
         if self.standing != Standing::Open {
             return;
         }
         let mut unsatisfied = false;
         let mut conflict = false;
-        let mut unit = None;
+        let mut forced = vec![];
         let mut lowest: Option<usize> = None;
         for row in rows.iter().filter(|row| !self.satisfied(row)) {
             unsatisfied = true;
             let mut free = row.iter().copied().filter(|&l| self.free(l));
             match (free.next(), free.next()) {
                 (None, _) => conflict = true,
-                (Some(only), None) => unit = unit.or(Some(only)),
+                (Some(only), None) => forced.push(only),
                 _ => (),
             }
             for &literal in row.iter().filter(|&&l| self.free(l)) {
@@ -279,7 +310,7 @@ impl Run {
                     self.values[chosen] = Some(false);
                 }
             }
-        } else if let Some(literal) = unit {
+        } else if let Some(literal) = ties.take(&forced) {
             self.values[variable(literal)] = Some(literal > 0);
         } else if let Some(chosen) = lowest {
             self.levels.push((self.values.clone(), chosen));
@@ -299,10 +330,15 @@ impl Run {
 
 /// The budgeted run from fresh, over rows that have each literal once.
 pub fn run(n: usize, rows: &[Row], budget: u64) -> Answer {
+    run_by(Ties::LowestVariable, n, rows, budget)
+}
+
+/// The same with another choice among forced literals.
+pub fn run_by(ties: Ties, n: usize, rows: &[Row], budget: u64) -> Answer {
     let mut run = Run::fresh(n);
     let mut steps = 0;
     while steps < budget && run.standing == Standing::Open {
-        run.step(rows);
+        run.step_by(ties, rows);
         steps += 1;
     }
     run.answer(steps)

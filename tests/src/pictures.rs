@@ -2,7 +2,7 @@
 //! which. Boxes stand in layers, each on one side of all that it uses.
 
 use crate::report::Tally;
-use crate::sections;
+use crate::sections::{self, Section};
 use std::collections::{BTreeMap, BTreeSet};
 use std::fs;
 use std::path::Path;
@@ -338,21 +338,27 @@ fn crates(text: &str, folder: &Path) -> Vec<Node> {
     own.iter().map(node).chain(kit.iter().map(outside)).collect()
 }
 
+/// The circuit's sections as their text lists them.
+fn circuit(root: &Path) -> std::io::Result<Vec<Section>> {
+    let circuit = sections::read(&fs::read_to_string(root.join(sections::SOURCE))?);
+    circuit.map_err(|fault| std::io::Error::new(std::io::ErrorKind::InvalidData, fault))
+}
+
 /// Each picture's file and what it should hold.
 pub fn all(root: &Path) -> std::io::Result<Vec<(&'static str, String)>> {
     let crates_text = fs::read_to_string(root.join("crates.txt"))?;
-    let circuit = sections::read(&fs::read_to_string(root.join(sections::SOURCE))?);
-    let circuit = circuit.map_err(|fault| std::io::Error::new(std::io::ErrorKind::InvalidData, fault))?;
+    let circuit = circuit(root)?;
     let crates = crates(&crates_text, &root.join("crates"));
     let uses = "Who uses whom: an arrow points to what a crate uses; programs are orange";
-    let flow = "The circuit's sections for n variables and m rows: arrows go from a section to those that read it";
+    let flow = "The circuit's sections for n variables and m rows (b binary digits of n − 1, s the sum of n − 1 divided by 2^d over them, h = m divided by 2): \
+                arrows go from a section to those that read it";
     Ok(vec![
         ("docs/pictures/crates.svg", draw(uses, "crates.txt", &crates, Way::Uses)),
         ("docs/pictures/circuit.svg", draw(flow, sections::SOURCE, &sections::nodes(&circuit), Way::Flow)),
     ])
 }
 
-/// Whether each picture is what its text gives.
+/// Whether each picture is what its text gives, and the circuit's sections come to the laws.
 pub fn run(root: &Path) -> std::io::Result<Tally> {
     let mut tally = Tally::default();
     for (file, picture) in all(root)? {
@@ -362,6 +368,9 @@ pub fn run(root: &Path) -> std::io::Result<Tally> {
             println!("FAILED: {file} is not current; make pictures draws it");
         }
     }
+    let unlike = sections::unlike_laws(&circuit(root)?);
+    tally.count(unlike.is_none());
+    unlike.iter().for_each(|unlike| println!("FAILED {}: {unlike}", sections::SOURCE));
     println!("pictures drawn from their texts: {} passed, {} failed", tally.passed, tally.failed);
     Ok(tally)
 }

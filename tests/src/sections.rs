@@ -1,42 +1,98 @@
 //! The circuit's sections as docs/pictures/circuit.txt lists them, with their numbers of gates.
 
+use crate::counts;
 use crate::pictures::Node;
 
 pub const SOURCE: &str = "docs/pictures/circuit.txt";
 
-/// A sum of products of n and m, as `15nm + 4m` or `3n² + 1`.
-#[derive(Clone, Debug)]
-pub struct Count {
-    text: String,
-    terms: Vec<(usize, usize, usize)>,
+/// What a letter of a count stands for, with n variables and m rows: b binary digits of n − 1, s the sum of n − 1 divided by 2^d over
+/// them, h pairs of rows.
+fn value(letter: char, n: usize, m: usize) -> Option<i64> {
+    let value = match letter {
+        'n' => n,
+        'm' => m,
+        'b' => counts::digits(n - 1),
+        's' => counts::halvings(n),
+        'h' => m / 2,
+        _ => return None,
+    };
+    Some(value as i64)
 }
 
+/// A count by n and m, as `m(12n + 2)`, `2·2^b − 1` or `9n² + 3n`: sums and differences of products.
+#[derive(Clone, Debug)]
+pub struct Count(String);
+
 impl Count {
-    /// A sum of terms such as 15nm.
+    /// A text that is a count.
     fn read(text: &str) -> Result<Count, String> {
-        let term = |term: &str| {
-            let digits: String = term.chars().take_while(char::is_ascii_digit).collect();
-            let factor = if digits.is_empty() { 1 } else { digits.parse().ok()? };
-            let (mut n, mut m) = (0, 0);
-            let mut last = ' ';
-            for sign in term[digits.len()..].chars() {
-                match (sign, last) {
-                    ('n', _) | ('²', 'n') => n += 1,
-                    ('m', _) | ('²', 'm') => m += 1,
-                    _ => return None,
-                }
-                last = sign;
-            }
-            Some((factor, n, m))
-        };
-        let terms =
-            text.split(" + ").map(term).collect::<Option<_>>().ok_or_else(|| format!("{text:?} is no count"))?;
-        Ok(Count { text: text.into(), terms })
+        let count = Count(text.into());
+        count.worked_out(1, 2).ok_or_else(|| format!("{text:?} is no count"))?;
+        Ok(count)
+    }
+
+    /// The number, where the text is a count to its end.
+    fn worked_out(&self, n: usize, m: usize) -> Option<i64> {
+        let signs: Vec<char> = self.0.chars().filter(|&sign| sign != ' ').collect();
+        let (number, rest) = sum(&signs, n, m)?;
+        rest.is_empty().then_some(number)
     }
 
     /// The count for n variables and m rows.
     pub fn of(&self, n: usize, m: usize) -> usize {
-        self.terms.iter().map(|&(factor, of_n, of_m)| factor * n.pow(of_n as u32) * m.pow(of_m as u32)).sum()
+        self.worked_out(n, m).and_then(|number| usize::try_from(number).ok()).expect("a count is not negative")
+    }
+}
+
+/// A sum or difference of products in front, and what follows it.
+fn sum(signs: &[char], n: usize, m: usize) -> Option<(i64, &[char])> {
+    let (mut total, mut rest) = product(signs, n, m)?;
+    while let [sign @ ('+' | '−'), behind @ ..] = rest {
+        let (next, after) = product(behind, n, m)?;
+        total += if *sign == '+' { next } else { -next };
+        rest = after;
+    }
+    Some((total, rest))
+}
+
+/// A product in front: factors one behind the other, with or without a point between them.
+fn product(signs: &[char], n: usize, m: usize) -> Option<(i64, &[char])> {
+    let (mut total, mut rest) = power(signs, n, m)?;
+    loop {
+        rest = match rest {
+            ['·', behind @ ..] => behind,
+            [] | ['+' | '−' | ')', ..] => return Some((total, rest)),
+            _ => rest,
+        };
+        let (next, after) = power(rest, n, m)?;
+        total *= next;
+        rest = after;
+    }
+}
+
+/// A factor in front, squared where a ² follows it, or to the power of a letter.
+fn power(signs: &[char], n: usize, m: usize) -> Option<(i64, &[char])> {
+    let (number, rest) = factor(signs, n, m)?;
+    match rest {
+        ['²', behind @ ..] => Some((number * number, behind)),
+        ['^', letter, behind @ ..] => Some((number.pow(value(*letter, n, m)? as u32), behind)),
+        _ => Some((number, rest)),
+    }
+}
+
+/// A number, a letter, or a sum in brackets in front.
+fn factor(signs: &[char], n: usize, m: usize) -> Option<(i64, &[char])> {
+    match signs {
+        ['(', behind @ ..] => match sum(behind, n, m)? {
+            (number, [')', after @ ..]) => Some((number, after)),
+            _ => None,
+        },
+        [digit, ..] if digit.is_ascii_digit() => {
+            let end = signs.iter().position(|sign| !sign.is_ascii_digit()).unwrap_or(signs.len());
+            Some((signs[..end].iter().collect::<String>().parse().ok()?, &signs[end..]))
+        }
+        [letter, behind @ ..] => Some((value(*letter, n, m)?, behind)),
+        [] => None,
     }
 }
 
@@ -80,8 +136,21 @@ pub fn nodes(sections: &[Section]) -> Vec<Node> {
         if !section.inputs.is_empty() {
             lines.push(format!("from the inputs: {}", section.inputs));
         }
-        lines.push(format!("{} gates, {} AND", section.gates.text, section.ands.text));
+        lines.push(format!("{} gates, {} AND", section.gates.0, section.ands.0));
         Node { name: section.name.clone(), lines, fill: FILL, uses: section.reads.clone() }
     };
     sections.iter().map(node).collect()
+}
+
+/// Where the sections' gates do not come to what the laws say, for the numbers of variables and rows that there may be.
+pub fn unlike_laws(sections: &[Section]) -> Option<String> {
+    let sizes = (1..=32).flat_map(|n| (2..=384).map(move |m| (n, m)));
+    let law = |(n, m)| {
+        let counts = counts::now(n, m);
+        (counts.gates, counts.ands)
+    };
+    let unlike = sizes.into_iter().find(|&(n, m)| totals(sections, n, m) != law((n, m)));
+    unlike.map(|(n, m)| {
+        format!("n = {n}, m = {m}: {:?} gates and AND gates, and not {:?}", totals(sections, n, m), law((n, m)))
+    })
 }

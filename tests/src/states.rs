@@ -8,7 +8,7 @@ pub const STANDINGS: [Standing; 3] = [Standing::Open, Standing::Satisfied, Stand
 
 /// The state whose levels choose these variables in turn. Each other variable is free, or has a value from the level of
 /// a number on, the number of levels standing for the state alone. Every well-formed state is one of these, once.
-fn state(standing: Standing, chosen: &[usize], others: &[Option<(usize, bool)>]) -> Run {
+pub fn state(standing: Standing, chosen: &[usize], others: &[Option<(usize, bool)>]) -> Run {
     let values_at = |level: usize| -> Vec<Value> {
         let value = |v: usize| match chosen.iter().position(|&c| c == v) {
             Some(place) => (place < level).then_some(true),
@@ -100,9 +100,17 @@ fn padding(row: Row, variable: i64) -> Row {
     row.into_iter().filter(|literal| literal.abs() != variable).chain([variable, -variable]).collect()
 }
 
+/// The literal of a variable that counts from 0.
+fn signed(v: usize, positive: bool) -> i64 {
+    if positive {
+        v as i64 + 1
+    } else {
+        -(v as i64) - 1
+    }
+}
+
 /// Some literals that the state makes false, and as many free ones, up to all, as are asked for.
 fn unsatisfied(values: &[Value], free: usize, random: &mut Random) -> Row {
-    let signed = |v: usize, positive: bool| if positive { v as i64 + 1 } else { -(v as i64) - 1 };
     let mut row: Row = vec![];
     let mut open: Vec<usize> = vec![];
     for (v, value) in values.iter().enumerate() {
@@ -132,7 +140,7 @@ fn row(kind: Kind, values: &[Value], random: &mut Random) -> Row {
         }
         Kind::Satisfied if !set.is_empty() => {
             let v = *random.pick(&set);
-            let literal = if values[v] == Some(true) { v as i64 + 1 } else { -(v as i64) - 1 };
+            let literal = signed(v, values[v] == Some(true));
             let row = unsatisfied(values, more, random);
             row.into_iter().filter(|l| l.abs() != literal.abs()).chain([literal]).collect()
         }
@@ -152,4 +160,52 @@ pub fn table(count: usize, values: &[Value], random: &mut Random) -> Vec<Row> {
         rows[random.below(count)] = row(kind, values, random);
     }
     rows
+}
+
+/// At most so many literals of free variables, to be forced all at once: of different variables, the lowest last; of one variable
+/// with both signs, the negative one first; these two together; or any. In all but the last the first literal is not the one to take.
+fn forced(free: &[usize], count: usize, random: &mut Random) -> Vec<i64> {
+    let mut falling: Vec<usize> = free.to_vec();
+    while falling.len() > count {
+        falling.swap_remove(random.below(falling.len()));
+    }
+    falling.sort_by(|a, b| b.cmp(a));
+    let lowest = falling[falling.len() - 1];
+    let both = [signed(lowest, false), signed(lowest, true)];
+    match random.below(4) {
+        _ if falling.len() == 1 => both.to_vec(),
+        0 => falling.into_iter().map(|v| signed(v, random.once_in(2))).collect(),
+        1 => (0..count).map(|_| signed(*random.pick(&falling), random.once_in(2))).collect(),
+        2 => both.to_vec(),
+        _ => {
+            let others = falling[..falling.len() - 1].iter().take(count - 2);
+            others.map(|&v| signed(v, random.once_in(2))).chain(both).collect()
+        }
+    }
+}
+
+/// An open state of n variables and so many rows, two at least, of which several force a literal; the rest force none. Once in
+/// eight times one of the rest is in conflict.
+pub fn tied(n: usize, count: usize, random: &mut Random) -> (Vec<Row>, Run) {
+    let (mut run, mut free) = (Run::fresh(n), vec![]);
+    while free.len() < n.min(2) {
+        let depth = random.between(0, n.saturating_sub(2));
+        run = Run { standing: Standing::Open, ..at_depth(n, depth, random) };
+        free = (0..n).filter(|&v| run.values[v].is_none()).collect();
+    }
+    let most = random.between(2, count.min(6));
+    let literals = forced(&free, most, random);
+    let mut places: Vec<usize> = (0..count).collect();
+    while places.len() > literals.len() {
+        places.remove(random.below(places.len()));
+    }
+    let quiet = [Kind::Satisfied, Kind::Padding, Kind::Wide];
+    let mut rows: Vec<Row> = (0..count).map(|_| row(*random.pick(&quiet), &run.values, random)).collect();
+    if random.once_in(8) {
+        rows[random.below(count)] = row(Kind::Conflict, &run.values, random);
+    }
+    for (place, literal) in places.into_iter().zip(literals) {
+        rows[place] = [unsatisfied(&run.values, 0, random), vec![literal]].concat();
+    }
+    (rows, run)
 }
