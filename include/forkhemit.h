@@ -11,7 +11,7 @@
  * - The function returns 0 where the call was taken, else one number of forkhemit_refusal_number. On a refusal nothing is written.
  * - A taken call fills an array of numbers whole (a text its front), and the front of a buffer with a length; the rest stays as it was.
  * - No function keeps a pointer, allocates memory or has a state of its own: calls in several threads over different buffers are safe.
- *   forkhemit_evaluate and forkhemit_repeat want about 290 KiB of the caller's stack.
+ *   forkhemit_evaluate and forkhemit_repeat want about 320 KiB of the caller's stack.
  *
  * How to read the comments: `sizes: ..` says what the buffer of that name holds after the call. The numbers at the end are the refusals
  * that the function may return, in the order in which they are judged.
