@@ -16,7 +16,7 @@ use Rattle.dimensions.specs.declared.Dimensions.{Dimensions}
 use Rattle.tables.specs.declared.Row.{Row}
 use Rattle.tables.specs.Tables.{Tables}
 use Rattle.tables.specs.Rows.{rowsOf}
-use Rattle.tables.specs.Acceptance.{tableChecks}
+use Rattle.tables.specs.Acceptance.{lowRow, tableChecks}
 use Rattle.tables.proofs.Accepted.{accepted}
 use Rattle.state.specs.declared.Standing.{Standing}
 use Rattle.state.specs.declared.Standing.the-variants.{Open, Satisfied, Refuted}
@@ -24,17 +24,16 @@ use Rattle.verdicts.specs.declared.Verdict.the-variants.{Satisfiable, Unsatisfi
 use Rattle.scan.specs.Rules.{allRows}
 use Rattle.state.specs.State.{State, fresh}
 use Rattle.solver.specs.Step.{always, step, after}
-use Rattle.solver.specs.Late.{Late, rowsAt}
 use Rattle.solver.specs.Truth.{allTrue, occurring}
 use Rattle.verdicts.specs.Verdicts.{verdictOf}
 use Rattle.solver.specs.Entries.{Ran, runFrom, answerOf}
 use Rattle.demand2.specs.Demand2.{Demand2}
 use Rattle.solver.proofs.RunLaws.{RunOf, run-of}
-use Rattle.solver.proofs.LowRows.{lowRow, accepted-low}
+use Rattle.solver.proofs.LowRows.{accepted-low}
 use Rattle.demand2.proofs.Satisfaction.{satisfied-model}
 use Rattle.demand2.proofs.Refutation.{refuted-none}
 use Rattle.solver.proofs.StepLaws.{after-last, after-formed, fresh-formed}
-use Rattle.demand2.proofs.Growth.{Grows, grows-same, rows-low, rows-grow}
+use Rattle.demand2.proofs.Growth.{Grows, grows-same}
 use Rattle.demand2.proofs.Bound.{after-closes, occurring-le}
 
 -- ---- the standing that a verdict comes from
@@ -142,16 +141,7 @@ module _ (n : ℕ) (rows : ℕ → List Row) (few : n ≤ 32) (low : (i : ℕ) �
 
 -- ---- accepted tables
 
--- with late conditions
-pub demand2-late : (d : Dimensions) (tables : Tables) (late : List Late) (budget : ℕ) → outcome (tableChecks d tables) ≡ Taken
-    → let rows = rowsAt (d .n) (rowsOf d tables) late in Demand2 (d .n) rows budget (answerOf (d .n) rows budget)
-demand2-late d tables late budget e =
-    let few = accepted d tables e .size .n-most in
-    demand2-rows (d .n) (rowsAt (d .n) (rowsOf d tables) late) few
-    (rows-low (d .n) few late (rowsOf d tables) (accepted-low d tables e))
-    (rows-grow (d .n) few late (rowsOf d tables)) budget
-
--- and without
+-- under any budget, no row replaced
 pub demand2 : (d : Dimensions) (tables : Tables) (budget : ℕ) → outcome (tableChecks d tables) ≡ Taken
     → let rows = always (rowsOf d tables) in Demand2 (d .n) rows budget (answerOf (d .n) rows budget)
 demand2 d tables budget e =

@@ -6,7 +6,7 @@ use mathlib.Core.List.{List, [], _∷_, _++_, map}
 use lib.Bits.{bitOr}
 use Rattle.words.specs.Sets.{bit, put, any, count, lowest}
 use Rattle.tables.specs.declared.Row.{Row}
-use Rattle.tables.specs.Rows.{padding, satisfied, freeLiterals}
+use Rattle.tables.specs.Rows.{padding, satisfied, freeLiterals, empty}
 use Rattle.solver.specs.declared.Answer.{Answer}
 use Rattle.verdicts.specs.declared.Verdict.{Verdict}
 use Rattle.verdicts.specs.declared.Verdict.the-variants.{Satisfiable, Unsatisfiable, Unknown}
@@ -24,9 +24,6 @@ neg i = record { positive = 0; negative = 2 ^ (i - 1) }
 infixr 70 _·_
 abbrev _·_ : Row → Row → Row
 a · b = record { positive = bitOr (a .positive) (b .positive); negative = bitOr (a .negative) (b .negative) }
-
-abbrev empty : Row
-empty = record { positive = 0; negative = 0 }
 
 -- a model has the variables of its positive literals, and no other
 abbrev model : Row → Verdict

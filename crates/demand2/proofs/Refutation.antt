@@ -28,7 +28,7 @@ use Rattle.solver.specs.Truth.{allTrue}
 use Rattle.scan.proofs.RowLaws.{In}
 use Rattle.solver.proofs.RuleLaws.{Ruled, ruled, Forces, with-unsatisfied, with-count}
 use Rattle.solver.proofs.StepLaws.{after-keeps}
-use Rattle.solver.proofs.LowRows.{lowRow}
+use Rattle.tables.specs.Acceptance.{lowRow}
 use Rattle.demand2.proofs.TruthLaws.{literal, all-true-e}
 
 -- ---- one variable: p, q say whether it stands positive, negative; t, f whether it is in T, in F; a is its value

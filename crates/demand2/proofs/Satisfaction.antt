@@ -25,7 +25,7 @@ use Rattle.scan.proofs.RowLaws.{all-rows-mono}
 use Rattle.solver.proofs.RuleLaws.{Ruled, ruled}
 use Rattle.state.proofs.WellFormedLaws.{Sets, Formed}
 use Rattle.solver.proofs.StepLaws.{step-formed}
-use Rattle.solver.proofs.LowRows.{lowRow}
+use Rattle.tables.specs.Acceptance.{lowRow}
 use Rattle.demand2.proofs.TruthLaws.{literal, row-true}
 
 module _ (n : ℕ) (rows : List Row) where

@@ -11,7 +11,8 @@ use Rattle.tables.specs.declared.Row.{Row}
 use Rattle.scan.specs.Rules.{allRows}
 use Rattle.solver.specs.Truth.{rowTrue, allTrue}
 use Rattle.scan.proofs.RowLaws.{In}
-use Rattle.solver.proofs.LowRows.{lowRow, low-positive, low-negative}
+use Rattle.tables.specs.Acceptance.{lowRow}
+use Rattle.solver.proofs.LowRows.{low-positive, low-negative}
 
 -- the assignment makes a literal of this variable true
 abbrev pub literal : (ℕ → Bool) → Row → ℕ → Bool

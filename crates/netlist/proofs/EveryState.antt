@@ -32,7 +32,8 @@ use Rattle.gates.proofs.InMemory.{accepted-words, words-length}
 use Rattle.two_pass.proofs.Evaluation.{evaluates}
 use Rattle.wires.specs.Layout.{stateBits}
 use Rattle.wires.specs.Packing.{inputBits}
-use Rattle.wires.proofs.Lengths.{tables-length, input-length, state-length}
+use Rattle.tables.proofs.Numbering.{tables-length}
+use Rattle.wires.proofs.Lengths.{input-length, state-length}
 use Rattle.sections.specs.Addressing.{digitsFor, addresses, addressesOn}
 use Rattle.netlist.specs.Outputs.{closed, outputBits, outputsIn, CarriesOut}
 use Rattle.netlist.specs.Netlist.{circuit, gatesFor, gatesOn}

@@ -34,7 +34,8 @@ use Rattle.gates.proofs.InMemory.{bitsOf-bytesOf}
 use Rattle.wires.specs.Layout.{rowsBits, stateBits}
 use Rattle.wires.specs.Bits.{bitsIn, inOrder, stateAt}
 use Rattle.wires.specs.Packing.{inputBits, packChecks, packed}
-use Rattle.wires.proofs.Lengths.{state-length, rows-length, tables-length, twice}
+use Rattle.tables.proofs.Numbering.{tables-length}
+use Rattle.wires.proofs.Lengths.{state-length, rows-length, twice}
 use Rattle.wires.proofs.Addresses.{state-at}
 use Rattle.wires.proofs.Checks.{passed, pack-taken}
 use Rattle.readback.specs.declared.Read.{Read}

@@ -7,11 +7,11 @@ use lib.Dec.{lit<}
 use lib.ListN.{getD}
 use Rattle.refusals.specs.Numbers.{numberOf}
 use Rattle.refusals.specs.declared.Refusal.{Refusal}
-use Rattle.refusals.specs.declared.Refusal.the-variants.{Variables, RowCount, RowBit, RowBuffer, Text, TextsDiffer, GateBuffer, NumberLine, Gates, Wires, LineBuffer, State, OtherVariables, NoModel}
+use Rattle.refusals.specs.declared.Refusal.the-variants.{Variables, RowCount, RowBit, RowBuffer, Text, TextsDiffer, GateBuffer, NumberLine, Gates, Wires, LineBuffer, State, OtherVariables, NoModel, NotPadding, Closed}
 
 -- the refusal of a number; no refusal has 0
 refusalOf : ℕ → Refusal
-refusalOf k = getD (NoModel ∷ Variables ∷ RowCount ∷ RowBit ∷ RowBuffer ∷ Text ∷ TextsDiffer ∷ GateBuffer ∷ NumberLine ∷ Gates ∷ Wires ∷ LineBuffer ∷ State ∷ OtherVariables ∷ []) k NoModel
+refusalOf k = getD (Closed ∷ Variables ∷ RowCount ∷ RowBit ∷ RowBuffer ∷ Text ∷ TextsDiffer ∷ GateBuffer ∷ NumberLine ∷ Gates ∷ Wires ∷ LineBuffer ∷ State ∷ OtherVariables ∷ NoModel ∷ NotPadding ∷ []) k Closed
 
 refusal-back : (r : Refusal) → refusalOf (numberOf r) ≡ r
 unfolding refusalOf
@@ -29,11 +29,13 @@ refusal-back LineBuffer = refl
 refusal-back State = refl
 refusal-back OtherVariables = refl
 refusal-back NoModel = refl
+refusal-back NotPadding = refl
+refusal-back Closed = refl
 
 pub number-injective : (q r : Refusal) → numberOf q ≡ numberOf r → q ≡ r
 number-injective q r e = sym (refusal-back q) ∙ ap refusalOf e ∙ refusal-back r
 
-pub number-lt : (r : Refusal) → numberOf r < 15
+pub number-lt : (r : Refusal) → numberOf r < 17
 number-lt Variables = lit< tt
 number-lt RowCount = lit< tt
 number-lt RowBit = lit< tt
@@ -48,3 +50,5 @@ number-lt LineBuffer = lit< tt
 number-lt State = lit< tt
 number-lt OtherVariables = lit< tt
 number-lt NoModel = lit< tt
+number-lt NotPadding = lit< tt
+number-lt Closed = lit< tt

@@ -1,8 +1,8 @@
--- Document 01's numbers: what a refusal is called outside, "Turned back because of the input" and "because of the state".
+-- The numbers of documents 01 and 02: what a refusal is called outside; document 01, "Turned back because of the input" and "because of the state".
 use Prim.Native.Nat.{ℕ}
 use mathlib.Core.List.{List, [], _∷_}
 use Rattle.refusals.specs.declared.Refusal.{Refusal}
-use Rattle.refusals.specs.declared.Refusal.the-variants.{Variables, RowCount, RowBit, RowBuffer, Text, TextsDiffer, GateBuffer, NumberLine, Gates, Wires, LineBuffer, State, OtherVariables, NoModel}
+use Rattle.refusals.specs.declared.Refusal.the-variants.{Variables, RowCount, RowBit, RowBuffer, Text, TextsDiffer, GateBuffer, NumberLine, Gates, Wires, LineBuffer, State, OtherVariables, NoModel, NotPadding, Closed}
 use Rattle.refusals.specs.declared.Outcome.{Outcome}
 use Rattle.refusals.specs.declared.Outcome.the-variants.{Taken, Refused}
 
@@ -22,6 +22,8 @@ numberOf LineBuffer = 11
 numberOf State = 12
 numberOf OtherVariables = 13
 numberOf NoModel = 14
+numberOf NotPadding = 15
+numberOf Closed = 16
 
 -- 0 where the call was taken, else the refusal's number
 abbrev pub codeOf : Outcome → ℕ

@@ -2,7 +2,7 @@
 ghost use mathlib.Core.Path.{_≡_};
 ghost use Rattle.refusals.specs.Numbers.{numberOf};
 
-// Why a call is turned back: 1 to 11 because of the input, 12 to 14 because of the state.
+// Why a call is turned back: 1 to 11 because of the input, 12 to 14 because of the state, 15 and 16 because of a late condition.
 pub enum Refusal {
     // 1: n outside 1 to 32.
     Variables,
@@ -32,6 +32,10 @@ pub enum Refusal {
     OtherVariables,
     // 14: a model wanted while open or refuted.
     NoModel,
+    // 15: a row that is no padding row of the station that would replace it.
+    NotPadding,
+    // 16: a row replaced while the run is closed.
+    Closed,
 }
 
 // What a call gives that has no other result.
@@ -59,5 +63,7 @@ pub fn number(refusal: Refusal) -> u8
         Refusal::State => 12,
         Refusal::OtherVariables => 13,
         Refusal::NoModel => 14,
+        Refusal::NotPadding => 15,
+        Refusal::Closed => 16,
     }
 }

@@ -15,14 +15,10 @@ use Rattle.dimensions.specs.declared.Dimensions.{Dimensions}
 use Rattle.tables.specs.declared.Row.{Row}
 use Rattle.tables.specs.Tables.{Tables}
 use Rattle.tables.specs.Rows.{rowsFrom, rowsOf}
-use Rattle.tables.specs.Acceptance.{tableChecks}
+use Rattle.tables.specs.Acceptance.{lowRow, tableChecks}
 use Rattle.tables.proofs.Accepted.{accepted}
 use Rattle.scan.specs.Rules.{allRows}
 use Rattle.scan.proofs.RowLaws.{all-rows-append}
-
--- the row's words are below 2 ^ n
-abbrev pub lowRow : ℕ → Row → Bool
-lowRow n r = ltb (r .positive) (2 ^ n) && ltb (r .negative) (2 ^ n)
 
 pub low-positive : (n : ℕ) (r : Row) → lowRow n r ≡ true → r .positive < 2 ^ n
 low-positive n r e = ltb-true _ _ (and-l (ltb (r .positive) (2 ^ n)) _ e)

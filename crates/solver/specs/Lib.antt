@@ -1,4 +1,3 @@
 pub mod Step
-pub mod Late
 pub mod Entries
 pub mod Truth

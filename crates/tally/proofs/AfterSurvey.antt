@@ -22,7 +22,8 @@ use Rattle.scan.specs.Rules.{anyRow, unsatisfiedWith}
 use Rattle.scan.proofs.RowLaws.{any-row-cong}
 use Rattle.occurrences.specs.Index.{at, wordAt, rowSet, literal, indexOf}
 use Rattle.occurrences.proofs.IndexLaws.{set-at, positive-at, negative-at}
-use Rattle.occurrences.proofs.SetLaws.{at-past, at-words, word-bit, rows-length}
+use Rattle.tables.proofs.Numbering.{table-length}
+use Rattle.occurrences.proofs.SetLaws.{at-past, at-words, word-bit}
 use Rattle.tally.specs.Tallies.{unmet, forcing, tallyOf}
 use Rattle.tally.specs.Surveys.{metBy, freeBy, seenIn, allSeen, unmetBy, fewBy, surveyed}
 use Rattle.tally.proofs.WordLaws.{word-is, bit-without, six-cong, unset-bit}
@@ -50,7 +51,7 @@ module _ (words : List ℕ) (m t f : ℕ) where
     r = rowAt words (0 + i)
 
     past : ltb i m ≡ false → (p : Row → Bool) → at p rows i ≡ false
-    past e p = at-past p rows i (omega (arith, ltb-false i m e, rows-length words 0 m))
+    past e p = at-past p rows i (omega (arith, ltb-false i m e, table-length words 0 m))
 
     -- the row is there
     module _ (e : ltb i m ≡ true) where

@@ -19,7 +19,8 @@ use Rattle.tables.specs.Rows.{rowAt, rowsFrom, free, freeIn}
 use Rattle.scan.specs.Rules.{anyRow, unsatisfiedWith}
 use Rattle.occurrences.specs.Index.{at, rowSet, literal}
 use Rattle.occurrences.proofs.IndexLaws.{set-at}
-use Rattle.occurrences.proofs.SetLaws.{at-past, at-words, word-bit, word-size, rows-length}
+use Rattle.tables.proofs.Numbering.{table-length}
+use Rattle.occurrences.proofs.SetLaws.{at-past, at-words, word-bit, word-size}
 use Rattle.tally.specs.Tallies.{countRows, unmet, unsatisfiedRows, forcing, forcedWord, tallyOf}
 use Rattle.tally.specs.Words.{sizeOf, someIn, orSome, variablesOf, variablesAre, wordOfSign, forcesOnly, forcedIn, gathered}
 use Rattle.tally.proofs.Sums.{count-six, any-six, count-at, any-at}
@@ -41,14 +42,14 @@ module _ (words : List ℕ) (m : ℕ) (few : m ≤ 384) where
       here e p = let z : 0 + i ≡ i = omega arith in at-words p words 0 m i (ltb-true i m e) ∙ ap (λ (x : ℕ). p (rowAt words x)) z
 
       past : ltb i m ≡ false → (p : Row → Bool) → at p rows i ≡ false
-      past e p = at-past p rows i (omega (arith, ltb-false i m e, rows-length words 0 m))
+      past e p = at-past p rows i (omega (arith, ltb-false i m e, table-length words 0 m))
 
   some-rows : (x : Bool) (p q : Row → Bool) → orSome x (rowSet p rows) (λ i. q (rowAt words i)) ≡ x || anyRow (λ r. p r && q r) rows
   some-rows x p q =
       let e : (w : ℕ) → w < 6 → someIn (rowSet p rows) (λ i. q (rowAt words i)) w ≡ any (λ j. at (λ r. p r && q r) rows (64 * w + j)) 64 = word in
       (λ i. x || e 0 (omega arith) i || e 1 (omega arith) i || e 2 (omega arith) i || e 3 (omega arith) i || e 4 (omega arith) i || e 5 (omega arith) i)
       ∙ apart x _ _ _ _ _ _
-      ∙ ap (λ (y : Bool). x || y) (any-six (at (λ r. p r && q r) rows) ∙ any-at (λ r. p r && q r) rows 384 (omega (arith, rows-length words 0 m)))
+      ∙ ap (λ (y : Bool). x || y) (any-six (at (λ r. p r && q r) rows) ∙ any-at (λ r. p r && q r) rows 384 (omega (arith, table-length words 0 m)))
     where
       word : (w : ℕ) → w < 6 → someIn (rowSet p rows) (λ i. q (rowAt words i)) w ≡ any (λ j. at (λ r. p r && q r) rows (64 * w + j)) 64
       word w h =
@@ -71,7 +72,7 @@ module _ (words : List ℕ) (m : ℕ) (few : m ≤ 384) where
         word-size p rows 4,
         word-size p rows 5,
         count-six (at p rows),
-        count-at p rows 384 (omega (arith, rows-length words 0 m)),
+        count-at p rows 384 (omega (arith, table-length words 0 m)),
       )
 
   -- ---- T, F and the variables free then

@@ -10,7 +10,8 @@ use lib.ListN.{length, length-append}
 use Rattle.dimensions.specs.declared.Dimensions.{Dimensions}
 use Rattle.tables.specs.declared.Row.{Row}
 use Rattle.tables.specs.Tables.{Tables}
-use Rattle.tables.specs.Rows.{rowsFrom, rowsOf}
+use Rattle.tables.specs.Rows.{rowsOf}
+use Rattle.tables.proofs.Numbering.{tables-length}
 use Rattle.dimensions.specs.Sizes.{rowCount, stateWires, inputWires}
 use Rattle.state.specs.State.{State}
 use Rattle.wires.specs.Layout.{upto, rowBits, rowsBits, stateBits}
@@ -50,17 +51,6 @@ pub rows-length : (n : ℕ) (rows : List Row) → length (rowsBits n rows) ≡ (
 unfolding rowsBits
 rows-length n [] = sym (mul-zero (n + n))
 rows-length n (r ∷ rs) = length-append (rowBits n r) (rowsBits n rs) ∙ ap₂ _+_ (row-length n r) (rows-length n rs) ∙ omega (arith, mul-suc (n + n) (length rs))
-
-pub table-length : (words : List ℕ) (i k : ℕ) → length (rowsFrom words i k) ≡ k
-table-length words i zero = refl
-table-length words i (suc k) = ap suc (table-length words (suc i) k)
-
-pub tables-length : (d : Dimensions) (tables : Tables) → length (rowsOf d tables) ≡ rowCount d
-tables-length d tables =
-    length-append (rowsFrom (tables .left) 0 (d .left)) _
-    ∙ ap₂ _+_ (table-length (tables .left) 0 (d .left))
-    (length-append (rowsFrom (tables .right) 0 (d .right)) _ ∙ ap₂ _+_ (table-length (tables .right) 0 (d .right)) (table-length (tables .public) 0 (d .public)))
-    ∙ omega arith
 
 pub twice : (n m : ℕ) → (n + n) * m ≡ 2 * n * m
 twice n m = ap (λ (k : ℕ). k * m) (two n)

@@ -17,7 +17,8 @@ use Rattle.state.specs.State.{stateOf}
 use Rattle.gates.specs.Memory.{bytesOf, over}
 use Rattle.wires.specs.Layout.{joined, rowBits, rowsBits, stateBits}
 use Rattle.wires.specs.Packing.{inputBits}
-use Rattle.wires.proofs.Lengths.{rows-length, table-length, input-length}
+use Rattle.tables.proofs.Numbering.{table-length}
+use Rattle.wires.proofs.Lengths.{rows-length, input-length}
 use Rattle.wires.proofs.Stores.{stored, stored-then, stored-front}
 
 rows-append : (n : ℕ) (xs ys : List Row) → rowsBits n (xs ++ ys) ≡ rowsBits n xs ++ rowsBits n ys
