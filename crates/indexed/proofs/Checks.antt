@@ -72,8 +72,7 @@ module _ (n : ℕ) (run : Run) (exact right : Bool) where
 -- as code has them: the index beside the rows' own sets, the number beside that of their tally
 module _ (n : ℕ) (words : List ℕ) (m : ℕ) (sets : List ℕ) (x : Indexed n words m sets) (index : List ℕ) (run : Run) (number : ℕ)
     (low-t : run .t < 2 ^ 32) (low-f : run .f < 2 ^ 32) (tally : Tally) (t : tally ≡ surveyed words sets m (run .t) (run .f))
-    (exact : Bool) (e : exact ≡ same index sets)
-    (o : Outcome) (q : o ≡ outcome (keptChecks n run exact (eqb number (tally .number)))) where
+    (o : Outcome) (q : o ≡ outcome (keptChecks n run (same index sets) (eqb number (tally .number)))) where
   abbrev rows : List Row
   rows = rowsFrom words 0 m
 
@@ -82,12 +81,12 @@ module _ (n : ℕ) (words : List ℕ) (m : ℕ) (sets : List ℕ) (x : Indexed n
 
   pub judged : o ≡ outcome (indexedChecks n rows index run number)
   judged =
-      q ∙ ap₂ (λ (b : Bool) (k : ℕ). outcome (keptChecks n run b (eqb number k))) (e ∙ ap (λ (l : List ℕ). same index l) (x .indexed))
+      q ∙ ap₂ (λ (b : Bool) (k : ℕ). outcome (keptChecks n run b (eqb number k))) (ap (λ (l : List ℕ). same index l) (x .indexed))
       (ap (λ (y : Tally). y .number) tally-exact ∙ tally-number n (x .most) (run .t) (run .f) rows (x .low))
 
   module _ (taken : o ≡ Taken) where
-    passed : Kept n run exact (eqb number (tally .number))
-    passed = kept n run exact (eqb number (tally .number)) (sym q ∙ taken)
+    passed : Kept n run (same index sets) (eqb number (tally .number))
+    passed = kept n run (same index sets) (eqb number (tally .number)) (sym q ∙ taken)
 
     -- what the step asks
     pub step-ready : Indexed (run .n) words m sets × Exact rows (record { run = run; tally = tally })

@@ -13,14 +13,13 @@ use Rattle.refusals.proofs.Outcomes.{outcome-taken, outcome-refused, given-said
 use Rattle.dimensions.specs.declared.Dimensions.{Dimensions}
 use Rattle.tables.specs.declared.Row.{Row}
 use Rattle.tables.specs.Tables.{Tables}
-use Rattle.tables.specs.Acceptance.{tableChecks}
+use Rattle.tables.specs.Acceptance.{lowRow, tableChecks}
 use Rattle.tables.specs.Rows.{rowsOf}
 use Rattle.scan.specs.Rules.{allRows}
 use Rattle.state.specs.declared.Run.{Run}
 use Rattle.state.specs.State.{stateOf, runOf}
 use Rattle.state.specs.WellFormed.{stateChecks}
 use Rattle.solver.specs.Step.{step}
-use Rattle.solver.proofs.LowRows.{lowRow}
 use Rattle.occurrences.specs.Index.{indexOf}
 use Rattle.tally.specs.Tallies.{unsatisfiedRows}
 use Rattle.indexed.specs.declared.Counted.{Counted}

@@ -11,10 +11,10 @@ use Rattle.dimensions.specs.Sizes.{rowCount}
 use Rattle.tables.specs.declared.Row.{Row}
 use Rattle.tables.specs.Tables.{Tables}
 use Rattle.tables.specs.Rows.{rowsFrom, rowsOf}
-use Rattle.tables.specs.Acceptance.{tableChecks}
+use Rattle.tables.specs.Acceptance.{lowRow, tableChecks}
 use Rattle.tables.proofs.Accepted.{accepted}
 use Rattle.scan.specs.Rules.{allRows}
-use Rattle.solver.proofs.LowRows.{lowRow, accepted-low}
+use Rattle.solver.proofs.LowRows.{accepted-low}
 use Rattle.occurrences.specs.Index.{indexOf}
 use Rattle.occurrences.specs.RowWords.{gathered}
 use Rattle.occurrences.proofs.Gathering.{gathered-rows, gathered-index}

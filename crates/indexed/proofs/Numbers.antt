@@ -9,7 +9,8 @@ use Rattle.words.proofs.Truth.{and-l, and-r}
 use Rattle.tables.specs.declared.Row.{Row}
 use Rattle.tables.proofs.Rows.{satisfied-width}
 use Rattle.scan.specs.Rules.{allRows}
-use Rattle.solver.proofs.LowRows.{lowRow, low-positive, low-negative}
+use Rattle.tables.specs.Acceptance.{lowRow}
+use Rattle.solver.proofs.LowRows.{low-positive, low-negative}
 use Rattle.tally.specs.Tallies.{countRows, unmet, unsatisfiedRows, tallyOf}
 
 module _ (n : ℕ) (narrow : n ≤ 32) (t f : ℕ) where

@@ -18,7 +18,7 @@ use Rattle.solver.specs.Step.{follow}
 use Rattle.solver.proofs.RuleLaws.{Ruled, ruled, Settable, rule-unit, rule-choice}
 use Rattle.solver.proofs.StepLaws.{follow-formed}
 use Rattle.solver.proofs.WidthLaws.{rule-width}
-use Rattle.occurrences.proofs.SetLaws.{rows-length}
+use Rattle.tables.proofs.Numbering.{table-length}
 use Rattle.tally.specs.declared.Tally.{Tally}
 use Rattle.tally.specs.Tallies.{tallyOf}
 use Rattle.tally.specs.Surveys.{surveyed}
@@ -52,7 +52,7 @@ module _ (n : ℕ) (words : List ℕ) (m : ℕ) (index : List ℕ) (x : Indexed 
 
     -- the rule read off the tally
     pub rule-read : ruleBy index (s .t) (s .f) tally ≡ rule n rows (s .t) (s .f)
-    rule-read = after-rule rows (s .t) (s .f) (omega (arith, rows-length words 0 m, x .few)) t-low f-low index tally (x .indexed) exact ∙ wide (s .t) (s .f)
+    rule-read = after-rule rows (s .t) (s .f) (omega (arith, table-length words 0 m, x .few)) t-low f-low index tally (x .indexed) exact ∙ wide (s .t) (s .f)
 
     ready : (v : ℕ) → Settable n rows (s .t) (s .f) v → anyRow (unsatisfiedWith 0 32 (s .t) (s .f)) rows ≡ false → Ready words m index (s .t) (s .f) v tally
     ready v w calm = record {

@@ -10,9 +10,11 @@ use solver::Solved;
 use state::Run;
 ghost use mathlib.Core.Path.{_≡_};
 ghost use mathlib.Core.List.{[], _∷_, _++_};
+ghost use lib.Dec.{eqb};
 ghost use Rattle.refusals.specs.Checks.{outcome};
 ghost use Rattle.refusals.specs.Numbers.{said};
 ghost use Rattle.refusals.specs.declared.Outcome.the-variants.{Taken};
+ghost use Rattle.words.specs.Sameness.{same};
 ghost use Rattle.dimensions.specs.Sizes.{rowCount};
 ghost use Rattle.tables.specs.Tables.{allTables};
 ghost use Rattle.tables.specs.Acceptance.{tableChecks};
@@ -143,19 +145,26 @@ pub fn unsatisfied(d: Dimensions, left: &[u32], right: &[u32], public: &[u32], r
     }
 }
 
-// ---- the step
+// ---- index, run and number together
 
-// Whether a run may be stepped with an index and a number that are `exact` and `right` or not: 12 for each of the three, then 13.
-fn check_kept(n: u8, run: Run, exact: bool, right: bool) -> Outcome
-    ensures { λ r. ⌜ r ≡ outcome (keptChecks n run exact right) ⌝ }
+// Whether run, index and number go together with rows of which `sets` are the sets and `unsatisfied` is the number under the run's T and F: 12 for each of the three, then 13.
+fn check_kept(
+    n: u8,
+    sets: &[u64; 384],
+    unsatisfied: u32,
+    index: &[u64; 384],
+    run: Run,
+    number: u64,
+) -> Outcome
+    ensures { λ r. ⌜ r ≡ outcome (keptChecks n run (same (now (index .entry)) (now (sets .entry))) (eqb number unsatisfied)) ⌝ }
 {
     if !state::well_formed(run) {
         return Outcome::Refused(Refusal::State);
     }
-    if !exact {
+    if !occurrences::same(index, sets) {
         return Outcome::Refused(Refusal::State);
     }
-    if !right {
+    if number != unsatisfied as u64 {
         return Outcome::Refused(Refusal::State);
     }
     if run.n != n {
@@ -163,6 +172,46 @@ fn check_kept(n: u8, run: Run, exact: bool, right: bool) -> Outcome
     }
     Outcome::Taken
 }
+
+// The same over accepted tables.
+fn check_accepted(
+    d: Dimensions,
+    left: &[u32],
+    right: &[u32],
+    public: &[u32],
+    index: &[u64; 384],
+    run: Run,
+    number: u64,
+) -> Outcome
+    requires { ⌜ outcome (tableChecks d (allTables (now left) (now right) (now public))) ≡ Taken ⌝ }
+    ensures { λ r. ⌜ r ≡ outcome (indexedChecks (d .n) (rowsOf d (allTables (now (left .entry)) (now (right .entry)) (now (public .entry)))) (now (index .entry)) run number) ⌝ }
+{
+    let mut sets = [0u64; 384];
+    let words = make_index(d, left, right, public, &mut sets);
+    let tally = tally::survey(&words, &sets, d.rows(), run.t, run.f);
+    check_kept(d.n, &sets, tally.number, index, run, number)
+}
+
+// Whether tables, index, run and number go together: 1, 2, 4, 3, 12 or 13 if not.
+pub fn check_indexed(
+    d: Dimensions,
+    left: &[u32],
+    right: &[u32],
+    public: &[u32],
+    index: &[u64; 384],
+    run: Run,
+    number: u64,
+) -> Outcome
+    ensures { λ r. ⌜ r ≡ outcome (tableChecks d (allTables (now (left .entry)) (now (right .entry)) (now (public .entry))) ++ indexedChecks (d .n) (rowsOf d (allTables (now (left .entry)) (now (right .entry)) (now (public .entry)))) (now (index .entry)) run number) ⌝ }
+{
+    let checked = tables::accept(d, left, right, public);
+    match checked {
+        Outcome::Refused(refusal) => Outcome::Refused(refusal),
+        Outcome::Taken => check_accepted(d, left, right, public, index, run, number),
+    }
+}
+
+// ---- the step
 
 // The step over rows whose index is `sets`, with the index and the number that were handed over.
 fn step_rows(
@@ -178,8 +227,7 @@ fn step_rows(
     ensures { λ r. ⌜ r ≡ steppedOver n (rowsFrom (now (words .entry)) 0 rows) (now (index .entry)) run number ⌝ }
 {
     let tally = tally::survey(words, sets, rows, run.t, run.f);
-    let exact = occurrences::same(index, sets);
-    let outcome = check_kept(n, run, exact, number == tally.number as u64);
+    let outcome = check_kept(n, sets, tally.number, index, run, number);
     match outcome {
         Outcome::Taken => {
             let next = beside::advance(words, rows, sets, Held { run, tally });

@@ -11,7 +11,7 @@ use Rattle.tables.specs.declared.Row.{Row}
 use Rattle.tables.specs.Tables.{allTables}
 use Rattle.tables.specs.Rows.{rowsOf}
 use Rattle.occurrences.specs.Index.{at, rowSet, literal, indexOf}
-use Rattle.occurrences.specs.RowWords.{gathered, literalsOf}
+use Rattle.occurrences.specs.RowWords.{gathered, literalsOf, replacedSets}
 
 -- positive, then negative word
 abbrev row : ℕ → ℕ → Row
@@ -40,3 +40,13 @@ in-order = refl
 two-literals : literalsOf (row 1 2) ≡ 1 + 2 * 4294967296
 unfolding literalsOf bit wordOf
 two-literals = refl
+
+-- the padding row (2 -2) replaced by (-1 -2): out of 2's set, into -1's, left in -2's
+replaced : replacedSets (indexOf three) 2 (row 2 2) (row 0 3) ≡ set (set (set (set (replicate 384 0) 0 1) 6 2) 192 6) 198 4
+unfolding replacedSets indexOf at bit wordOf
+replaced = refl
+
+-- no set has a row 384
+past-all : replacedSets (indexOf three) 384 (row 2 2) (row 0 3) ≡ indexOf three
+unfolding replacedSets indexOf at bit wordOf
+past-all = refl

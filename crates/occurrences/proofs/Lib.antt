@@ -1,7 +1,8 @@
 pub mod SetLaws
 pub mod IndexLaws
-pub mod LastRow
-pub mod Filling
+pub mod ByNumber
+pub mod Turning
+pub mod ReplacedRow
 pub mod Joined
 pub mod Storing
 pub mod Gathering

@@ -66,11 +66,6 @@ module _ (p : Row → Bool) where
   pub word-size : (rows : List Row) (w : ℕ) → count (bit (wordAt p rows w)) 64 ≡ count (λ j. at p rows (64 * w + j)) 64
   word-size rows w = count-cong (bit (wordAt p rows w)) (λ j. at p rows (64 * w + j)) 64 (word-bit rows w)
 
--- as many rows as were asked for
-pub rows-length : (words : List ℕ) (j k : ℕ) → length (rowsFrom words j k) ≡ k
-rows-length words j zero = refl
-rows-length words j (suc k) = ap suc (rows-length words (suc j) k)
-
 -- one more
 pub rows-last : (words : List ℕ) (j k : ℕ) → rowsFrom words j (suc k) ≡ rowsFrom words j k ++ (rowAt words (j + k) ∷ [])
 rows-last words j zero = let z : j ≡ j + 0 = omega arith in ap (λ (x : ℕ). rowAt words x ∷ []) z

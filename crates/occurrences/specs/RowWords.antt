@@ -1,11 +1,13 @@
 -- Rows as words: what code makes of the tables and of a row. No entry's contract rests on this file.
-use Prim.Native.Nat.{ℕ, _*_, _%_}
-use mathlib.Core.Bool.{Bool}
-use mathlib.Core.List.{List, _++_}
-use lib.Dec.{ltb}
+use Prim.Native.Nat.{ℕ, suc, _*_, _/_, _%_, _^_}
+use mathlib.Core.Bool.{Bool, _&&_, cond}
+use mathlib.Core.List.{List, [], _∷_, _++_}
+use lib.Dec.{eqb, ltb}
+use lib.Bits.{bitXor}
 use lib.ListN.{take, replicate}
 use lib.Seq.{sets}
-use Rattle.words.specs.Sets.{wordOf}
+use Rattle.words.specs.Booleans.{_⊕_}
+use Rattle.words.specs.Sets.{bit, wordOf}
 use Rattle.dimensions.specs.declared.Dimensions.{Dimensions}
 use Rattle.tables.specs.declared.Row.{Row}
 use Rattle.tables.specs.Tables.{Tables}
@@ -30,3 +32,20 @@ numbered l = literal (ltb l 32) (l % 32)
 -- the numbers of the row's literals, as a set
 unfoldable pub literalsOf : Row → ℕ
 literalsOf r = wordOf (λ l. numbered l r) 64
+
+-- ---- a row in its literals' sets
+
+-- words from number i on, with bit b turned over in each whose number passes
+unfoldable pub turnedFrom : (ℕ → Bool) → ℕ → ℕ → List ℕ → List ℕ
+turnedFrom p b i [] = []
+turnedFrom p b i (w ∷ ws) = cond (p i) (bitXor w (2 ^ b)) w ∷ turnedFrom p b (suc i) ws
+
+-- the row turned over in the set of each literal that passes: word i of an index is word i % 6 of literal i / 6
+unfoldable pub turned : (ℕ → Bool) → ℕ → List ℕ → List ℕ
+unfolding turnedFrom
+turned p row index = turnedFrom (λ i. eqb (i % 6) (row / 64) && p (i / 6)) (row % 64) 0 index
+
+-- one row in the place of another: out of the sets of the literals that only the old one holds, into those that only the new one holds
+unfoldable pub replacedSets : List ℕ → ℕ → Row → Row → List ℕ
+unfolding turned literalsOf
+replacedSets index row old new = turned (λ l. bit (literalsOf old) l ⊕ bit (literalsOf new) l) row index

@@ -6,11 +6,12 @@ ghost use mathlib.Core.Path.{_≡_};
 ghost use Prim.Native.Nat.{_+_, _*_, _≤_, _<_, min};
 ghost use lib.ListN.{length};
 ghost use lib.Seq.{sets};
+ghost use Rattle.words.specs.Sets as Sets;
 ghost use Rattle.words.specs.Sameness as Sameness;
 ghost use Rattle.tables.specs.Tables.{allTables};
 ghost use Rattle.tables.specs.Rows.{rowsFrom};
 ghost use Rattle.occurrences.specs.Index.{indexOf};
-ghost use Rattle.occurrences.specs.RowWords.{wordsOf, gathered, literalsOf};
+ghost use Rattle.occurrences.specs.RowWords.{wordsOf, gathered, literalsOf, turned, replacedSets};
 
 // ---- the words of all rows
 
@@ -62,7 +63,21 @@ fn literals(row: Row) -> u64
     row.positive as u64 | (row.negative as u64) << 32
 }
 
-// Takes a row into the set of each of its literals.
+// Turns a row over in the set of each of these literals: in where it was not, out where it was.
+fn turn_row(index: &mut [u64; 384], row: usize, literals: u64)
+    requires { ⌜ row < 384 ⌝ }
+    ensures { λ _. ⌜ now (index .exit) ≡ turned (Sets.bit literals) row (now (index .entry)) ⌝ }
+{
+    let mut left = literals;
+    while left != 0 {
+        let l = u64::trailing_zeros(left) as usize;
+        left = left & (left - 1);
+        let at = 6 * l + row / 64;
+        index[at] = index[at] ^ 1 << (row % 64);
+    }
+}
+
+// Takes the next row into the set of each of its literals.
 fn add_row(words: &[u32; 768], r: usize, index: &mut [u64; 384])
     requires { ⌜ r < 384 ⌝ }
     requires { ⌜ now index ≡ indexOf (rowsFrom (now words) 0 r) ⌝ }
@@ -72,12 +87,15 @@ fn add_row(words: &[u32; 768], r: usize, index: &mut [u64; 384])
         positive: words[2 * r],
         negative: words[2 * r + 1],
     };
-    let mut left = literals(row);
-    while left != 0 {
-        let l = u64::trailing_zeros(left) as usize;
-        left = left & (left - 1);
-        let at = 6 * l + r / 64;
-        index[at] = index[at] | 1 << (r % 64);
+    turn_row(index, r, literals(row));
+}
+
+// Takes the row of a number, from 0, out of the old one's sets and into the new one's; no set has a row at or above 384.
+pub fn replace_row(index: &mut [u64; 384], row: usize, old: Row, new: Row)
+    ensures { λ _. ⌜ now (index .exit) ≡ replacedSets (now (index .entry)) row old new ⌝ }
+{
+    if row < 384 {
+        turn_row(index, row, literals(old) ^ literals(new));
     }
 }
 

@@ -10,7 +10,7 @@ use borrow.Author.Tests.{lt-ltb, le-ltb, ltb-true, ltb-false}
 use Rattle.words.proofs.Truth.{on}
 use Rattle.tables.specs.Rows.{rowsFrom}
 use Rattle.occurrences.specs.Index.{indexOf}
-use Rattle.occurrences.proofs.LastRow.{index-none}
+use Rattle.occurrences.proofs.ByNumber.{index-none}
 use Rattle.occurrences.proofs.fill.Statement.{statement}
 use Rattle.occurrences.proofs.fill.Tie as tie
 

@@ -1,0 +1,55 @@
+-- `check_indexed` meets its contract: the tables' checks come first.
+use mathlib.Core.Path.{sym, _∙_}
+use mathlib.Core.List.{List}
+use Rattle.refusals.specs.Checks.{Check}
+use Rattle.refusals.proofs.Outcomes.{outcome-taken, outcome-refused}
+use Rattle.tables.specs.Tables.{Tables, allTables}
+use Rattle.tables.specs.Rows.{rowsOf}
+use Rattle.tables.specs.Acceptance.{tableChecks}
+use Rattle.indexed.specs.Entries.{indexedChecks}
+use borrow.Author.Needs.{needs}
+use Rattle.indexed.proofs.check_indexed.Statement.{statement}
+use Rattle.indexed.proofs.check_indexed.Tie as tie
+
+-- where the code starts, from the first call
+abbrev start : tie.After-accept → tie.Start
+start c = c .before .before .before .before
+
+-- the checks of the tables at the start, and those that follow
+abbrev tables : tie.Start → Tables
+tables s = allTables (s .args .left .now) (s .args .right .now) (s .args .public .now)
+
+abbrev firstly : tie.Start → List Check
+firstly s = tableChecks (s .args .d) (tables s)
+
+abbrev then : tie.Start → List Check
+then s = indexedChecks (s .args .d .n) (rowsOf (s .args .d) (tables s)) (s .args .index .now) (s .args .run) (s .args .number)
+
+accept-requires : tie.Need-accept-requires
+accept-requires c κs = search needs
+
+enum-known-checked : tie.Need-enum-known-checked
+enum-known-checked c = search needs
+
+enum-told : tie.Need-enum-told
+enum-told c = search needs
+
+check-accepted-requires : tie.Need-check-accepted-requires
+check-accepted-requires c κs = sym (c .before .before .accept .ensures) ∙ c .enum-told .given .1
+
+returns : tie.Need-returns
+returns c =
+    let at-accept = c .before .before .before in
+    let s = start at-accept in
+    sym (outcome-refused (firstly s) (then s) (c .before .checked .given .0 .0) (sym (at-accept .accept .ensures) ∙ c .before .checked .given .1))
+
+returns-2 : tie.Need-returns-2
+returns-2 c =
+    let at-accept = c .before .before .before in
+    let s = start at-accept in
+    c .check-accepted .ensures ∙ sym (outcome-taken (firstly s) (then s) (sym (at-accept .accept .ensures) ∙ c .before .enum-told .given .1))
+
+pub check-indexed-spec : {M : Type 1} → statement M
+check-indexed-spec =
+    tie.close
+    (tie.spec accept-requires enum-known-checked enum-told check-accepted-requires returns returns-2)
