@@ -1,0 +1,91 @@
+-- `old_row` meets its contract: each test leads to its case, and the row lies within its table's words.
+use mathlib.Core.Path.{_∙_}
+use native.Mathlib.Omega.{arith}
+use lib.Dec.{ltb, leb}
+use borrow.Author.Tests.{ltb-true, leb-true}
+use Rattle.words.proofs.Truth.{and-l, and-r}
+use Prim.Native.Nat.{_+_, _≤_, _<_}
+use Rattle.late_indexed.proofs.Replacing.{old-left, old-right, old-none}
+use borrow.Author.Needs.{needs}
+use Rattle.late_indexed.proofs.old_row.Statement.{statement}
+use Rattle.late_indexed.proofs.old_row.Tie as tie
+
+-- ---- places
+
+abbrev at-left : tie.Then1 → tie.Start
+at-left c = c .before .before .before .before .before
+
+abbrev at-right : tie.Then2 → tie.Start
+at-right c = c .before .before .before .before .before .before
+
+-- a left row's number, and a right row's
+left-number : (c : tie.Then1) → let s = at-left c .args in (0 < s .number) × (s .number ≤ s .d .left)
+left-number c =
+    let s = at-left c .args in
+    let e = c .if1 .taken in
+    (ltb-true 0 (s .number) (and-l (ltb 0 (s .number)) (leb (s .number) (s .d .left)) e), leb-true (s .number) (s .d .left) (and-r (ltb 0 (s .number)) (leb (s .number) (s .d .left)) e))
+
+right-number : (c : tie.Then2) → let s = at-right c .args in (s .d .left < s .number) × (s .number ≤ s .d .left + s .d .right)
+right-number c =
+    let s = at-right c .args in
+    let e = c .if2 .taken in
+    let past = ltb (s .d .left) (s .number) in
+    let within = leb (s .number) (s .d .left + s .d .right) in
+    (ltb-true (s .d .left) (s .number) (and-l past within e), leb-true (s .number) (s .d .left + s .d .right) (and-r past within e))
+
+-- ---- needs
+
+cast-left-rows : tie.Need-cast-left-rows
+cast-left-rows c = search needs
+
+cast-right-rows : tie.Need-cast-right-rows
+cast-right-rows c = search needs
+
+sub-row-at : tie.Need-sub-row-at
+sub-row-at c = omega (arith, left-number c .0)
+
+row-at-requires : tie.Need-row-at-requires
+row-at-requires c κs = omega (arith, left-number c .0, left-number c .1)
+
+returns : tie.Need-returns
+returns c =
+    let s = at-left (c .before) .args in
+    c .row-at .ensures ∙ old-left (s .d) (s .left .now) (s .right .now) (s .number) (c .before .if1 .taken)
+
+add-if2 : tie.Need-add-if2
+add-if2 c = search needs
+
+sub-row-at-2 : tie.Need-sub-row-at-2
+sub-row-at-2 c = omega (arith, right-number c .0)
+
+sub-row-at-3 : tie.Need-sub-row-at-3
+sub-row-at-3 c = omega (arith, right-number c .0)
+
+row-at-requires-2 : tie.Need-row-at-requires-2
+row-at-requires-2 c κs = omega (arith, right-number c .0, right-number c .1)
+
+returns-2 : tie.Need-returns-2
+returns-2 c =
+    let s = at-right (c .before) .args in
+    c .row-at2 .ensures ∙ old-right (s .d) (s .left .now) (s .right .now) (s .number) (c .before .before .if1 .left) (c .before .if2 .taken)
+
+returns-3 : tie.Need-returns-3
+returns-3 c =
+    let s = c .before .before .before .before .before .before .args in
+    old-none (s .d) (s .left .now) (s .right .now) (s .number) (c .before .if1 .left) (c .if2 .left)
+
+pub old-row-spec : {M : Type 1} → statement M
+old-row-spec =
+    tie.close
+    (tie.spec
+    cast-left-rows
+    cast-right-rows
+    sub-row-at
+    row-at-requires
+    returns
+    add-if2
+    sub-row-at-2
+    sub-row-at-3
+    row-at-requires-2
+    returns-2
+    returns-3)
