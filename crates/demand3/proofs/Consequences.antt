@@ -40,7 +40,7 @@ use Rattle.demand3.specs.Demand3.{rowsIn, historyOf, answerFor, answerIn
 -- ---- steps, runs and attempts
 
 -- a closed state stays
-closed-step : (n : ℕ) (rows : List Row) (s : State) → closed s ≡ true → step n rows s ≡ s
+pub closed-step : (n : ℕ) (rows : List Row) (s : State) → closed s ≡ true → step n rows s ≡ s
 unfolding step
 closed-step n rows s e = go _ (s .standing) e
   where

@@ -43,11 +43,11 @@ module _ (n : ℕ) (rows : ℕ → List Row) where
     | Refuted ↦ record { steps = 0; final = s }
   ]
 
-  steps-open : (budget : ℕ) (s : State) → s .standing ≡ Open → runFrom n rows (suc budget) s .steps ≡ suc (runFrom n (later rows) budget (step n (rows 0) s) .steps)
+  pub steps-open : (budget : ℕ) (s : State) → s .standing ≡ Open → runFrom n rows (suc budget) s .steps ≡ suc (runFrom n (later rows) budget (step n (rows 0) s) .steps)
   unfolding runFrom
   steps-open budget s e = ap (λ (st : Standing). ranBy budget s st .steps) e
 
-  steps-closed : (budget : ℕ) (s : State) → closed s ≡ true → runFrom n rows budget s .steps ≡ 0
+  pub steps-closed : (budget : ℕ) (s : State) → closed s ≡ true → runFrom n rows budget s .steps ≡ 0
   unfolding runFrom
   steps-closed zero s e = refl
   steps-closed (suc budget) s e = go (s .standing) e

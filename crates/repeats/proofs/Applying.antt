@@ -2,7 +2,7 @@
 -- The packed bytes are evaluated, the last wires are the outputs, and what is handed of these is read back.
 -- Assumes nothing.
 use mathlib.Core.Path.{_≡_, refl, sym, ap, ap₂, _∙_}
-use mathlib.Core.Bool.{Bool, true, cond}
+use mathlib.Core.Bool.{Bool, true, false, _&&_, cond}
 use mathlib.Core.List.{List, [], _∷_, _++_, map-append}
 use Prim.Native.Nat.{ℕ, _+_, _/_, _≤_, _<_}
 use native.Mathlib.Omega.{arith}
@@ -15,7 +15,7 @@ use Rattle.refusals.specs.declared.Outcome.{Outcome}
 use Rattle.refusals.specs.declared.Outcome.the-variants.{Taken, Refused}
 use Rattle.refusals.specs.declared.Refusal.the-variants.{Wires}
 use Rattle.words.specs.Booleans.{digit}
-use Rattle.words.proofs.Truth.{on, digit-bit}
+use Rattle.words.proofs.Truth.{on, and-l, and-r, digit-bit}
 use Rattle.dimensions.specs.declared.Dimensions.{Dimensions}
 use Rattle.dimensions.specs.Sizes.{sizeChecks, stateWires, inputWires}
 use Rattle.tables.specs.Tables.{Tables}
@@ -167,6 +167,39 @@ module _ (d : Dimensions) (tables : Tables) (acc : Accepts d tables) (s : State)
   unfolding runOf
   fine = let k = accepted d tables acc in sym (take-state d run (run-of-formed (d .n) s (k .size .n-least) (k .size .n-most) formed) refl)
 
+  module _ (bytes wires : List ℕ) (handed : ℕ) where
+    abbrev enoughBytes : Bool
+    enoughBytes = leb (inputWires d) (length bytes)
+
+    abbrev enoughWires : Bool
+    enoughWires = leb (inputWires d + length (gatesOn d)) (length wires)
+
+    judged-back : judged d tables (circuitWords d) run bytes wires ≡ Refused Wires → applied d tables (circuitWords d) run bytes wires handed ≡ turnedBack run Wires
+    judged-back e = refused d tables (circuitWords d) run bytes wires handed Wires e
+
+    -- not long enough: 10, whatever the tables are
+    pub short-turned : longEnough d (Lent bytes wires handed) ≡ false → applied d tables (circuitWords d) run bytes wires handed ≡ turnedBack run Wires
+    short-turned e =
+        on enoughBytes
+        (λ p.
+        let room = leb-true (inputWires d) (length bytes) p in
+        on enoughWires
+        (λ q. few-handed d tables acc run fine bytes wires room (leb-true _ _ q) handed (leb-false _ _ (rw (p, q) at e)))
+        (λ q. judged-back (few-wires d tables acc run fine bytes wires room (leb-false _ _ q))))
+        (λ p. judged-back (few-bytes d tables acc run fine bytes wires (leb-false _ _ p)))
+
+    -- long enough: the giant step and its mark
+    long-steps : longEnough d (Lent bytes wires handed) ≡ true
+        → applied d tables (circuitWords d) run bytes wires handed ≡ record { outcome = Taken; run = runOf (d .n) stepped; mark = closed stepped }
+    long-steps e =
+        let both = and-l (enoughBytes && enoughWires) _ e in
+        next-is d tables acc run fine bytes wires (leb-true _ _ (and-l enoughBytes _ both)) (leb-true _ _ (and-r enoughBytes _ both)) handed
+        (leb-true _ _ (and-r (enoughBytes && enoughWires) _ e))
+        ∙ ap taken (state-back (d .n) s)
+      where
+        taken : State → Applied
+        taken x = let y = step (d .n) (rowsOf d tables) x in record { outcome = Taken; run = runOf (d .n) y; mark = closed y }
+
   module _ (again further : Run → List Repeat) where
     -- what comes of it, by whether the attempt is long enough
     abbrev pub comes : Bool → List Repeat
@@ -174,27 +207,13 @@ module _ (d : Dimensions) (tables : Tables) (acc : Accepts d tables) (s : State)
 
     lent-is : (bytes wires : List ℕ) (handed : ℕ) → comesOf (attempted d tables run (Lent bytes wires handed)) again further ≡ comes (longEnough d (Lent bytes wires handed))
     lent-is bytes wires handed =
-        on (leb (inputWires d) (length bytes))
-        (λ p.
-        let room = leb-true (inputWires d) (length bytes) p in
-        on (leb (inputWires d + length (gatesOn d)) (length wires))
-        (λ q.
-        let space = leb-true (inputWires d + length (gatesOn d)) (length wires) q in
-        on (leb (stateWires (d .n)) handed)
-        (λ r. to (next-is d tables acc run fine bytes wires room space handed (leb-true _ _ r) ∙ ap taken (state-back (d .n) s)) ∙ rw (p, q, r))
-        (λ r. to (few-handed d tables acc run fine bytes wires room space handed (leb-false _ _ r)) ∙ rw (p, q, r)))
-        (λ q. to (back (few-wires d tables acc run fine bytes wires room (leb-false _ _ q))) ∙ rw (p, q)))
-        (λ p. to (back (few-bytes d tables acc run fine bytes wires (leb-false _ _ p))) ∙ rw p)
+        on (longEnough d (Lent bytes wires handed))
+        (λ e. to (long-steps bytes wires handed e) ∙ ap comes (sym e))
+        (λ e. to (short-turned bytes wires handed e) ∙ ap comes (sym e))
       where
         to : {x : Applied} → applied d tables (circuitWords d) run bytes wires handed ≡ x
             → comesOf (applied d tables (circuitWords d) run bytes wires handed) again further ≡ comesOf x again further
         to e = ap (λ (x : Applied). comesOf x again further) e
-
-        taken : State → Applied
-        taken x = let y = step (d .n) (rowsOf d tables) x in record { outcome = Taken; run = runOf (d .n) y; mark = closed y }
-
-        back : judged d tables (circuitWords d) run bytes wires ≡ Refused Wires → applied d tables (circuitWords d) run bytes wires handed ≡ turnedBack run Wires
-        back e = refused d tables (circuitWords d) run bytes wires handed Wires e
 
     pub attempt-is : (a : Attempt) → comesOf (attempted d tables run a) again further ≡ comes (longEnough d a)
     attempt-is (Lent bytes wires handed) = lent-is bytes wires handed

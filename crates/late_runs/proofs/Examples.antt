@@ -1,0 +1,113 @@
+-- One variable, the left row (1) and a padding row on the right: (−1) in its place after one step makes the run unsatisfiable, after the close it changes nothing, and rows that are
+-- no padding row of the station stay. Computed; then two pairs that are seen alike though only one of them was changed, from what secrecy says.
+use mathlib.Core.Path.{_≡_, refl, sym, ap, _∙_}
+use mathlib.Core.List.{List, [], _∷_}
+use Prim.Native.Nat.{ℕ, _≤_}
+use native.Mathlib.Omega.{arith}
+use Rattle.words.specs.Sets.{bit, put, any, all, count, lowest}
+use Rattle.dimensions.specs.declared.Dimensions.{Dimensions}
+use Rattle.dimensions.specs.Sizes.{dimensions}
+use Rattle.tables.specs.Tables.{Tables, allTables}
+use Rattle.tables.specs.Rows.{padding, satisfied, freeLiterals}
+use Rattle.tables.specs.Acceptance.{allBelow}
+use Rattle.state.specs.WellFormed.{wellFormed}
+use Rattle.verdicts.specs.declared.Verdict.{Verdict}
+use Rattle.verdicts.specs.declared.Verdict.the-variants.{Satisfiable, Unsatisfiable}
+use Rattle.solver.specs.declared.Answer.{Answer}
+use Rattle.solver.specs.Entries.{answerOf}
+use Rattle.late.specs.declared.Condition.{Condition}
+use Rattle.repeats.specs.Repeats.{Accepts, Attempt, longOnes}
+use Rattle.demand3.specs.Demand3.{answerFor, seen}
+use Rattle.late_runs.specs.Schedule.{tablesAt}
+use Rattle.late_runs.specs.Host.{dated, Step, Replace, play, started}
+use Rattle.late_runs.proofs.Demands.{end-late, secrecy-late}
+
+abbrev small : Dimensions
+small = dimensions 1 1 1 0
+
+-- (1) | padding
+abbrev tables : Tables
+tables = allTables (1 ∷ 0 ∷ []) (1 ∷ 1 ∷ []) []
+
+-- (1) | (−1)
+abbrev replaced : Tables
+replaced = allTables (1 ∷ 0 ∷ []) (0 ∷ 1 ∷ []) []
+
+-- (−1) in the place of a row
+abbrev ill : ℕ → ℕ → Condition
+ill station number = record { station = station; number = number; row = record { positive = 0; negative = 1 } }
+
+abbrev answer : ℕ → Verdict → Answer
+answer steps verdict = record { count = steps; verdict = verdict }
+
+-- ---- the run
+
+pub without : answerFor small (tablesAt small tables []) 9 ≡ answer 2 (Satisfiable 1)
+unfolding answerOf tablesAt freeLiterals padding satisfied bit put any count lowest
+without = refl
+
+-- the count goes on from the fresh state
+pub after-one : answerFor small (tablesAt small tables (dated 1 (ill 1 2) ∷ [])) 9 ≡ answer 2 Unsatisfiable
+unfolding answerOf tablesAt freeLiterals padding satisfied bit put any count lowest
+after-one = refl
+
+pub after-close : answerFor small (tablesAt small tables (dated 2 (ill 1 2) ∷ [])) 9 ≡ answer 2 (Satisfiable 1)
+unfolding answerOf tablesAt freeLiterals padding satisfied bit put any count lowest
+after-close = refl
+
+-- ---- the tables
+
+pub before-its-step : tablesAt small tables (dated 1 (ill 1 2) ∷ []) 0 ≡ tables
+unfolding tablesAt
+before-its-step = refl
+
+pub from-its-step : tablesAt small tables (dated 1 (ill 1 2) ∷ []) 1 ≡ replaced
+unfolding tablesAt padding bit any
+from-its-step = refl
+
+-- (1) is no padding row; row 2 is the right station's; (−1) is none once it is there
+pub own-row-stays : tablesAt small tables (dated 1 (ill 0 1) ∷ []) 1 ≡ tables
+unfolding tablesAt padding bit any
+own-row-stays = refl
+
+pub other-row-stays : tablesAt small tables (dated 1 (ill 0 2) ∷ []) 1 ≡ tables
+unfolding tablesAt padding bit any
+other-row-stays = refl
+
+pub once-there-stays : tablesAt small tables (dated 1 (ill 1 2) ∷ dated 1 (record { station = 1; number = 2; row = record { positive = 1; negative = 0 } }) ∷ []) 1 ≡ replaced
+unfolding tablesAt padding bit any
+once-there-stays = refl
+
+-- ---- the host
+
+pub host-before : play small (started small tables) (Step ∷ Replace (ill 1 2) ∷ []) .tables ≡ replaced
+unfolding play allBelow wellFormed freeLiterals padding satisfied bit put any all count lowest
+host-before = refl
+
+-- 16
+pub host-after : play small (started small tables) (Step ∷ Step ∷ Replace (ill 1 2) ∷ Step ∷ []) .tables ≡ tables
+unfolding play allBelow wellFormed freeLiterals padding satisfied bit put any all count lowest
+host-after = refl
+
+-- ---- the circuit
+
+accepted : Accepts small tables
+unfolding allBelow
+accepted = refl
+
+accepted′ : Accepts small replaced
+unfolding allBelow
+accepted′ = refl
+
+-- (1) | (−1) from the first step on has the same answer
+pub from-the-first : answerFor small (tablesAt small replaced []) 9 ≡ answer 2 Unsatisfiable
+unfolding answerOf tablesAt freeLiterals padding satisfied bit put any count lowest
+from-the-first = refl
+
+-- so it is not seen whether the row was there or came late
+pub late-unseen : (attempts attempts′ : List Attempt) → 2 ≤ longOnes small attempts → 2 ≤ longOnes small attempts′
+    → seen small (tablesAt small tables (dated 1 (ill 1 2) ∷ [])) 9 attempts ≡ seen small (tablesAt small replaced []) 9 attempts′
+late-unseen attempts attempts′ long long′ =
+    secrecy-late small tables replaced accepted accepted′ (dated 1 (ill 1 2) ∷ []) [] refl 9 attempts attempts′ (after-one ∙ sym from-the-first)
+    (end-late small tables accepted (dated 1 (ill 1 2) ∷ []) 9 attempts .1 (omega (arith, ap (λ (a : Answer). a .count) after-one)))
+    (end-late small replaced accepted′ [] 9 attempts′ .1 (omega (arith, ap (λ (a : Answer). a .count) from-the-first)))

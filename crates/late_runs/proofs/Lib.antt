@@ -1,0 +1,5 @@
+pub mod Schedule
+pub mod Demands
+pub mod Host
+pub mod CircuitHost
+pub mod Examples
