@@ -1,8 +1,9 @@
 /*
  * Forkhemit for hosts in C and C++: two stations' clause tables and the public one, the giant step, its circuit and the texts.
- * Every function is proved to meet its contract, which stands in crates/host_runs, host_indexed, host_circuits, host_repeats, host_texts and host_lines.
+ * Every function is proved to meet its contract, which stands in crates/host_runs, host_indexed, host_late, host_circuits, host_repeats, host_texts and
+ * host_lines.
  * `make lib` writes the archive to link, target/lib/libforkhemit.a, for x86-64 Linux; it needs C's memcpy and memset and nothing else. docs/GUIDE.md
- * has the calls in the order in which a host makes them, examples/host a host in C and one in Rust.
+ * has the calls in the order in which a host makes them, examples/host hosts in C and in Rust.
  *
  * Rules for every call
  * - An array, as `uint64_t sizes[4]`, is lent as a pointer: it has at least so many elements. Any other buffer is lent as a pointer and
@@ -30,7 +31,7 @@
 extern "C" {
 #endif
 
-/* Why a call was turned back. The lowest that applies is returned, except that 4 comes before 3; of three texts whatever refuses the left
+/* Why a call was turned back. The lowest that applies is returned, except that 4 comes before 3, and the 3 of a new row last; of three texts whatever refuses the left
  * one, then the right one, then the public one. In a text, a header's 1 or 2 comes before 5, and an overlong text is 5 before all else. */
 enum forkhemit_refusal_number {
     FORKHEMIT_TAKEN = 0,            /* not turned back */
@@ -47,7 +48,9 @@ enum forkhemit_refusal_number {
     FORKHEMIT_LINE_BUFFER = 11,     /* text line longer than the lent bytes */
     FORKHEMIT_STATE = 12,           /* state not well-formed, or an index or a number that is not the one of tables and state */
     FORKHEMIT_OTHER_VARIABLES = 13, /* state made for another n */
-    FORKHEMIT_NO_MODEL = 14         /* model wanted while open or refuted */
+    FORKHEMIT_NO_MODEL = 14,        /* model wanted while open or refuted */
+    FORKHEMIT_NOT_PADDING = 15,     /* the row to be replaced is no padding row of that station */
+    FORKHEMIT_CLOSED = 16           /* a row was to be replaced in a closed run */
 };
 
 /*
@@ -131,7 +134,7 @@ uint8_t forkhemit_count_free(uint64_t n, uint64_t left_rows, uint64_t right_rows
  * Rows count from 0: the left ones, then the right ones, then the public ones. Row r is bit r % 64 of word 6 * literal + r / 64. Bits of
  * variables above n and of rows past the last are zero.
  *
- * Keep one beside tables that do not change, while you ask which rows a variable touches or want a run's number of unsatisfied rows after
+ * Keep one beside tables while you ask which rows a variable touches or want a run's number of unsatisfied rows after
  * every step. A call that judges a lent index reads all rows for it and is slower than forkhemit_step; where only the answer counts, call
  * forkhemit_solve_indexed, which makes its own index once and keeps it to the end of the run.
  */
@@ -161,6 +164,32 @@ uint8_t forkhemit_step_indexed(uint64_t n, uint64_t left_rows, uint64_t right_ro
 uint8_t forkhemit_solve_indexed(uint64_t n, uint64_t left_rows, uint64_t right_rows, uint64_t public_rows,
                                 const uint32_t *left, size_t left_length, const uint32_t *right, size_t right_length,
                                 const uint32_t *public_table, size_t public_length, uint64_t budget, uint64_t answer[3]);
+
+/* ---- late conditions */
+
+/*
+ * While its run is open, a station may put another row in the place of one of its own padding rows: rows that hold a variable in both words.
+ * Steps and repeats read the tables as they stand when they begin, so call these between two of them, never during one. Satisfiable and
+ * unsatisfiable are then about the tables as they are when the run closes, and 2^(n+1) - 1 steps from the fresh run are still enough. Row
+ * counts do not change, so neither does the circuit: leave padding rows in the tables from the start.
+ *   station   0 the left one, 1 the right one
+ *   row       its number, from 1 over all tables: the left rows, then the right ones, then the public ones, which nobody replaces
+ */
+
+/* left, right: the two words of that row are positive and negative, all others as they were. The new row may be padding or empty.
+ * 1, 2, 4, 3, 12, 13, 15 (no padding row of that station), 16 (the run is closed), 3 (the new row has a bit at or above n). */
+uint8_t forkhemit_replace(uint64_t n, uint64_t left_rows, uint64_t right_rows, uint64_t public_rows,
+                          uint32_t *left, size_t left_length, uint32_t *right, size_t right_length,
+                          const uint32_t *public_table, size_t public_length, const uint32_t run[FORKHEMIT_RUN_WORDS],
+                          uint64_t station, uint64_t row, uint32_t positive, uint32_t negative);
+
+/* The same beside a lent index and number, which are judged as forkhemit_step_indexed judges them. index, number: those of the tables as
+ * they then are, brought up to date with the row. 1, 2, 4, 3, 12, 13, 15, 16, 3. */
+uint8_t forkhemit_replace_indexed(uint64_t n, uint64_t left_rows, uint64_t right_rows, uint64_t public_rows,
+                                  uint32_t *left, size_t left_length, uint32_t *right, size_t right_length,
+                                  const uint32_t *public_table, size_t public_length, const uint32_t run[FORKHEMIT_RUN_WORDS],
+                                  uint64_t station, uint64_t row, uint32_t positive, uint32_t negative,
+                                  uint64_t index[FORKHEMIT_INDEX_WORDS], uint64_t number[1]);
 
 /* ---- the circuit */
 
