@@ -31,6 +31,12 @@ mod library {
             run: *mut u32, number: *mut u64) -> u8;
         pub fn forkhemit_solve_indexed(n: u64, left_rows: u64, right_rows: u64, public_rows: u64, left: *const u32, left_length: usize,
             right: *const u32, right_length: usize, public_table: *const u32, public_length: usize, budget: u64, answer: *mut u64) -> u8;
+        pub fn forkhemit_replace(n: u64, left_rows: u64, right_rows: u64, public_rows: u64, left: *mut u32, left_length: usize,
+            right: *mut u32, right_length: usize, public_table: *const u32, public_length: usize, run: *const u32,
+            station: u64, row: u64, positive: u32, negative: u32) -> u8;
+        pub fn forkhemit_replace_indexed(n: u64, left_rows: u64, right_rows: u64, public_rows: u64, left: *mut u32, left_length: usize,
+            right: *mut u32, right_length: usize, public_table: *const u32, public_length: usize, run: *const u32,
+            station: u64, row: u64, positive: u32, negative: u32, index: *mut u64, number: *mut u64) -> u8;
         pub fn forkhemit_model(run: *const u32, model: *mut u64) -> u8;
         pub fn forkhemit_generate(n: u64, left_rows: u64, right_rows: u64, public_rows: u64, gates: *mut u32, gates_length: usize,
             count: *mut u64) -> u8;
@@ -75,6 +81,8 @@ pub enum Function {
     Unsatisfied,
     StepIndexed,
     SolveIndexed,
+    Replace,
+    ReplaceIndexed,
     Model,
     Generate,
     Pack,
@@ -87,7 +95,7 @@ pub enum Function {
     Answer,
 }
 
-pub const ALL: [Function; 22] = [
+pub const ALL: [Function; 24] = [
     Function::Sizes,
     Function::ReadTables,
     Function::Accept,
@@ -100,6 +108,8 @@ pub const ALL: [Function; 22] = [
     Function::Unsatisfied,
     Function::StepIndexed,
     Function::SolveIndexed,
+    Function::Replace,
+    Function::ReplaceIndexed,
     Function::Model,
     Function::Generate,
     Function::Pack,
@@ -297,6 +307,10 @@ impl Call {
                 Function::StepIndexed => forkhemit_step_indexed(x(0), x(1), x(2), x(3), w(0), l(0), w(1), l(1), w(2), l(2),
                     n(3), w(4), n(5)),
                 Function::SolveIndexed => forkhemit_solve_indexed(x(0), x(1), x(2), x(3), w(0), l(0), w(1), l(1), w(2), l(2), x(4), n(3)),
+                Function::Replace => forkhemit_replace(x(0), x(1), x(2), x(3), w(0), l(0), w(1), l(1), w(2), l(2), w(3),
+                    x(4), x(5), x(6) as u32, x(7) as u32),
+                Function::ReplaceIndexed => forkhemit_replace_indexed(x(0), x(1), x(2), x(3), w(0), l(0), w(1), l(1), w(2), l(2), w(3),
+                    x(4), x(5), x(6) as u32, x(7) as u32, n(4), n(5)),
                 Function::Model => forkhemit_model(w(0), n(1)),
                 Function::Generate => forkhemit_generate(x(0), x(1), x(2), x(3), w(0), l(0), n(1)),
                 Function::Pack => forkhemit_pack(x(0), x(1), x(2), x(3), w(0), l(0), w(1), l(1), w(2), l(2), w(3), b(4), l(4)),

@@ -311,6 +311,43 @@ pub fn indexed(size: Size, tables: &[Lent], run: Vec<u32>) -> [Lent; 3] {
     [Lent::Numbers(memory::index(&rows)), Lent::Run(run), Lent::Numbers(vec![number])]
 }
 
+/// A late condition, as numbers: mostly a station's own padding row, if there is one, and a new row of n variables.
+pub fn condition(size: Size, rows: &[Row], random: &mut Random) -> Vec<u64> {
+    let own = (1..=size.left + size.right).filter(|&number| model::padding(&rows[number - 1]));
+    let own: Vec<u64> = own.map(|number| number as u64).collect();
+    let any = random.below(size.rows() + 2) as u64;
+    let number = if own.is_empty() || random.once_in(10) { any } else { one(&own, random) };
+    let owner = size.station(number).unwrap_or(0);
+    let station = if random.once_in(12) { one(&[1 - owner, 2, one(&ODD, random)], random) } else { owner };
+    let beyond = if random.once_in(12) { 0 } else { 32 - size.n };
+    let [positive, negative] = [(); 2].map(|()| some_word(random) & u32::MAX >> beyond);
+    let apart = if random.once_in(4) { u32::MAX } else { !positive };
+    vec![station, number, u64::from(positive), u64::from(negative & apart)]
+}
+
+/// Tables with a run, and a late condition; most often the run is open, and a station has padding.
+fn late(size: Size, indexed_too: bool, random: &mut Random) -> (Vec<u64>, Vec<Lent>) {
+    let (mut tables, mut run) = tables_and_run(size, random);
+    if !random.once_in(4) {
+        run[1] = 0;
+    }
+    if !random.once_in(4) {
+        let k = random.below(2);
+        let (place, variable) = (random.below([size.left, size.right][k]), 1 << random.below(size.n));
+        if let Lent::Words(words) = &mut tables[k] {
+            words[2 * place..2 * place + 2].iter_mut().for_each(|word| *word |= variable);
+        }
+    }
+    let rows = memory::accepted(size, [0, 1, 2].map(|k| tables[k].words())).expect("the tables are accepted");
+    let numbers = [numbers(size), condition(size, &rows, random)].concat();
+    let [index, run, number] = indexed(size, &tables, run);
+    tables.push(run);
+    if indexed_too {
+        tables.extend([index, number]);
+    }
+    (numbers, tables)
+}
+
 /// Tables, and what a call over them lends besides.
 fn over_tables(function: Function, size: Size, random: &mut Random) -> Vec<Lent> {
     let (mut lent, run) = tables_and_run(size, random);
@@ -367,6 +404,10 @@ pub fn of_size(function: Function, size: Size, circuits: &Circuits, random: &mut
         Function::Solve | Function::SolveIndexed => {
             let (budget, lent) = solving(size, random);
             call([numbers(size), vec![budget]].concat(), lent)
+        }
+        Function::Replace | Function::ReplaceIndexed => {
+            let (numbers, lent) = late(size, function == Function::ReplaceIndexed, random);
+            call(numbers, lent)
         }
         Function::Model => {
             let run = memory::run_words(&states::random(size.n, random));

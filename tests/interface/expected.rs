@@ -4,7 +4,7 @@ use crate::calls::{Call, Function, Given, Lent};
 use crate::circuits::Circuits;
 use forkhemit_tests::bristol::Gate;
 use forkhemit_tests::memory;
-use forkhemit_tests::model::{self, Size};
+use forkhemit_tests::model::{self, Condition, Row, Run, Size};
 use forkhemit_tests::wires;
 
 /// What a call writes: into the front of which buffer.
@@ -24,6 +24,12 @@ fn write(front: Lent, buffer: &mut Lent) {
         (Lent::Numbers(numbers), Lent::Numbers(buffer)) => buffer.copy_from_slice(&numbers),
         _ => panic!("the model writes a kind into a buffer of another"),
     }
+}
+
+/// Both stations' rows as a call writes them.
+fn stations(size: Size, rows: &[Row]) -> Writes {
+    let (left, others) = rows.split_at(size.left);
+    vec![(0, Lent::Words(memory::row_words(left))), (1, Lent::Words(memory::row_words(&others[..size.right])))]
 }
 
 /// What the call gives.
@@ -80,6 +86,8 @@ impl Call {
             Function::Index => self.index(),
             Function::Unsatisfied => self.unsatisfied(),
             Function::StepIndexed => self.step_indexed(),
+            Function::Replace => self.replace(),
+            Function::ReplaceIndexed => self.replace_indexed(),
             Function::Model => self.model(),
             Function::Generate => match self.size().and_then(|size| self.room_for_gates(size, 0)) {
                 Ok(size) => {
@@ -140,7 +148,7 @@ impl Call {
     /// The fresh run.
     fn fresh(&self) -> Result<Writes, u8> {
         let n = memory::variables(self.numbers[0])?;
-        Ok(vec![(0, Lent::Run(memory::run_words(&model::Run::fresh(n))))])
+        Ok(vec![(0, Lent::Run(memory::run_words(&Run::fresh(n))))])
     }
 
     /// The run after one giant step.
@@ -192,20 +200,56 @@ impl Call {
         Ok(vec![(4, Lent::Numbers(vec![run.unsatisfied(&rows)]))])
     }
 
+    /// The run of some n beside which index and number stand, at these places: 12 where one of the three is not right.
+    fn indexed_run(&self, rows: &[Row], [run, index, number]: [usize; 3]) -> Result<Run, u8> {
+        let run = memory::run_of(self.words(run))?;
+        if self.lent_numbers(index) != memory::index(rows) || self.lent_numbers(number) != [run.unsatisfied(rows)] {
+            return Err(12);
+        }
+        Ok(run)
+    }
+
     /// The run after one giant step, and its number: 12 where run, index or number is not right, then 13.
     fn step_indexed(&self) -> Result<Writes, u8> {
         let size = self.size()?;
         let rows = memory::accepted(size, self.tables())?;
-        let mut run = memory::run_of(self.words(4))?;
-        if self.lent_numbers(3) != memory::index(&rows) || self.lent_numbers(5) != [run.unsatisfied(&rows)] {
-            return Err(12);
-        }
+        let mut run = self.indexed_run(&rows, [4, 3, 5])?;
         if run.values.len() != size.n {
             return Err(13);
         }
         run.step(&rows);
         let number = run.unsatisfied(&rows);
         Ok(vec![(4, Lent::Run(memory::run_words(&run))), (5, Lent::Numbers(vec![number]))])
+    }
+
+    /// The late condition of a call: behind the size station, row, and the new row's words.
+    fn condition(&self) -> Condition {
+        let row = memory::row(self.numbers[6] as u32, self.numbers[7] as u32);
+        Condition { station: self.numbers[4], number: self.numbers[5], row }
+    }
+
+    /// Both stations' tables after a late condition: 12, 13, 15, 16, 3.
+    fn replace(&self) -> Result<Writes, u8> {
+        let size = self.size()?;
+        let rows = memory::accepted(size, self.tables())?;
+        let run = memory::run_for(size.n, self.words(3))?;
+        let rows = model::replaced(size, &rows, &run, &self.condition())?;
+        Ok(stations(size, &rows))
+    }
+
+    /// The same with index and number, which are made anew from all rows: 12 where run, index or number is not right.
+    fn replace_indexed(&self) -> Result<Writes, u8> {
+        let size = self.size()?;
+        let rows = memory::accepted(size, self.tables())?;
+        let run = self.indexed_run(&rows, [3, 4, 5])?;
+        if run.values.len() != size.n {
+            return Err(13);
+        }
+        let rows = model::replaced(size, &rows, &run, &self.condition())?;
+        let number = run.unsatisfied(&rows);
+        let mut writes = stations(size, &rows);
+        writes.extend([(4, Lent::Numbers(memory::index(&rows))), (5, Lent::Numbers(vec![number]))]);
+        Ok(writes)
     }
 
     /// The model as a word; 12, 14.
@@ -240,14 +284,14 @@ impl Call {
     }
 
     /// The rows on which a circuit is repeated: 4, 3, 7.
-    fn rows_to_repeat(&self, size: Size) -> Result<(Size, Vec<model::Row>), u8> {
+    fn rows_to_repeat(&self, size: Size) -> Result<(Size, Vec<Row>), u8> {
         let rows = memory::accepted(size, self.tables())?;
         Ok((self.room_for_gates(size, 3)?, rows))
     }
 
     /// The circuit, inputs and wires of the last repeat, the run after it by giant steps, how many repeats there were, and whether
     /// the run is closed: 10, 12, 13.
-    fn repeat(&self, size: Size, rows: &[model::Row], gates: Vec<u32>) -> Result<Writes, u8> {
+    fn repeat(&self, size: Size, rows: &[Row], gates: Vec<u32>) -> Result<Writes, u8> {
         let (inputs, room) = (memory::input_wires(size), self.bytes(5).len());
         if self.bytes(4).len() < inputs || room < inputs + gates.len() / 3 {
             return Err(10);

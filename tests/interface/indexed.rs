@@ -49,9 +49,9 @@ fn rows(size: Size, random: &mut Random) -> Vec<Row> {
     (0..size.rows()).map(row).collect()
 }
 
-/// What a call gives, where it is taken.
-fn taken(function: Function, size: Size, budget: &[u64], lent: Vec<Lent>, guard: usize) -> Result<Vec<Lent>, String> {
-    let call = Call { function, numbers: [numbers(size), budget.to_vec()].concat(), lent };
+/// What a call gives, where it is taken; `more` are its numbers behind the size.
+pub fn taken(function: Function, size: Size, more: &[u64], lent: Vec<Lent>, guard: usize) -> Result<Vec<Lent>, String> {
+    let call = Call { function, numbers: [&numbers(size), more].concat(), lent };
     let given = call.make(guard)?;
     match given.number {
         0 => Ok(given.lent),
@@ -60,7 +60,7 @@ fn taken(function: Function, size: Size, budget: &[u64], lent: Vec<Lent>, guard:
 }
 
 /// The tables' index, where it is the model's.
-fn index(size: Size, tables: &[Lent], rows: &[Row], guard: usize) -> Result<Lent, String> {
+pub fn index(size: Size, tables: &[Lent], rows: &[Row], guard: usize) -> Result<Lent, String> {
     let lent = [tables, &[Lent::Numbers(vec![7; INDEX_WORDS])]].concat();
     let mut given = taken(Function::Index, size, &[], lent, guard)?;
     let index = given.pop().expect("an index is lent");
@@ -71,7 +71,7 @@ fn index(size: Size, tables: &[Lent], rows: &[Row], guard: usize) -> Result<Lent
 }
 
 /// The number of a run, which is left as it is.
-fn number(size: Size, tables: &[Lent], run: &[u32], guard: usize) -> Result<u64, String> {
+pub fn number(size: Size, tables: &[Lent], run: &[u32], guard: usize) -> Result<u64, String> {
     let lent = [tables, &[Lent::Run(run.to_vec()), Lent::Numbers(vec![7])]].concat();
     let given = taken(Function::Unsatisfied, size, &[], lent.clone(), guard)?;
     match given[..4] == lent[..4] {

@@ -52,12 +52,28 @@ fn index() -> Vec<u64> {
     words
 }
 
+/// The same tables with a padding row more each, for late conditions: rows 2, 4 and 6.
+const LATE_SIZE: Size = Size { n: 2, left: 2, right: 2, public: 2 };
+const LATE_TABLES: [[u32; 4]; 3] = [[0b11, 0, 0b01, 0b01], [0, 0b01, 0b10, 0b10], [0b10, 0b01, 0b11, 0b01]];
+
+/// The index of those tables.
+fn late_index() -> Vec<u64> {
+    let mut words = vec![0; INDEX_WORDS];
+    words[0] = 0b100011;
+    words[6] = 0b111001;
+    words[192] = 0b110110;
+    words[198] = 0b001000;
+    words
+}
+
 /// A call of the function that is taken.
 fn base(function: Function, circuits: &Circuits) -> Result<Call, String> {
     let d = numbers(SIZE);
     let and = |last: u64| [numbers(SIZE), vec![last]].concat();
     let inputs = memory::input_wires(SIZE);
     let tables = || TABLES.map(|table| Lent::Words(table.to_vec())).to_vec();
+    let late_tables = || LATE_TABLES.map(|table| Lent::Words(table.to_vec())).to_vec();
+    let late = || [numbers(LATE_SIZE), vec![1, 4, 0, 0b10]].concat();
     let bytes = |count: usize| Lent::Bytes(vec![7; count]);
     let words = |count: usize| Lent::Words(vec![7; count]);
     let numbers = |count: usize| Lent::Numbers(vec![7; count]);
@@ -85,6 +101,12 @@ fn base(function: Function, circuits: &Circuits) -> Result<Call, String> {
         // rows 1 and 2 are not satisfied
         Function::StepIndexed => {
             (d, [tables(), vec![Lent::Numbers(index()), Lent::Run(run()), Lent::Numbers(vec![2])]].concat())
+        }
+        // the right station puts (−2) in the place of row 4; rows 3 and 5 are not satisfied
+        Function::Replace => (late(), [late_tables(), vec![Lent::Run(run())]].concat()),
+        Function::ReplaceIndexed => {
+            let besides = vec![Lent::Run(run()), Lent::Numbers(late_index()), Lent::Numbers(vec![2])];
+            (late(), [late_tables(), besides].concat())
         }
         Function::Model => (vec![], vec![Lent::Run(satisfied), numbers(1)]),
         Function::Generate => (d, vec![words(3 * SIZE.ceiling()), numbers(1)]),
@@ -131,6 +153,14 @@ fn shorter(k: usize) -> Change {
     Change::new(Place::Lent(k), move |call| match &mut call.lent[k] {
         Lent::Bytes(bytes) => drop(bytes.pop()),
         Lent::Words(words) => drop(words.pop()),
+        _ => panic!("an array has its length"),
+    })
+}
+
+/// A buffer of words with more behind them.
+fn longer(k: usize, more: &'static [u32]) -> Change {
+    Change::new(Place::Lent(k), move |call| match &mut call.lent[k] {
+        Lent::Words(words) => words.extend(more),
         _ => panic!("an array has its length"),
     })
 }
@@ -348,6 +378,84 @@ fn step_indexed(list: &mut Changes) {
     run_at(4, list);
 }
 
+/// 15, 16 and the new row's 3, behind a run's 12 and 13; the run is at place 3 and stays as it is in T and F.
+fn condition(list: &mut Changes) {
+    for station in [0, 2, 3, 255, 256, 257, 65_537, 1 << 32, (1 << 32) + 1, u64::MAX] {
+        add(list, &format!("station {station} and a row of the right one"), 15, number(4, station));
+    }
+    for (row, whose) in [
+        (0, "none"),
+        (1, "the left one's"),
+        (2, "the left one's padding"),
+        (3, "its own, no padding"),
+        (5, "public"),
+        (6, "public padding"),
+        (7, "past the last"),
+        (260, "4 in a byte"),
+        ((1 << 32) + 4, "4 in a word"),
+        (u64::MAX, "past all"),
+    ] {
+        add(list, &format!("row {row} ({whose})"), 15, number(5, row));
+    }
+    for (row, whose) in [(0, "none"), (1, "its own, no padding"), (3, "the other one's"), (6, "public padding")] {
+        add(list, &format!("the left station, row {row} ({whose})"), 15, both(number(4, 0), number(5, row)));
+    }
+    for station in [2, u64::MAX] {
+        let public = both(number(4, station), number(5, 6));
+        add(list, &format!("station {station} and public padding"), 15, public);
+    }
+    for (standing, what) in [(1, "satisfied"), (2, "refuted")] {
+        add(list, &format!("a {what} run"), 16, word(3, 1, standing));
+        add(list, &format!("a {what} run of n 3"), 13, both(word(3, 0, 3), word(3, 1, standing)));
+        add(list, &format!("a {what} run with a last word"), 12, both(word(3, 100, 1), word(3, 1, standing)));
+    }
+    for (k, sign) in [(6, "positive"), (7, "negative")] {
+        for bits in [0b100, 0b111, 1 << 31, u64::from(u32::MAX)] {
+            add(list, &format!("a new row with {sign} bits {bits:#b}"), 3, number(k, bits));
+        }
+    }
+    run_at(3, list);
+}
+
+/// Rows that are no padding now, or not the row that was meant.
+fn replace(list: &mut Changes) {
+    add(list, "row 4 without its negative literal", 15, word(1, 3, 0));
+    add(list, "row 4 with another variable's", 15, word(1, 3, 0b01));
+    add(list, "row 4 empty", 15, both(word(1, 2, 0), word(1, 3, 0)));
+    add(list, "a left row more, so that row 4 is no padding", 15, both(number(1, 3), longer(0, &[0b01, 0b01])));
+    condition(list);
+}
+
+/// 12 by the index and by the number; a run's 12 and 13, 15, 16 and the new row's 3.
+fn replace_indexed(list: &mut Changes) {
+    for (what, at, to) in [
+        ("without a row of variable 1", 0, 0b100010),
+        ("without the row that is replaced", 198, 0),
+        ("as it is afterwards", 6, 0b110001),
+        ("without a public row", 192, 0b010110),
+        ("with a row past the last", 6, 0b1111001),
+        ("with a row in a sixth word", 203, 1 << 63),
+        ("with a row of variable 3", 12, 1),
+        ("with a last word", 383, 1 << 63),
+    ] {
+        add(list, &format!("an index {what}"), 12, entry(4, at, to));
+    }
+    for number in [0, 1, 3, 258, (1 << 32) + 2, u64::MAX] {
+        add(list, &format!("the number {number}"), 12, entry(5, 0, number));
+    }
+    add(list, "another right row", 12, word(1, 3, 0));
+    add(list, "no public rows, and index and number with some", 12, no_public_rows());
+    add(list, "a closed run and another number", 12, both(word(3, 1, 2), entry(5, 0, 1)));
+    add(list, "a run of n 3 and another number", 12, both(word(3, 0, 3), entry(5, 0, 1)));
+    condition(list);
+}
+
+/// Index and number of those tables without public rows.
+fn late_without_public_rows() -> Change {
+    let index = both(entry(4, 0, 0b000011), both(entry(4, 6, 0b001001), entry(4, 192, 0b000110)));
+    both(no_public_rows(), both(index, entry(5, 0, 1)))
+}
+
 /// A public row count of 0, after which the public words are not looked at.
 fn no_public_rows() -> Change {
     Change { places: vec![Place::Number(3), Place::Lent(2)], ..number(3, 0) }
@@ -441,6 +549,8 @@ fn changes(function: Function) -> Changes {
         Function::Step | Function::Unsatisfied => &[sizes, tables, step],
         Function::CountFree => &[sizes, tables, count_free],
         Function::StepIndexed => &[sizes, tables, step_indexed],
+        Function::Replace => &[sizes, tables, replace],
+        Function::ReplaceIndexed => &[sizes, tables, replace_indexed],
         Function::Model => &[model_wanted],
         Function::Generate => &[sizes, generate],
         Function::Pack => &[sizes, tables, pack],
@@ -490,6 +600,22 @@ fn harmless(function: Function) -> Vec<(String, Change)> {
                 ("a refuted run", word(4, 1, 2)),
             ]
         }
+        Function::Replace | Function::ReplaceIndexed => {
+            let none = || match function {
+                Function::Replace => number(3, 0),
+                _ => late_without_public_rows(),
+            };
+            vec![
+                ("no public rows, and words of some", none()),
+                ("no public rows, and words that would be refused", both(none(), word(2, 1, u32::MAX))),
+                ("no public rows and no words", both(none(), cut(2, 0))),
+                ("the left station's padding", both(number(4, 0), number(5, 2))),
+                ("an empty new row", number(7, 0)),
+                ("padding as the new row", both(number(6, 0b11), number(7, 0b11))),
+                ("the row as it is", number(6, 0b10)),
+                ("words behind the tables", both(longer(0, &[7, u32::MAX]), longer(1, &[7, u32::MAX]))),
+            ]
+        }
         Function::ReadTables => vec![
             ("no public rows", none()),
             ("no public rows and no words", both(none(), cut(5, 0))),
@@ -502,13 +628,18 @@ fn harmless(function: Function) -> Vec<(String, Change)> {
 
 // ---- Two changes at once
 
-/// Which of two refusals comes first: the lower number, but 4 before 3; of texts whatever refuses the left one, then
+/// Which of two refusals comes first: the lower number, but 4 before 3, and a new row's 3 last; of texts whatever refuses the left one, then
 /// whatever refuses the right one, then the public one, then 4 and 6.
 fn order(function: Function, number: u8, change: &Change) -> u8 {
     match (function, number) {
         (Function::ReadTables, 1 | 2 | 5) => {
             let text = (0..3).find(|&k| change.places == [Place::Lent(usize::from(k))]);
             text.expect("one of three texts is refused")
+        }
+        (Function::Replace | Function::ReplaceIndexed, 3)
+            if change.places.iter().any(|place| matches!(place, Place::Number(_))) =>
+        {
+            u8::MAX
         }
         (_, 4) => 3,
         (_, 3) => 4,

@@ -5,26 +5,17 @@
 //! `static` is linked statically: nothing can be loaded before it that cuts what it reads into parts, and those tests are left out.
 //! The last line is `N passed, M failed`, and the status 0 where M is 0.
 
-use forkhemit_tests::process::Source;
+use forkhemit_tests::process::{self, Source};
 use forkhemit_tests::report::{self, Tally};
 use forkhemit_tests::{
     assumed, cases, circuits, claims, contracts, damage, hosts, pictures, published, symbols, tables, ties,
 };
 use std::path::Path;
-use std::process::{Command, ExitCode, Stdio};
-
-/// Solvers of Debian's packages whose verdicts are asked for: the first that is there.
-const SOLVERS: [&str; 2] = ["cadical", "picosat"];
-
-/// Whether a solver is installed.
-fn present(solver: &str) -> bool {
-    Command::new(solver).arg("--version").stdout(Stdio::null()).stderr(Stdio::null()).status().is_ok()
-}
+use std::process::ExitCode;
 
 /// The tests of the pair program; of the one that is linked statically, those that were written by hand and the public files.
 fn pair_tests(program: &Path, own: &Path) -> std::io::Result<Tally> {
-    let missing = || std::io::Error::new(std::io::ErrorKind::NotFound, format!("none of {SOLVERS:?} is installed"));
-    let solver = SOLVERS.into_iter().find(|solver| present(solver)).ok_or_else(missing)?;
+    let solver = process::solver()?;
     println!("verdicts are compared with {solver}");
     let files = published::files(&own.join("dimacs"))?;
     let [listed, damaged] = damage::groups();

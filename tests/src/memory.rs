@@ -28,7 +28,7 @@ fn holds(word: u32, variable: usize) -> bool {
 }
 
 /// A row of two words: its positive literals, then its negative ones.
-fn row(positive: u32, negative: u32) -> Row {
+pub fn row(positive: u32, negative: u32) -> Row {
     let literals = |word: u32| (0..32).filter(move |&v| holds(word, v)).map(|v| v as i64 + 1);
     literals(positive).chain(literals(negative).map(|literal| -literal)).collect()
 }

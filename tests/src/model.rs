@@ -56,6 +56,13 @@ impl Size {
         self.left + self.right + self.public
     }
 
+    /// The station whose row has this number, from 1 over all tables: 0 is the left one, 1 the right one. Public rows are no station's.
+    pub fn station(&self, number: u64) -> Option<u64> {
+        let owners = [vec![Some(0); self.left], vec![Some(1); self.right], vec![None; self.public]].concat();
+        let place = usize::try_from(number).ok()?.checked_sub(1)?;
+        owners.get(place).copied().flatten()
+    }
+
     /// The most gates that the circuit may have.
     pub fn ceiling(&self) -> usize {
         64 * (self.rows() + self.n + 1) * (self.n + 1)
@@ -237,6 +244,11 @@ fn variable(literal: i64) -> usize {
     literal.unsigned_abs() as usize - 1
 }
 
+/// Whether a row holds a variable with both signs.
+pub fn padding(row: &[i64]) -> bool {
+    row.iter().any(|&literal| row.contains(&-literal))
+}
+
 impl Run {
     /// The run before its first step.
     pub fn fresh(n: usize) -> Run {
@@ -250,7 +262,7 @@ impl Run {
 
     /// Whether the row is satisfied; padding always is.
     fn satisfied(&self, row: &[i64]) -> bool {
-        row.iter().any(|&l| row.contains(&-l) || self.values.get(variable(l)) == Some(&Some(l > 0)))
+        padding(row) || row.iter().any(|&l| self.values.get(variable(l)) == Some(&Some(l > 0)))
     }
 
     /// How many rows are not satisfied, whatever the standing; a variable that the run does not have is free.
@@ -342,6 +354,35 @@ pub fn run_by(ties: Ties, n: usize, rows: &[Row], budget: u64) -> Answer {
         steps += 1;
     }
     run.answer(steps)
+}
+
+// ---- Late conditions
+
+/// A late condition: the station, the number of the row that it replaces, from 1 over all tables, and the new row.
+#[derive(Clone, Debug)]
+pub struct Condition {
+    pub station: u64,
+    pub number: u64,
+    pub row: Row,
+}
+
+/// The rows after a late condition: 15 where it is no padding row of the station, 16 where the run is closed, 3 where the new row has
+/// a variable above n.
+pub fn replaced(size: Size, rows: &[Row], run: &Run, late: &Condition) -> Result<Vec<Row>, u8> {
+    if !matches!(size.station(late.number), Some(owner) if owner == late.station) {
+        return Err(15);
+    }
+    let place = late.number as usize - 1;
+    if !padding(&rows[place]) {
+        return Err(15);
+    }
+    if run.standing != Standing::Open {
+        return Err(16);
+    }
+    if late.row.iter().any(|&literal| variable(literal) >= size.n) {
+        return Err(3);
+    }
+    Ok([&rows[..place], &[late.row.clone()], &rows[place + 1..]].concat())
 }
 
 // ---- The pair program

@@ -224,34 +224,47 @@ impl Room {
         })
     }
 
-    /// Another solver's verdict on a DIMACS text: whether it is satisfiable. The same text is asked for once.
+    /// Another solver's verdict on a DIMACS text. The same text is asked for once.
     pub fn ask(&self, solver: &str, text: &[u8]) -> Result<bool, String> {
         let mut said = self.said.lock().map_err(|e| e.to_string())?;
         if let Some(&verdict) = said.get(text) {
             return Ok(verdict);
         }
-        let verdict = self.asked(solver, text)?;
+        let verdict = asked(solver, text)?;
         said.insert(text.to_vec(), verdict);
         Ok(verdict)
-    }
-
-    /// Asks a solver.
-    fn asked(&self, solver: &str, text: &[u8]) -> Result<bool, String> {
-        let file = self.folder.join("joined.cnf");
-        fs::write(&file, text).map_err(|e| e.to_string())?;
-        let ended =
-            Command::new(solver).arg(&file).stdin(Stdio::null()).output().map_err(|e| format!("{solver}: {e}"))?;
-        match ended.status.code() {
-            Some(10) => Ok(true),
-            Some(20) => Ok(false),
-            _ => Err(format!("{solver} gave no verdict: {}", String::from_utf8_lossy(&ended.stderr))),
-        }
     }
 }
 
 impl Drop for Room {
     fn drop(&mut self) {
         let _ = fs::remove_dir_all(&self.folder);
+    }
+}
+
+/// Solvers of Debian's packages whose verdicts are asked for.
+const SOLVERS: [&str; 2] = ["cadical", "picosat"];
+
+/// The first of them that is installed.
+pub fn solver() -> std::io::Result<&'static str> {
+    let quiet =
+        |solver: &&str| Command::new(solver).arg("--version").stdout(Stdio::null()).stderr(Stdio::null()).status();
+    let missing = || std::io::Error::new(std::io::ErrorKind::NotFound, format!("none of {SOLVERS:?} is installed"));
+    SOLVERS.into_iter().find(|solver| quiet(solver).is_ok()).ok_or_else(missing)
+}
+
+/// Asks a solver, which reads the text on its standard input: whether it is satisfiable.
+pub fn asked(solver: &str, text: &[u8]) -> Result<bool, String> {
+    let fault = |error: std::io::Error| format!("{solver}: {error}");
+    let mut command = Command::new(solver);
+    let piped = command.stdin(Stdio::piped()).stdout(Stdio::piped()).stderr(Stdio::piped());
+    let mut child = piped.spawn().map_err(fault)?;
+    child.stdin.take().expect("standard input is a pipe").write_all(text).map_err(fault)?;
+    let ended = child.wait_with_output().map_err(fault)?;
+    match ended.status.code() {
+        Some(10) => Ok(true),
+        Some(20) => Ok(false),
+        _ => Err(format!("{solver} gave no verdict: {}", String::from_utf8_lossy(&ended.stderr))),
     }
 }
 
