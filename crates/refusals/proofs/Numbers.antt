@@ -7,11 +7,11 @@ use lib.Dec.{lit<}
 use lib.ListN.{getD}
 use Rattle.refusals.specs.Numbers.{numberOf}
 use Rattle.refusals.specs.declared.Refusal.{Refusal}
-use Rattle.refusals.specs.declared.Refusal.the-variants.{Variables, RowCount, RowBit, RowBuffer, Text, TextsDiffer, GateBuffer, NumberLine, Gates, Wires, LineBuffer, State, OtherVariables, NoModel, NotPadding, Closed}
+use Rattle.refusals.specs.declared.Refusal.the-variants.{Variables, RowCount, RowBit, RowBuffer, Text, TextsDiffer, GateBuffer, NumberLine, Gates, Wires, LineBuffer, State, OtherVariables, NoModel, NotPadding, Closed, NoClause}
 
 -- the refusal of a number; no refusal has 0
 refusalOf : ℕ → Refusal
-refusalOf k = getD (Closed ∷ Variables ∷ RowCount ∷ RowBit ∷ RowBuffer ∷ Text ∷ TextsDiffer ∷ GateBuffer ∷ NumberLine ∷ Gates ∷ Wires ∷ LineBuffer ∷ State ∷ OtherVariables ∷ NoModel ∷ NotPadding ∷ []) k Closed
+refusalOf k = getD (NoClause ∷ Variables ∷ RowCount ∷ RowBit ∷ RowBuffer ∷ Text ∷ TextsDiffer ∷ GateBuffer ∷ NumberLine ∷ Gates ∷ Wires ∷ LineBuffer ∷ State ∷ OtherVariables ∷ NoModel ∷ NotPadding ∷ Closed ∷ []) k NoClause
 
 refusal-back : (r : Refusal) → refusalOf (numberOf r) ≡ r
 unfolding refusalOf
@@ -31,11 +31,12 @@ refusal-back OtherVariables = refl
 refusal-back NoModel = refl
 refusal-back NotPadding = refl
 refusal-back Closed = refl
+refusal-back NoClause = refl
 
 pub number-injective : (q r : Refusal) → numberOf q ≡ numberOf r → q ≡ r
 number-injective q r e = sym (refusal-back q) ∙ ap refusalOf e ∙ refusal-back r
 
-pub number-lt : (r : Refusal) → numberOf r < 17
+pub number-lt : (r : Refusal) → numberOf r < 18
 number-lt Variables = lit< tt
 number-lt RowCount = lit< tt
 number-lt RowBit = lit< tt
@@ -52,3 +53,4 @@ number-lt OtherVariables = lit< tt
 number-lt NoModel = lit< tt
 number-lt NotPadding = lit< tt
 number-lt Closed = lit< tt
+number-lt NoClause = lit< tt

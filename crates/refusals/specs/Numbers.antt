@@ -2,7 +2,7 @@
 use Prim.Native.Nat.{ℕ}
 use mathlib.Core.List.{List, [], _∷_}
 use Rattle.refusals.specs.declared.Refusal.{Refusal}
-use Rattle.refusals.specs.declared.Refusal.the-variants.{Variables, RowCount, RowBit, RowBuffer, Text, TextsDiffer, GateBuffer, NumberLine, Gates, Wires, LineBuffer, State, OtherVariables, NoModel, NotPadding, Closed}
+use Rattle.refusals.specs.declared.Refusal.the-variants.{Variables, RowCount, RowBit, RowBuffer, Text, TextsDiffer, GateBuffer, NumberLine, Gates, Wires, LineBuffer, State, OtherVariables, NoModel, NotPadding, Closed, NoClause}
 use Rattle.refusals.specs.declared.Outcome.{Outcome}
 use Rattle.refusals.specs.declared.Outcome.the-variants.{Taken, Refused}
 
@@ -24,6 +24,7 @@ numberOf OtherVariables = 13
 numberOf NoModel = 14
 numberOf NotPadding = 15
 numberOf Closed = 16
+numberOf NoClause = 17
 
 -- 0 where the call was taken, else the refusal's number
 abbrev pub codeOf : Outcome → ℕ

@@ -2,7 +2,7 @@
 ghost use mathlib.Core.Path.{_≡_};
 ghost use Rattle.refusals.specs.Numbers.{numberOf};
 
-// Why a call is turned back: 1 to 11 because of the input, 12 to 14 because of the state, 15 and 16 because of a late condition.
+// Why a call is turned back: 1 to 11 because of the input, 12 to 14 because of the state, 15 and 16 because of a late condition, 17 because of texts that are not the tables'.
 pub enum Refusal {
     // 1: n outside 1 to 32.
     Variables,
@@ -36,6 +36,8 @@ pub enum Refusal {
     NotPadding,
     // 16: a row replaced while the run is closed.
     Closed,
+    // 17: a row of neither station, or a text whose n or row count is not its table's.
+    NoClause,
 }
 
 // What a call gives that has no other result.
@@ -65,5 +67,6 @@ pub fn number(refusal: Refusal) -> u8
         Refusal::NoModel => 14,
         Refusal::NotPadding => 15,
         Refusal::Closed => 16,
+        Refusal::NoClause => 17,
     }
 }
