@@ -10,8 +10,8 @@ use Rattle.words.specs.Sets.{bit, any}
 use Rattle.words.proofs.Truth.{mp, and-i, taut4}
 use Rattle.words.proofs.Upto.{any-mono}
 use Rattle.tables.specs.declared.Row.{Row}
-use Rattle.tables.specs.Rows.{satisfied}
-use Rattle.tables.proofs.Rows.{satisfies, satisfied-any}
+use Rattle.tables.specs.Rows.{satisfied, satisfies}
+use Rattle.tables.proofs.Rows.{satisfied-any}
 use Rattle.state.specs.declared.Level.{Level}
 use Rattle.scan.specs.declared.Rule.{Rule}
 use Rattle.scan.specs.declared.Rule.the-variants.{AllSatisfied, Conflict, Unit, Choice}

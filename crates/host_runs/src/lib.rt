@@ -3,6 +3,7 @@
 // It returns 0 where the call is taken, else the refusal's number, and then it writes nothing.
 use solver::Solved;
 use state::Run;
+use tables::Look;
 use tables::Row;
 use verdicts::Modelled;
 ghost use mathlib.Core.Path.{_≡_};
@@ -10,6 +11,7 @@ ghost use lib.ListN.{length};
 ghost use Rattle.refusals.specs.Checks.{outcome};
 ghost use Rattle.dimensions.specs.Sizes.{dimensions};
 ghost use Rattle.tables.specs.Tables.{allTables};
+ghost use Rattle.tables.specs.Rows.{lookNumber};
 ghost use Rattle.tables.specs.Acceptance.{tableChecks};
 ghost use Rattle.solver.specs.Entries.{solved, solvedCode, solvedNumbers};
 ghost use Rattle.verdicts.specs.Verdicts.{modelOf, modelCode, modelNumbers};
@@ -39,23 +41,36 @@ pub extern "C" fn forkhemit_accept(
     codes::code(tables::accept(d, left, right, public))
 }
 
-// A row of two words judged against T and F: whether it is satisfied, how many of its literals are free, its free variables as a word.
+// The variable to look at as a number: from 1, or 0 where there is none.
+fn look_number(look: Look) -> u64
+    ensures { λ r. ⌜ r ≡ lookNumber look ⌝ }
+{
+    match look {
+        Look::Variable(variable) => variable as u64 + 1,
+        Look::None => 0,
+    }
+}
+
+// A row of two words judged against T and F: whether it is satisfied, how many of its literals are free, its free variables as a word,
+// the variable to look at from 1, or 0.
 #[no_mangle]
 pub extern "C" fn forkhemit_judge(
     positive: u32,
     negative: u32,
     t: u32,
     f: u32,
-    judged: &mut [u64; 3],
+    judged: &mut [u64; 4],
 ) -> u8
     ensures { λ r. ⌜ r ≡ 0 ⌝ }
     ensures { λ _. ⌜ now (judged .exit) ≡ judgedNumbers (judgedRow positive negative t f) ⌝ }
 {
     let row = tables::judge(Row { positive, negative }, t, f);
+    let look = row.look;
     *judged = [
         row.satisfied as u64,
         row.literals as u64,
         row.variables as u64,
+        look_number(look),
     ];
     0
 }

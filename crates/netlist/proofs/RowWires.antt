@@ -14,8 +14,8 @@ use Rattle.words.specs.Sets.{bit, any, count}
 use Rattle.words.proofs.Truth.{on, and-i, mp, taut4, taut5, agree, agree-eq}
 use Rattle.words.proofs.Last.{any-false}
 use Rattle.tables.specs.declared.Row.{Row}
-use Rattle.tables.specs.Rows.{satisfied, freeIn}
-use Rattle.tables.proofs.Rows.{satisfies, satisfied-any, unsatisfied-none, unsatisfied-literals}
+use Rattle.tables.specs.Rows.{satisfied, satisfies, freeIn}
+use Rattle.tables.proofs.Rows.{satisfied-any, unsatisfied-none, unsatisfied-literals}
 use Rattle.scan.specs.Rules.{unsatisfiedWith}
 use Rattle.wires.proofs.Addresses.{rowOf}
 use Rattle.netlist.proofs.Chains.{or, or-is, any-chain, single-chain, someOf, manyOf, count-chain}

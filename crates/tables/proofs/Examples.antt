@@ -6,11 +6,11 @@ use mathlib.Core.List.{List, [], _∷_}
 use Prim.Native.Nat.{ℕ}
 use Rattle.refusals.specs.Checks.{outcome}
 use Rattle.refusals.specs.Numbers.{codeOf}
-use Rattle.words.specs.Sets.{bit, any, count}
+use Rattle.words.specs.Sets.{bit, any, count, lowest}
 use Rattle.dimensions.specs.Sizes.{dimensions}
 use Rattle.tables.specs.declared.Row.{Row}
 use Rattle.tables.specs.Tables.{allTables}
-use Rattle.tables.specs.Rows.{rowsOf, padding, satisfied, freeLiterals}
+use Rattle.tables.specs.Rows.{rowsOf, padding, satisfied, freeLiterals, lookAt, lookNumber}
 use Rattle.tables.specs.Acceptance.{allBelow, tableChecks}
 
 -- ---- acceptance: n, row counts, words
@@ -113,3 +113,49 @@ satisfied-counted = refl
 all-free : freeLiterals 32 (row 4294967295 4294967295) 0 0 ≡ 64
 unfolding freeLiterals bit count
 all-free = refl
+
+-- ---- the variable to look at, from 1, or 0
+
+look : ℕ → ℕ → ℕ → ℕ → ℕ
+unfolding lookAt bit any lowest
+look positive negative t f = lookNumber (lookAt 32 (row positive negative) t f)
+
+-- (1 2 3 -2 -3): the lowest in both words, though 1 is true and lower
+padding-look : look 7 6 1 4 ≡ 2
+unfolding look
+padding-look = refl
+
+-- only the last variable in both words, and all others set as the row holds them
+last-padding-look : look 4294967295 2147483648 2147483647 0 ≡ 32
+unfolding look
+last-padding-look = refl
+
+-- (1 -2 3 4): true by 3, though 1 is free and lower
+true-look : look 13 2 12 0 ≡ 3
+unfolding look
+true-look = refl
+
+-- (1 -2 3): true by -2 and by 3
+true-twice-look : look 5 2 4 2 ≡ 2
+unfolding look
+true-twice-look = refl
+
+-- (2 -1 -3): true by 2 and by -3
+positive-first-look : look 2 5 2 4 ≡ 2
+unfolding look
+positive-first-look = refl
+
+-- (1 -2 3) with 1 false: the lowest free one, in either word
+free-look : look 5 2 0 1 ≡ 2
+unfolding look
+free-look = refl
+
+-- (1 -2) with 1 false and 2 true: a conflict
+conflict-look : look 1 2 2 1 ≡ 0
+unfolding look
+conflict-look = refl
+
+-- ()
+empty-look : look 0 0 1 2 ≡ 0
+unfolding look
+empty-look = refl

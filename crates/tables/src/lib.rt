@@ -3,9 +3,10 @@ use dimensions::Dimensions;
 use refusals::Outcome;
 use refusals::Refusal;
 ghost use mathlib.Core.Path.{_≡_};
+ghost use Rattle.words.specs.Sets.{bit};
 ghost use Rattle.refusals.specs.Checks.{outcome};
 ghost use Rattle.tables.specs.Tables.{allTables};
-ghost use Rattle.tables.specs.Rows.{judged};
+ghost use Rattle.tables.specs.Rows.{lowestOr, judged};
 ghost use Rattle.tables.specs.Acceptance.{tableChecks, allBelow};
 
 // A clause: the variables that it holds positive and those that it holds negative.
@@ -14,11 +15,29 @@ pub struct Row {
     pub negative: u32,
 }
 
-// What T and F make of a row: whether it is satisfied, how many of its at most 64 literals are free, and the set of its free variables.
+// The variable of a row to look at, counted from 0 as bits are, or none.
+pub enum Look {
+    Variable(u8),
+    None,
+}
+
+// What T and F make of a row: whether it is satisfied, how many of its at most 64 literals are free, the set of its free variables, and
+// the variable to look at.
 pub struct Judged {
     pub satisfied: bool,
     pub literals: u8,
     pub variables: u32,
+    pub look: Look,
+}
+
+// The word's lowest variable is to be looked at; where it has none, the other.
+fn lowest_or(word: u32, other: Look) -> Look
+    ensures { λ r. ⌜ r ≡ lowestOr (bit word) 32 other ⌝ }
+{
+    if word == 0 {
+        return other;
+    }
+    Look::Variable(words::lowest(word) as u8)
 }
 
 // The row judged against T and F.
@@ -28,12 +47,16 @@ pub fn judge(row: Row, t: u32, f: u32) -> Judged
     let positive = row.positive;
     let negative = row.negative;
     let unset = !(t | f);
-    let met = (positive & negative) | (positive & t) | (negative & f);
+    let both = positive & negative;
+    let met = both | (positive & t) | (negative & f);
     let literals = words::count(positive & unset) + words::count(negative & unset);
+    let variables = (positive | negative) & unset;
+    let look = lowest_or(both, lowest_or(met, lowest_or(variables, Look::None)));
     Judged {
         satisfied: met != 0,
-        literals: literals,
-        variables: (positive | negative) & unset,
+        literals,
+        variables,
+        look,
     }
 }
 

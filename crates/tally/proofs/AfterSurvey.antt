@@ -16,8 +16,8 @@ use Rattle.words.proofs.Bits.{bit-zero}
 use Rattle.words.proofs.Operations.{and-lt-left}
 use Rattle.words.proofs.WordOf.{bit-wordOf, wordOf-lt}
 use Rattle.tables.specs.declared.Row.{Row}
-use Rattle.tables.specs.Rows.{rowAt, rowsFrom, satisfied, freeIn}
-use Rattle.tables.proofs.Rows.{satisfies, satisfied-any}
+use Rattle.tables.specs.Rows.{rowAt, rowsFrom, satisfied, satisfies, freeIn}
+use Rattle.tables.proofs.Rows.{satisfied-any}
 use Rattle.scan.specs.Rules.{anyRow, unsatisfiedWith}
 use Rattle.scan.proofs.RowLaws.{any-row-cong}
 use Rattle.occurrences.specs.Index.{at, wordAt, rowSet, literal, indexOf}

@@ -14,8 +14,8 @@ use Rattle.words.proofs.Upto.{any-or, count-cong}
 use Rattle.words.proofs.Last.{any-cong, any-at, count-last}
 use Rattle.words.proofs.Bits.{bit-put}
 use Rattle.tables.specs.declared.Row.{Row}
-use Rattle.tables.specs.Rows.{satisfied, free, holds, freeIn, freeLiterals}
-use Rattle.tables.proofs.Rows.{satisfies, satisfied-any, unsatisfied-literals}
+use Rattle.tables.specs.Rows.{satisfied, satisfies, free, holds, freeIn, freeLiterals}
+use Rattle.tables.proofs.Rows.{satisfied-any, unsatisfied-literals}
 use Rattle.occurrences.specs.Index.{literal}
 use Rattle.tally.specs.Tallies.{setT, setF}
 

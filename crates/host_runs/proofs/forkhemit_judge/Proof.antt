@@ -1,5 +1,5 @@
--- `forkhemit_judge` meets its contract: the numbers are those of the row judged, a truth value as its digit.
-use mathlib.Core.Path.{_≡_, refl, ap, _∙_}
+-- `forkhemit_judge` meets its contract: the numbers are those of the row judged, a truth value as its digit, a variable by its number.
+use mathlib.Core.Path.{_≡_, refl, ap, ap₂, _∙_}
 use mathlib.Core.Bool.{Bool, true, false}
 use mathlib.Core.List.{[], _∷_}
 use Prim.Native.Nat.{ℕ}
@@ -17,20 +17,26 @@ byte-digit false = refl
 judge-requires : tie.Need-judge-requires
 judge-requires c κs = search needs
 
-cast-t8 : tie.Need-cast-t8
-cast-t8 c = search needs
-
 cast-t9 : tie.Need-cast-t9
 cast-t9 c = search needs
 
 cast-t10 : tie.Need-cast-t10
 cast-t10 c = search needs
 
+cast-t11 : tie.Need-cast-t11
+cast-t11 c = search needs
+
+look-number-requires : tie.Need-look-number-requires
+look-number-requires c κs = search needs
+
 returns : tie.Need-returns
 returns c =
-    let row = c .before .before .before .before .judge in
-    let j = row .result in
-    (refl, ap (λ (x : ℕ). x ∷ (j .literals ∷ (j .variables ∷ []))) (byte-digit (j .satisfied)) ∙ ap judgedNumbers (row .ensures))
+    let number = c .before .look-number in
+    let row = c .before .before .before .before .before .judge in
+    let j = row .result in (
+      refl,
+      ap₂ (λ (x y : ℕ). x ∷ (j .literals ∷ (j .variables ∷ (y ∷ [])))) (byte-digit (j .satisfied)) (number .ensures) ∙ ap judgedNumbers (row .ensures),
+    )
 
 pub forkhemit-judge-spec : {M : Type 1} → statement M
-forkhemit-judge-spec = tie.close (tie.spec judge-requires cast-t8 cast-t9 cast-t10 returns)
+forkhemit-judge-spec = tie.close (tie.spec judge-requires cast-t9 cast-t10 cast-t11 look-number-requires returns)
