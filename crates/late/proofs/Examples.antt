@@ -1,6 +1,6 @@
 -- Late conditions on small tables, computed: whose row may be replaced, which refusal comes first, and which words change.
 use mathlib.Core.Path.{_≡_, refl}
-use mathlib.Core.List.{List, [], _∷_}
+use mathlib.Core.List.{[], _∷_}
 use Prim.Native.Nat.{ℕ}
 use Rattle.refusals.specs.Checks.{outcome}
 use Rattle.refusals.specs.Numbers.{codeOf}

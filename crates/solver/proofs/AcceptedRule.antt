@@ -27,7 +27,7 @@ front-rows words m i (suc k) h =
     (ap₂ (λ (p q : ℕ). record { positive = p; negative = q }) (getD-take m words (2 * i) 0 (omega arith)) (getD-take m words (2 * i + 1) 0 (omega arith)))
     (front-rows words m (suc i) k (omega arith))
 
-rows-in-front : (words : List ℕ) (m : ℕ) → 2 * m ≤ length words → rowsIn (take (2 * m) words) ≡ rowsFrom words 0 m
+pub rows-in-front : (words : List ℕ) (m : ℕ) → 2 * m ≤ length words → rowsIn (take (2 * m) words) ≡ rowsFrom words 0 m
 rows-in-front words m h =
     let e : length (take (2 * m) words) / 2 ≡ m = omega (arith, length-take-le (2 * m) words h) in
     ap (λ (k : ℕ). rowsFrom (take (2 * m) words) 0 k) e ∙ front-rows words (2 * m) 0 m (omega arith)

@@ -23,7 +23,7 @@ module _ (n k : ℕ) (wide : n ≤ k) (t f : ℕ) where
   satisfied-alike : (r : Row) → lowRow n r ≡ true → satisfied k r t f ≡ satisfied n r t f
   satisfied-alike r low = satisfied-width n k r t f wide (low-positive n r low) (low-negative n r low)
 
-  with-alike : (j : ℕ) (r : Row) → lowRow n r ≡ true → unsatisfiedWith j k t f r ≡ unsatisfiedWith j n t f r
+  pub with-alike : (j : ℕ) (r : Row) → lowRow n r ≡ true → unsatisfiedWith j k t f r ≡ unsatisfiedWith j n t f r
   unfolding unsatisfiedWith
   with-alike j r low =
       ap₂ (λ (b : Bool) (c : ℕ). not b && eqb c j) (satisfied-alike r low)
