@@ -1,0 +1,5 @@
+pub mod Clauses
+pub mod Checks
+pub mod Places
+pub mod Examples
+pub mod Shown

@@ -1,0 +1,63 @@
+-- `check` meets its contract: the tables' refusal comes first, then that of the texts' tables.
+use mathlib.Core.Path.{sym, _∙_}
+use Rattle.tables.specs.Tables.{Tables, allTables}
+use Rattle.excerpts.proofs.Checks.{tables-refused, tables-taken}
+use borrow.Author.Needs.{needs}
+use Rattle.excerpts.proofs.check.Statement.{statement}
+use Rattle.excerpts.proofs.check.Tie as tie
+
+-- where the code starts, from the first call
+abbrev start : tie.After-accept → tie.Start
+start c = c .before .before .before .before .before .before
+
+-- the tables
+abbrev tables : tie.Start → Tables
+tables s = allTables (s .args .left .now) (s .args .right .now) (s .args .public .now)
+
+accept-requires : tie.Need-accept-requires
+accept-requires c κs = search needs
+
+enum-known-checked : tie.Need-enum-known-checked
+enum-known-checked c = search needs
+
+enum-told : tie.Need-enum-told
+enum-told c = search needs
+
+read-requires : tie.Need-read-requires
+read-requires c κs = search needs
+
+read-requires-2 : tie.Need-read-requires-2
+read-requires-2 c κs = search needs
+
+judge-requires : tie.Need-judge-requires
+judge-requires c κs = search needs
+
+returns : tie.Need-returns
+returns c =
+    let accept = c .before .before .before in
+    let s = start accept in
+    tables-refused (s .args .d) (tables s) (s .args .left-text .now) (s .args .right-text .now) (s .args .number) _
+    (sym (accept .accept .ensures) ∙ c .before .checked .given .1)
+
+returns-2 : tie.Need-returns-2
+returns-2 c =
+    let right = c .before in
+    let left = right .before in
+    let told = left .before in
+    let accept = told .before .before in
+    let s = start accept in
+    tables-taken (s .args .d) (tables s) (s .args .left-text .now) (s .args .right-text .now) (s .args .number)
+    (sym (accept .accept .ensures) ∙ told .enum-told .given .1) _ _ (left .read .ensures) (right .read2 .ensures) _ (c .judge .ensures)
+
+pub check-spec : {M : Type 1} → statement M
+check-spec =
+    tie.close
+    (tie.spec
+    accept-requires
+    enum-known-checked
+    enum-told
+    read-requires
+    read-requires-2
+    judge-requires
+    returns
+    returns-2)
