@@ -22,8 +22,8 @@ run: target/static/pair
 # declared in include/forkhemit.h
 lib: target/lib/libforkhemit.a
 
-# what the library has, in seven crates
-HOSTS := host_runs host_indexed host_late host_circuits host_repeats host_texts host_lines
+# what the library has, in nine crates
+HOSTS := host_runs host_indexed host_late host_explained host_circuits host_repeats host_texts host_excerpts host_lines
 
 # One after the other: two calls of `rt staticlib` at once spoil each other's notes on the crates that both use. In the crates' object files
 # all names are local but those of the functions that hosts call, so the files stand side by side in one archive.
@@ -40,12 +40,17 @@ target/examples/late-c: examples/host/late.c include/forkhemit.h target/lib/libf
 	mkdir -p target/examples
 	cc -std=c11 -O2 -Wall -Wextra -Wpedantic -Werror -Iinclude -o $@ $< -Ltarget/lib -lforkhemit
 
+target/examples/desk: examples/desk/desk.c include/forkhemit.h target/lib/libforkhemit.a
+	mkdir -p target/examples
+	cc -std=c11 -O2 -Wall -Wextra -Wpedantic -Werror -Iinclude -o $@ $< -Ltarget/lib -lforkhemit
+
 target/examples/host-rust: examples/host/host.rs target/lib/libforkhemit.a
 	mkdir -p target/examples
 	rustc --edition 2021 -O -D warnings -o $@ $< -L native=target/lib
 
-# The two hosts answer as the pair program; the third is told of a late condition, in each of the stories of examples/harbour/late.
-examples: target/examples/host-c target/examples/host-rust target/examples/late-c
+# The two hosts answer as the pair program; the third is told of a late condition, in each of the stories of examples/harbour/late; the fourth lists
+# a run step by step.
+examples: target/examples/host-c target/examples/host-rust target/examples/late-c target/examples/desk
 	cd examples/harbour && for host in host-c host-rust; do \
 	  echo "$$host left.cnf right.cnf public.cnf $$(cat budget)"; \
 	  ../../target/examples/$$host left.cnf right.cnf public.cnf $$(cat budget) | tee ../../target/examples/$$host.out && cmp ../../target/examples/$$host.out answer || exit 1; \
@@ -54,6 +59,7 @@ examples: target/examples/host-c target/examples/host-rust target/examples/late-
 	  echo "late-c left.cnf late/right.cnf public.cnf $$(cat late/$$story)"; \
 	  ../../target/examples/late-c left.cnf late/right.cnf public.cnf $$(cat late/$$story) | tee ../../target/examples/late-$$story.out && cmp ../../target/examples/late-$$story.out late/$$story.answer || exit 1; \
 	done
+	cd examples/harbour && ../../target/examples/desk left.cnf right.cnf public.cnf $$(cat budget) | tee ../../target/examples/desk.out && cmp ../../target/examples/desk.out ../desk/listing
 
 bench: target/static/pair target/lib/libforkhemit.a
 	cargo build --quiet --release --bins --offline --locked --manifest-path tests/Cargo.toml

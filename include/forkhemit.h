@@ -1,7 +1,7 @@
 /*
  * Forkhemit for hosts in C and C++: two stations' clause tables and the public one, the giant step, its circuit and the texts.
- * Every function is proved to meet its contract, which stands in crates/host_runs, host_indexed, host_late, host_circuits, host_repeats, host_texts and
- * host_lines.
+ * Every function is proved to meet its contract, which stands in crates/host_runs, host_indexed, host_late, host_explained, host_circuits,
+ * host_repeats, host_texts, host_excerpts and host_lines.
  * `make lib` writes the archive to link, target/lib/libforkhemit.a, for x86-64 Linux; it needs C's memcpy and memset and nothing else. docs/GUIDE.md
  * has the calls in the order in which a host makes them, examples/host hosts in C and in Rust.
  *
@@ -50,7 +50,8 @@ enum forkhemit_refusal_number {
     FORKHEMIT_OTHER_VARIABLES = 13, /* state made for another n */
     FORKHEMIT_NO_MODEL = 14,        /* model wanted while open or refuted */
     FORKHEMIT_NOT_PADDING = 15,     /* the row to be replaced is no padding row of that station */
-    FORKHEMIT_CLOSED = 16           /* a row was to be replaced in a closed run */
+    FORKHEMIT_CLOSED = 16,          /* a row was to be replaced in a closed run */
+    FORKHEMIT_NO_CLAUSE = 17        /* row of neither station, or a text whose n or row count is not its table's */
 };
 
 /*
@@ -95,9 +96,10 @@ uint8_t forkhemit_accept(uint64_t n, uint64_t left_rows, uint64_t right_rows, ui
                          const uint32_t *public_table, size_t public_length);
 
 /* judged: what T and F make of a row of these two words: 1 where it is satisfied, else 0; how many of its literals have their variable in
- * neither, 0 to 64, padding and satisfied rows too (a variable in both words counts twice); the variables of those literals, as a word.
- * All bits are looked at, there is no n. Never turned back. */
-uint8_t forkhemit_judge(uint32_t positive, uint32_t negative, uint32_t t, uint32_t f, uint64_t judged[3]);
+ * neither, 0 to 64, padding and satisfied rows too (a variable in both words counts twice); the variables of those literals, as a word;
+ * the variable to look at, 1 to 32: the lowest in both words, or else the lowest that satisfies the row, or else the lowest of those
+ * literals; 0 where there is none. All bits are looked at, there is no n. Never turned back. */
+uint8_t forkhemit_judge(uint32_t positive, uint32_t negative, uint32_t t, uint32_t f, uint64_t judged[4]);
 
 /* ---- runs */
 
@@ -190,6 +192,39 @@ uint8_t forkhemit_replace_indexed(uint64_t n, uint64_t left_rows, uint64_t right
                                   const uint32_t *public_table, size_t public_length, const uint32_t run[FORKHEMIT_RUN_WORDS],
                                   uint64_t station, uint64_t row, uint32_t positive, uint32_t negative,
                                   uint64_t index[FORKHEMIT_INDEX_WORDS], uint64_t number[1]);
+
+/* ---- the rule behind each step */
+
+/* The rule of the giant step that a step followed. */
+enum forkhemit_rule {
+    FORKHEMIT_NO_RULE = 0,                /* the run was closed already */
+    FORKHEMIT_ALL_SATISFIED = 1,          /* all rows are satisfied: the run closes */
+    FORKHEMIT_CONFLICT_WITH_LEVEL = 2,    /* a row is in conflict: the last level is removed and its variable goes to F */
+    FORKHEMIT_CONFLICT_WITHOUT_LEVEL = 3, /* a row is in conflict and no level is left: the run closes */
+    FORKHEMIT_FORCED = 4,                 /* a row forces a literal */
+    FORKHEMIT_CHOSEN = 5                  /* a variable is chosen and goes to T */
+};
+
+/* run: after one giant step, in place, as forkhemit_step leaves it. explanation: rule, row, variable, value.
+ *   rule      one of forkhemit_rule
+ *   row       the lowest row in conflict, or the lowest that forces the very literal taken, its sign included; 0 where there is none.
+ *             Rows count from 1: the left ones, then the right ones, then the public ones
+ *   variable  the variable set, from 1, and value its value, 0 or 1: by rules 4 and 5 the literal taken, by rule 2 the variable that goes
+ *             to F, with 0; else 0 and 0
+ * The rows are looked at twice, so forkhemit_step is faster. 1, 2, 4, 3, 12, 13. */
+uint8_t forkhemit_step_explained(uint64_t n, uint64_t left_rows, uint64_t right_rows, uint64_t public_rows,
+                                 const uint32_t *left, size_t left_length, const uint32_t *right, size_t right_length,
+                                 const uint32_t *public_table, size_t public_length,
+                                 uint32_t run[FORKHEMIT_RUN_WORDS], uint64_t explanation[4]);
+
+/* Where the clause of a row stands in the text that it was read from; rows count from 1, the left ones first, then the right ones.
+ * place: station, 0 left or 1 right; its first byte in that station's text, from 0; how many bytes, from the first literal through the
+ * closing 0, remarks inside it too. An empty clause is its 0. Start and length are 0 where the table's row no longer has the clause's two
+ * words. The tables' 1, 2, 4, 3, then the left text's 1, 2 or 5, the right text's, 6, 17. */
+uint8_t forkhemit_clause(uint64_t n, uint64_t left_rows, uint64_t right_rows, uint64_t public_rows,
+                         const uint32_t *left, size_t left_length, const uint32_t *right, size_t right_length,
+                         const uint32_t *public_table, size_t public_length, const uint8_t *left_text, size_t left_text_length,
+                         const uint8_t *right_text, size_t right_text_length, uint64_t row, uint64_t place[3]);
 
 /* ---- the circuit */
 
