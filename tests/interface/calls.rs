@@ -37,6 +37,12 @@ mod library {
         pub fn forkhemit_replace_indexed(n: u64, left_rows: u64, right_rows: u64, public_rows: u64, left: *mut u32, left_length: usize,
             right: *mut u32, right_length: usize, public_table: *const u32, public_length: usize, run: *const u32,
             station: u64, row: u64, positive: u32, negative: u32, index: *mut u64, number: *mut u64) -> u8;
+        pub fn forkhemit_step_explained(n: u64, left_rows: u64, right_rows: u64, public_rows: u64, left: *const u32, left_length: usize,
+            right: *const u32, right_length: usize, public_table: *const u32, public_length: usize, run: *mut u32,
+            explanation: *mut u64) -> u8;
+        pub fn forkhemit_clause(n: u64, left_rows: u64, right_rows: u64, public_rows: u64, left: *const u32, left_length: usize,
+            right: *const u32, right_length: usize, public_table: *const u32, public_length: usize, left_text: *const u8,
+            left_text_length: usize, right_text: *const u8, right_text_length: usize, row: u64, place: *mut u64) -> u8;
         pub fn forkhemit_model(run: *const u32, model: *mut u64) -> u8;
         pub fn forkhemit_generate(n: u64, left_rows: u64, right_rows: u64, public_rows: u64, gates: *mut u32, gates_length: usize,
             count: *mut u64) -> u8;
@@ -59,10 +65,10 @@ mod library {
     }
 }
 
-/// A row judged against T and F: what is returned, and the three numbers. Many rows are judged, so nothing is put on the heap.
-pub fn judge([positive, negative, t, f]: [u32; 4]) -> (u8, [u64; 3]) {
-    let mut judged = [7; 3];
-    // The three numbers are lent for the call.
+/// A row judged against T and F: what is returned, and the four numbers. Many rows are judged, so nothing is put on the heap.
+pub fn judge([positive, negative, t, f]: [u32; 4]) -> (u8, [u64; 4]) {
+    let mut judged = [7; 4];
+    // The four numbers are lent for the call.
     let number = unsafe { library::forkhemit_judge(positive, negative, t, f, judged.as_mut_ptr()) };
     (number, judged)
 }
@@ -83,6 +89,8 @@ pub enum Function {
     SolveIndexed,
     Replace,
     ReplaceIndexed,
+    StepExplained,
+    Clause,
     Model,
     Generate,
     Pack,
@@ -95,7 +103,7 @@ pub enum Function {
     Answer,
 }
 
-pub const ALL: [Function; 24] = [
+pub const ALL: [Function; 26] = [
     Function::Sizes,
     Function::ReadTables,
     Function::Accept,
@@ -110,6 +118,8 @@ pub const ALL: [Function; 24] = [
     Function::SolveIndexed,
     Function::Replace,
     Function::ReplaceIndexed,
+    Function::StepExplained,
+    Function::Clause,
     Function::Model,
     Function::Generate,
     Function::Pack,
@@ -311,6 +321,9 @@ impl Call {
                     x(4), x(5), x(6) as u32, x(7) as u32),
                 Function::ReplaceIndexed => forkhemit_replace_indexed(x(0), x(1), x(2), x(3), w(0), l(0), w(1), l(1), w(2), l(2), w(3),
                     x(4), x(5), x(6) as u32, x(7) as u32, n(4), n(5)),
+                Function::StepExplained => forkhemit_step_explained(x(0), x(1), x(2), x(3), w(0), l(0), w(1), l(1), w(2), l(2), w(3), n(4)),
+                Function::Clause => forkhemit_clause(x(0), x(1), x(2), x(3), w(0), l(0), w(1), l(1), w(2), l(2), b(3), l(3), b(4), l(4),
+                    x(4), n(5)),
                 Function::Model => forkhemit_model(w(0), n(1)),
                 Function::Generate => forkhemit_generate(x(0), x(1), x(2), x(3), w(0), l(0), n(1)),
                 Function::Pack => forkhemit_pack(x(0), x(1), x(2), x(3), w(0), l(0), w(1), l(1), w(2), l(2), w(3), b(4), l(4)),

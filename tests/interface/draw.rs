@@ -125,6 +125,54 @@ fn tables_and_run(size: Size, random: &mut Random) -> (Vec<Lent>, Vec<u32>) {
 
 // ---- Right calls
 
+/// A clause of up to five variables; one in four has each literal twice, and its negation.
+fn clause(n: usize, random: &mut Random) -> Row {
+    let width = random.between(0, n.min(5));
+    match random.once_in(4) {
+        true => tables::strict(n, width, random).into_iter().flat_map(|l| [l, l, -l]).collect(),
+        false => tables::strict(n, width, random),
+    }
+}
+
+/// Rows as a text, plain or in any layout.
+fn text(n: usize, rows: &[Row], random: &mut Random) -> Vec<u8> {
+    if random.once_in(2) {
+        layout::spaced(n, rows, random)
+    } else {
+        layout::plain(n, rows)
+    }
+}
+
+/// Tables, the stations' texts, room for a place, and the number of a row: now and then a row has other words, or a text is of another n, has
+/// a clause more or fewer or is damaged.
+fn asked_clause(size: Size, random: &mut Random) -> (u64, Vec<Lent>) {
+    let mut rows: Vec<Row> = (0..size.rows()).map(|_| clause(size.n, random)).collect();
+    let stations = size.left + size.right;
+    let mut n = if random.once_in(12) { random.between(size.n, 32) } else { size.n };
+    let mut texts = vec![];
+    for read in [&rows[..size.left], &rows[size.left..stations]] {
+        let mut read = read.to_vec();
+        match random.below(24) {
+            0 => drop(read.pop()),
+            1 => read.push(clause(size.n, random)),
+            2 => n = random.between(size.n, 32),
+            _ => (),
+        }
+        let mut text = text(n, &read, random);
+        if random.once_in(12) {
+            damage::strike(&mut text, random);
+        }
+        texts.push(Lent::Bytes(text));
+    }
+    let number = random.between(1, stations);
+    let replaced = one(&[number, number, random.between(1, stations)], random);
+    if random.once_in(4) {
+        rows[replaced - 1] = clause(size.n, random);
+    }
+    let number = if random.once_in(8) { one(&ODD, random) } else { number as u64 };
+    (number, [lent_tables(size, &rows, random), texts, vec![numbers_for(3, random)]].concat())
+}
+
 /// Three texts, room for their rows, and room for their sizes.
 fn texts(random: &mut Random) -> Vec<Lent> {
     let most = one(&[3, 6, 32], random);
@@ -137,17 +185,8 @@ fn texts(random: &mut Random) -> Vec<Lent> {
         }
         let most = one(&[3, 6, 128], random);
         let count = if random.once_in(4) { least } else { random.between(least, most) };
-        let widest = n.min(5);
-        let rows: Vec<Row> = (0..count)
-            .map(|_| {
-                let width = random.between(0, widest);
-                match random.once_in(4) {
-                    true => tables::strict(n, width, random).into_iter().flat_map(|l| [l, l, -l]).collect(),
-                    false => tables::strict(n, width, random),
-                }
-            })
-            .collect();
-        texts.push(if random.once_in(2) { layout::spaced(n, &rows, random) } else { layout::plain(n, &rows) });
+        let rows: Vec<Row> = (0..count).map(|_| clause(n, random)).collect();
+        texts.push(text(n, &rows, random));
         counts.push(count);
     }
     if random.once_in(300) {
@@ -357,6 +396,7 @@ fn over_tables(function: Function, size: Size, random: &mut Random) -> Vec<Lent>
         Function::Unsatisfied => lent.extend([Lent::Run(run), numbers_for(1, random)]),
         Function::CountFree => lent.extend([Lent::Run(run), bytes_for(size.rows(), random)]),
         Function::StepIndexed => lent.extend(indexed(size, &lent, run)),
+        Function::StepExplained => lent.extend([Lent::Run(run), numbers_for(4, random)]),
         Function::Pack => lent.extend([Lent::Run(run), bytes_for(memory::input_wires(size), random)]),
         _ => lent.push(Lent::Run(run)),
     }
@@ -392,13 +432,14 @@ pub fn of_size(function: Function, size: Size, circuits: &Circuits, random: &mut
     match function {
         Function::Sizes => call(numbers(size), vec![numbers_for(4, random)]),
         Function::ReadTables => call(vec![], texts(random)),
-        Function::Judge => call(row_to_judge(random), vec![numbers_for(3, random)]),
+        Function::Judge => call(row_to_judge(random), vec![numbers_for(4, random)]),
         Function::Accept
         | Function::Step
         | Function::CountFree
         | Function::Index
         | Function::Unsatisfied
         | Function::StepIndexed
+        | Function::StepExplained
         | Function::Pack => call(numbers(size), over_tables(function, size, random)),
         Function::Fresh => call(vec![size.n as u64], vec![room_for_run(random)]),
         Function::Solve | Function::SolveIndexed => {
@@ -408,6 +449,10 @@ pub fn of_size(function: Function, size: Size, circuits: &Circuits, random: &mut
         Function::Replace | Function::ReplaceIndexed => {
             let (numbers, lent) = late(size, function == Function::ReplaceIndexed, random);
             call(numbers, lent)
+        }
+        Function::Clause => {
+            let (number, lent) = asked_clause(size, random);
+            call([numbers(size), vec![number]].concat(), lent)
         }
         Function::Model => {
             let run = memory::run_words(&states::random(size.n, random));

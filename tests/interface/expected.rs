@@ -88,6 +88,8 @@ impl Call {
             Function::StepIndexed => self.step_indexed(),
             Function::Replace => self.replace(),
             Function::ReplaceIndexed => self.replace_indexed(),
+            Function::StepExplained => self.step_explained(),
+            Function::Clause => self.clause(),
             Function::Model => self.model(),
             Function::Generate => match self.size().and_then(|size| self.room_for_gates(size, 0)) {
                 Ok(size) => {
@@ -250,6 +252,40 @@ impl Call {
         let mut writes = stations(size, &rows);
         writes.extend([(4, Lent::Numbers(memory::index(&rows))), (5, Lent::Numbers(vec![number]))]);
         Ok(writes)
+    }
+
+    /// The run after one giant step, and what the step tells.
+    fn step_explained(&self) -> Result<Writes, u8> {
+        let size = self.size()?;
+        let rows = memory::accepted(size, self.tables())?;
+        let run = memory::run_for(size.n, self.words(3))?;
+        let mut after = run.clone();
+        after.step(&rows);
+        let told = run.told(&after, &rows).to_vec();
+        Ok(vec![(3, Lent::Run(memory::run_words(&after))), (4, Lent::Numbers(told))])
+    }
+
+    /// Station, start and length of a row's clause: the tables' 4 and 3, the left text's refusal, the right text's, 6, 17.
+    fn clause(&self) -> Result<Writes, u8> {
+        let size = self.size()?;
+        let rows = memory::accepted(size, self.tables())?;
+        let texts = [self.bytes(3), self.bytes(4)];
+        let left = model::read(texts[0], model::STATION)?;
+        let right = model::read(texts[1], model::STATION)?;
+        if left.n != right.n {
+            return Err(6);
+        }
+        let number = self.numbers[4];
+        let station = size.station(number).ok_or(17)?;
+        if [left.n, left.rows.len(), right.rows.len()] != [size.n, size.left, size.right] {
+            return Err(17);
+        }
+        let place = number as usize - 1;
+        let clause = model::clause_places(texts[station as usize])[place - station as usize * size.left].clone();
+        let read = [left.rows, right.rows].concat();
+        let same = memory::row_words(&rows[place..=place]) == memory::row_words(&read[place..=place]);
+        let clause = if same { clause } else { 0..0 };
+        Ok(vec![(5, Lent::Numbers(vec![station, clause.start as u64, clause.len() as u64]))])
     }
 
     /// The model as a word; 12, 14.

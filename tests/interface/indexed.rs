@@ -32,7 +32,7 @@ pub fn sizes(n: usize, count: usize) -> Vec<Size> {
 }
 
 /// Rows on which runs take many steps: three variables each, or wide and negative ones, among them padding.
-fn rows(size: Size, random: &mut Random) -> Vec<Row> {
+pub fn rows(size: Size, random: &mut Random) -> Vec<Row> {
     let n = size.n;
     let odds = *random.pick(&[1, 2, 4, 50]);
     let deep = random.once_in(4);

@@ -26,7 +26,7 @@ const VALUES: [(u32, u32); 8] = [
 ];
 
 /// A row's two words, T and F, and what is expected of the judging.
-type Shape = (String, [u32; 4], [u64; 3]);
+type Shape = (String, [u32; 4], [u64; 4]);
 
 /// The lowest k variables.
 fn lowest(k: u32) -> u32 {
@@ -42,29 +42,30 @@ fn wide() -> Vec<Shape> {
             shapes.push((
                 format!("64 literals, {k} variables free"),
                 [EVERY, EVERY, t, f],
-                [1, 2 * u64::from(k), free],
+                [1, 2 * u64::from(k), free, 1],
             ));
         }
     }
     for v in 0..32 {
         let (one, others) = (1 << v, !(1 << v));
+        let (this, other) = (v + 1, if v == 0 { 2 } else { 1 });
         for (what, words, expected) in [
-            ("63 literals, all free", [EVERY, others, 0, 0], [1, 63, EVERY]),
-            ("63 literals, all free", [others, EVERY, 0, 0], [1, 63, EVERY]),
-            ("63 literals, all but one free", [EVERY, others, one, 0], [1, 62, others]),
-            ("63 literals, one free", [EVERY, others, 0, others], [1, 1, one]),
-            ("63 literals, one free", [others, EVERY, others, 0], [1, 1, one]),
-            ("63 literals, none free", [others, EVERY, others, one], [1, 0, 0]),
-            ("32 positive literals, one free", [EVERY, 0, 0, others], [0, 1, one]),
-            ("32 positive literals, one free, satisfied", [EVERY, 0, others, 0], [1, 1, one]),
-            ("32 positive literals, all but one free", [EVERY, 0, 0, one], [0, 31, others]),
-            ("32 positive literals, all but one free, satisfied", [EVERY, 0, one, 0], [1, 31, others]),
-            ("32 negative literals, one free", [0, EVERY, others, 0], [0, 1, one]),
-            ("32 negative literals, one free, satisfied", [0, EVERY, 0, others], [1, 1, one]),
-            ("32 negative literals, all but one free", [0, EVERY, one, 0], [0, 31, others]),
-            ("32 negative literals, all but one free, satisfied", [0, EVERY, 0, one], [1, 31, others]),
+            ("63 literals, all free", [EVERY, others, 0, 0], [1, 63, EVERY, other]),
+            ("63 literals, all free", [others, EVERY, 0, 0], [1, 63, EVERY, other]),
+            ("63 literals, all but one free", [EVERY, others, one, 0], [1, 62, others, other]),
+            ("63 literals, one free", [EVERY, others, 0, others], [1, 1, one, other]),
+            ("63 literals, one free", [others, EVERY, others, 0], [1, 1, one, other]),
+            ("63 literals, none free", [others, EVERY, others, one], [1, 0, 0, other]),
+            ("32 positive literals, one free", [EVERY, 0, 0, others], [0, 1, one, this]),
+            ("32 positive literals, one free, satisfied", [EVERY, 0, others, 0], [1, 1, one, other]),
+            ("32 positive literals, all but one free", [EVERY, 0, 0, one], [0, 31, others, other]),
+            ("32 positive literals, all but one free, satisfied", [EVERY, 0, one, 0], [1, 31, others, this]),
+            ("32 negative literals, one free", [0, EVERY, others, 0], [0, 1, one, this]),
+            ("32 negative literals, one free, satisfied", [0, EVERY, 0, others], [1, 1, one, other]),
+            ("32 negative literals, all but one free", [0, EVERY, one, 0], [0, 31, others, other]),
+            ("32 negative literals, all but one free, satisfied", [0, EVERY, 0, one], [1, 31, others, this]),
         ] {
-            shapes.push((format!("{what}, by variable {}", v + 1), words, expected.map(u64::from)));
+            shapes.push((format!("{what}, by variable {this}"), words, expected.map(u64::from)));
         }
     }
     shapes
@@ -74,25 +75,25 @@ fn wide() -> Vec<Shape> {
 fn narrow() -> Vec<Shape> {
     let mut shapes = vec![];
     for (t, f) in VALUES {
-        shapes.push(("an empty row".into(), [0, 0, t, f], [0, 0, 0]));
+        shapes.push(("an empty row".into(), [0, 0, t, f], [0, 0, 0, 0]));
         for v in 0..32 {
             let one: u32 = 1 << v;
-            let free = u64::from(one);
+            let (free, this) = (u64::from(one), v + 1);
             let (t, f) = (t & !one, f & !one);
             for (what, words, expected) in [
-                ("a free literal", [one, 0, t, f], [0, 1, free]),
-                ("a true literal", [one, 0, t | one, f], [1, 0, 0]),
-                ("a false literal", [one, 0, t, f | one], [0, 0, 0]),
-                ("a literal both true and false", [one, 0, t | one, f | one], [1, 0, 0]),
-                ("a free negation", [0, one, t, f], [0, 1, free]),
-                ("a false negation", [0, one, t | one, f], [0, 0, 0]),
-                ("a true negation", [0, one, t, f | one], [1, 0, 0]),
-                ("a negation both true and false", [0, one, t | one, f | one], [1, 0, 0]),
-                ("padding, free", [one, one, t, f], [1, 2, free]),
-                ("padding, true", [one, one, t | one, f], [1, 0, 0]),
-                ("padding, false", [one, one, t, f | one], [1, 0, 0]),
+                ("a free literal", [one, 0, t, f], [0, 1, free, this]),
+                ("a true literal", [one, 0, t | one, f], [1, 0, 0, this]),
+                ("a false literal", [one, 0, t, f | one], [0, 0, 0, 0]),
+                ("a literal both true and false", [one, 0, t | one, f | one], [1, 0, 0, this]),
+                ("a free negation", [0, one, t, f], [0, 1, free, this]),
+                ("a false negation", [0, one, t | one, f], [0, 0, 0, 0]),
+                ("a true negation", [0, one, t, f | one], [1, 0, 0, this]),
+                ("a negation both true and false", [0, one, t | one, f | one], [1, 0, 0, this]),
+                ("padding, free", [one, one, t, f], [1, 2, free, this]),
+                ("padding, true", [one, one, t | one, f], [1, 0, 0, this]),
+                ("padding, false", [one, one, t, f | one], [1, 0, 0, this]),
             ] {
-                shapes.push((format!("{what} of variable {}", v + 1), words, expected));
+                shapes.push((format!("{what} of variable {this}"), words, expected));
             }
         }
     }
@@ -103,22 +104,62 @@ fn narrow() -> Vec<Shape> {
 fn counts() -> Vec<Shape> {
     let mut shapes = vec![];
     for k in 0..=64u32 {
+        let first = u64::from(k > 0);
         let (one, other) = (lowest(k.min(32)), lowest(k.saturating_sub(32)));
         let padding = u64::from(k > 32);
-        shapes.push((format!("{k} free literals"), [one, other, 0, 0], [padding, k.into(), one.into()]));
+        shapes.push((format!("{k} free literals"), [one, other, 0, 0], [padding, k.into(), one.into(), first]));
         let (one, other) = (lowest(k / 2), lowest(k - k / 2));
         let padding = u64::from(k > 1);
-        shapes.push((format!("{k} free literals in pairs"), [one, other, 0, 0], [padding, k.into(), other.into()]));
+        shapes.push((
+            format!("{k} free literals in pairs"),
+            [one, other, 0, 0],
+            [padding, k.into(), other.into(), first],
+        ));
     }
     for k in 0..=32 {
-        let all = lowest(k);
-        shapes.push((format!("{k} variables, each once"), [all & ODD, all & !ODD, 0, 0], [0, k.into(), all.into()]));
+        let (all, first) = (lowest(k), u64::from(k > 0));
+        shapes.push((
+            format!("{k} variables, each once"),
+            [all & ODD, all & !ODD, 0, 0],
+            [0, k.into(), all.into(), first],
+        ));
+    }
+    shapes
+}
+
+/// Rows of two variables, each pair of them, with two reasons to look at one: which variable it is.
+fn looks() -> Vec<Shape> {
+    let mut shapes = vec![];
+    for (v, w) in (0..32).flat_map(|w| (0..w).map(move |v| (v, w))) {
+        let (low, high): (u32, u32) = (1 << v, 1 << w);
+        let (both, lower, higher) = (low | high, v + 1, w + 1);
+        for (what, words, expected) in [
+            ("padding by both", [both, both, 0, 0], [1, 4, both, lower]),
+            ("padding by both, the higher set", [both, both, high, 0], [1, 2, low, lower]),
+            ("padding by the higher, the lower free", [both, high, 0, 0], [1, 3, both, higher]),
+            ("padding by the higher, the lower true", [both, high, low, 0], [1, 2, high, higher]),
+            ("padding by the higher, the negated lower true", [high, both, high, low], [1, 0, 0, higher]),
+            ("both true", [both, 0, both, 0], [1, 0, 0, lower]),
+            ("the lower and the negated higher true", [low, high, low, high], [1, 0, 0, lower]),
+            ("the negated lower and the higher true", [high, low, high, low], [1, 0, 0, lower]),
+            ("the lower free, the higher true", [both, 0, high, 0], [1, 1, low, higher]),
+            ("the negated lower free, the negated higher true", [0, both, 0, high], [1, 1, low, higher]),
+            ("the lower true, the higher free", [both, 0, low, 0], [1, 1, high, lower]),
+            ("the lower false, the higher true", [both, 0, high, low], [1, 0, 0, higher]),
+            ("the lower and the negated higher free", [low, high, 0, 0], [0, 2, both, lower]),
+            ("the negated lower and the higher free", [high, low, 0, 0], [0, 2, both, lower]),
+            ("the lower false, the higher free", [both, 0, 0, low], [0, 1, high, higher]),
+            ("the lower free, the higher false", [both, 0, 0, high], [0, 1, low, lower]),
+            ("both false", [low, high, high, low], [0, 0, 0, 0]),
+        ] {
+            shapes.push((format!("{what}, of {lower} and {higher}"), words, expected.map(u64::from)));
+        }
     }
     shapes
 }
 
 /// A row judged, held to what is expected.
-fn tried(words: [u32; 4], expected: [u64; 3]) -> Option<String> {
+fn tried(words: [u32; 4], expected: [u64; 4]) -> Option<String> {
     let given = calls::judge(words);
     (given != (0, expected)).then(|| format!("{words:x?} gives {given:x?} and not {expected:x?}"))
 }
@@ -126,7 +167,7 @@ fn tried(words: [u32; 4], expected: [u64; 3]) -> Option<String> {
 /// Rows of every shape, with what was said of each beforehand; the model says the same.
 pub fn shapes() -> Tally {
     let ledger = Ledger::default();
-    for (what, words, expected) in [wide(), narrow(), counts()].concat() {
+    for (what, words, expected) in [wide(), narrow(), counts(), looks()].concat() {
         let failure = tried(words, expected).or_else(|| tried(words, memory::judged(words)));
         ledger.test(failure.map(|failure| format!("{what}: {failure}")));
     }

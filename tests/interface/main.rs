@@ -1,13 +1,17 @@
 //! Tests of the library as hosts call it. Use: interface CALLS [exact]
 //! Every refusal as it was written by hand, alone and two at once, then calls at the limits of size, then rows of every shape judged and
-//! counted, then runs with index and number beside the plain ones, then steps where several literals are forced, then runs in which rows are
-//! replaced, whose verdicts are held to another solver's, then random calls over all functions: each result and every lent buffer is held to the model. With `exact` each buffer has an allocation of its own of exactly its
-//! length, for a memory checker; else it stands between guards. The last line is `N passed, M failed`, and the status 0 where M is 0.
+//! counted, then runs with index and number beside the plain ones, then runs whose steps tell their rules, then clauses by their own
+//! bytes, then steps where several literals are forced, then runs in which rows are replaced, whose verdicts are held to another solver's,
+//! then random calls over all functions: each result and every lent buffer is held to the model. With `exact` each buffer has an
+//! allocation of its own of exactly its length, for a memory checker; else it stands between guards. The last line is
+//! `N passed, M failed`, and the status 0 where M is 0.
 
 mod calls;
 mod circuits;
+mod clauses;
 mod draw;
 mod expected;
+mod explained;
 mod extremes;
 mod indexed;
 mod judged;
@@ -66,7 +70,7 @@ fn refused(circuits: &Circuits, guard: usize) -> Tally {
                 ledger.kind(&format!("refused {}", case.number), 1);
                 ledger.test(failure.map(|failure| format!("{}: {failure}\n  {}", case.what, shown(&case.call))));
             }
-            let missing = (0..=16).find(|&number| !cases.iter().any(|case| case.number == number));
+            let missing = (0..=17).find(|&number| !cases.iter().any(|case| case.number == number));
             ledger.test(missing.map(|number| format!("no case is refused with {number}")));
         }
     }
@@ -136,6 +140,14 @@ fn main() -> ExitCode {
     total.add(indexed::handed_over(guard));
     total.add(indexed::damaged(&circuits, guard));
     total.add(indexed::solved(guard));
+    total.add(explained::written(&circuits, guard));
+    total.add(explained::runs(&circuits, guard));
+    total.add(explained::handed_over(&circuits, guard));
+    total.add(clauses::written(&circuits, guard));
+    total.add(clauses::longest(&circuits, guard));
+    total.add(clauses::made(&circuits, guard));
+    total.add(clauses::replaced(&circuits, guard));
+    total.add(clauses::followed(&circuits, guard));
     total.add(ties::stepped(&circuits, guard));
     total.add(late::every(&circuits, guard));
     total.add(late::runs(&circuits, guard));

@@ -66,6 +66,12 @@ fn late_index() -> Vec<u64> {
     words
 }
 
+/// Tables with the stations' texts, for clauses: (1 2) and padding on the left; (−1), an empty row and (2 −1) on the right.
+const CLAUSE_SIZE: Size = Size { n: 2, left: 2, right: 3, public: 2 };
+const CLAUSE_TABLES: [&[u32]; 3] = [&[0b11, 0, 0b01, 0b01], &[0, 0b01, 0, 0, 0b10, 0b01], &[0b10, 0b01, 0b11, 0b01]];
+const CLAUSE_TEXTS: [&[u8]; 2] =
+    [b"c left\np cnf 2 2\n1 2 0\nc padding\n1 -1 0\n", b"p cnf 2 3\n-1 0 0\n2\nc inside\n-1 0"];
+
 /// A call of the function that is taken.
 fn base(function: Function, circuits: &Circuits) -> Result<Call, String> {
     let d = numbers(SIZE);
@@ -74,6 +80,7 @@ fn base(function: Function, circuits: &Circuits) -> Result<Call, String> {
     let tables = || TABLES.map(|table| Lent::Words(table.to_vec())).to_vec();
     let late_tables = || LATE_TABLES.map(|table| Lent::Words(table.to_vec())).to_vec();
     let late = || [numbers(LATE_SIZE), vec![1, 4, 0, 0b10]].concat();
+    let clause_numbers = [numbers(CLAUSE_SIZE), vec![5]].concat();
     let bytes = |count: usize| Lent::Bytes(vec![7; count]);
     let words = |count: usize| Lent::Words(vec![7; count]);
     let numbers = |count: usize| Lent::Numbers(vec![7; count]);
@@ -91,7 +98,7 @@ fn base(function: Function, circuits: &Circuits) -> Result<Call, String> {
             (vec![], [texts.to_vec(), vec![words(2), words(2), words(2), numbers(4)]].concat())
         }
         Function::Accept => (d, tables()),
-        Function::Judge => (vec![0b10, 0b01, 0b01, 0], vec![numbers(3)]),
+        Function::Judge => (vec![0b10, 0b01, 0b01, 0], vec![numbers(4)]),
         Function::Fresh => (vec![2], vec![Lent::Run(vec![7; RUN_WORDS])]),
         Function::Step => (d, [tables(), vec![Lent::Run(run())]].concat()),
         Function::Solve | Function::SolveIndexed => (and(9), [tables(), vec![numbers(3)]].concat()),
@@ -107,6 +114,13 @@ fn base(function: Function, circuits: &Circuits) -> Result<Call, String> {
         Function::ReplaceIndexed => {
             let besides = vec![Lent::Run(run()), Lent::Numbers(late_index()), Lent::Numbers(vec![2])];
             (late(), [late_tables(), besides].concat())
+        }
+        Function::StepExplained => (d, [tables(), vec![Lent::Run(run()), numbers(4)]].concat()),
+        // row 5 is the last right one
+        Function::Clause => {
+            let tables = CLAUSE_TABLES.map(|table| Lent::Words(table.to_vec())).to_vec();
+            let texts = CLAUSE_TEXTS.map(|text| Lent::Bytes(text.to_vec())).to_vec();
+            (clause_numbers, [tables, texts, vec![numbers(3)]].concat())
         }
         Function::Model => (vec![], vec![Lent::Run(satisfied), numbers(1)]),
         Function::Generate => (d, vec![words(3 * SIZE.ceiling()), numbers(1)]),
@@ -284,38 +298,44 @@ fn add(list: &mut Changes, what: &str, number: u8, change: Change) {
 /// A text of another n than the others.
 const OTHER_N: &[u8] = b"p cnf 3 1\n1 0\n";
 
-/// The 1, 2 and 5 of each text, then 4 and 6. A header's 1 or 2 comes before 5, an overlong text is 5 before all else.
-fn read_tables(list: &mut Changes) {
+/// The 1, 2 and 5 of the text at place k, then 6; `base` is the text that is taken. A header's 1 or 2 comes before 5, an overlong text is 5
+/// before all else.
+fn text_at(k: usize, name: &str, base: &[u8], list: &mut Changes) {
     let overlong = |text: &[u8]| [text, &vec![b'\n'; TEXT_LIMIT + 1 - text.len()]].concat();
+    // a station must have a row; the public table need not, and then no clause may follow
+    let rowless = if name == "public" { 5 } else { 2 };
+    for (what, number, to) in [
+        ("n 33", 1, &b"p cnf 33 1\n1 0\n"[..]),
+        ("n 0", 1, b"p cnf 0 1\n1 0\n"),
+        ("n 0 and no rows", 1, b"p cnf 0 0\n"),
+        ("n 33 and 129 rows", 1, b"p cnf 33 129\n1 0\n"),
+        ("n 33 and a literal above n", 1, b"p cnf 33 1\n34 0\n"),
+        ("129 rows", 2, b"p cnf 2 129\n1 0\n"),
+        ("a row fewer than none", 2, b"p cnf 2 -1\n"),
+        ("no rows and one", rowless, b"p cnf 2 0\n1 0\n"),
+        ("no rows and an empty one", rowless, b"p cnf 2 0\n0\n"),
+        ("no rows and no last 0", rowless, b"p cnf 2 0\n1\n"),
+        ("no last 0", 5, b"p cnf 2 1\n1 2\n"),
+        ("nothing", 5, b""),
+        ("n 3", 6, OTHER_N),
+    ] {
+        add(list, &format!("{name} text with {what}"), number, text(k, to.to_vec()));
+    }
+    add(list, &format!("{name} text overlong"), 5, text(k, overlong(base)));
+    add(list, &format!("{name} text overlong with n 33"), 5, text(k, overlong(b"p cnf 33 1\n1 0\n")));
+    if name != "public" {
+        add(list, &format!("{name} text without rows"), 2, text(k, b"p cnf 2 0\n".to_vec()));
+    }
+}
+
+/// The 1, 2 and 5 of each text, then 4 and 6.
+fn read_tables(list: &mut Changes) {
     for (k, name) in NAMES.iter().enumerate() {
-        // a station must have a row; the public table need not, and then no clause may follow
-        let rowless = if k < 2 { 2 } else { 5 };
-        for (what, number, to) in [
-            ("n 33", 1, &b"p cnf 33 1\n1 0\n"[..]),
-            ("n 0", 1, b"p cnf 0 1\n1 0\n"),
-            ("n 0 and no rows", 1, b"p cnf 0 0\n"),
-            ("n 33 and 129 rows", 1, b"p cnf 33 129\n1 0\n"),
-            ("n 33 and a literal above n", 1, b"p cnf 33 1\n34 0\n"),
-            ("129 rows", 2, b"p cnf 2 129\n1 0\n"),
-            ("a row fewer than none", 2, b"p cnf 2 -1\n"),
-            ("no rows and one", rowless, b"p cnf 2 0\n1 0\n"),
-            ("no rows and an empty one", rowless, b"p cnf 2 0\n0\n"),
-            ("no rows and no last 0", rowless, b"p cnf 2 0\n1\n"),
-            ("no last 0", 5, b"p cnf 2 1\n1 2\n"),
-            ("nothing", 5, b""),
-            ("n 3", 6, OTHER_N),
-        ] {
-            add(list, &format!("{name} text with {what}"), number, text(k, to.to_vec()));
-        }
-        add(list, &format!("{name} text overlong"), 5, text(k, overlong(TEXTS[k])));
-        add(list, &format!("{name} text overlong with n 33"), 5, text(k, overlong(b"p cnf 33 1\n1 0\n")));
+        text_at(k, name, TEXTS[k], list);
         add(list, &format!("{name} words short"), 4, cut(3 + k, 1));
         add(list, &format!("{name} no words"), 4, cut(3 + k, 0));
         let others = both(text((k + 1) % 3, OTHER_N.to_vec()), text((k + 2) % 3, OTHER_N.to_vec()));
         add(list, &format!("two texts with n 3, not the {name} one"), 6, others);
-    }
-    for (name, k) in [("left", 0), ("right", 1)] {
-        add(list, &format!("{name} text without rows"), 2, text(k, b"p cnf 2 0\n".to_vec()));
     }
 }
 
@@ -456,6 +476,58 @@ fn late_without_public_rows() -> Change {
     both(no_public_rows(), both(index, entry(5, 0, 1)))
 }
 
+/// The 1, 2 and 5 of both texts and 6, then 17: a row that is no station's, and a text whose n or row count is not its table's.
+fn clause(list: &mut Changes) {
+    for (k, base) in CLAUSE_TEXTS.iter().enumerate() {
+        text_at(3 + k, NAMES[k], base, list);
+    }
+    for (row, whose) in [
+        (0, "none"),
+        (6, "the first public one"),
+        (7, "the last public one"),
+        (8, "past the last"),
+        (256, "0 in a byte"),
+        (261, "5 in a byte"),
+        (65_541, "5 in two bytes"),
+        ((1 << 32) + 5, "5 in a word"),
+        ((1 << 63) + 5, "5 below the last bit"),
+        (u64::MAX, "past all"),
+    ] {
+        add(list, &format!("row {row} ({whose})"), 17, number(4, row));
+    }
+    add(list, "row 6 without public rows", 17, both(no_public_rows(), number(4, 6)));
+    for row in [1, 2, 3, 5] {
+        add(list, &format!("left rows 1, row {row}"), 17, both(number(1, 1), number(4, row)));
+        add(list, &format!("right rows 2, row {row}"), 17, both(number(2, 2), number(4, row)));
+    }
+    add(list, "a left row more", 17, both(number(1, 3), longer(0, &[0b01, 0])));
+    add(list, "a right row more", 17, both(number(2, 4), longer(1, &[0b01, 0])));
+    let split = both(number(1, 1), both(number(2, 4), longer(1, &[0b01, 0])));
+    add(list, "a left row fewer and a right one more", 17, split);
+    // with n 3 rows may have bit 2, so what touches the tables is no second change
+    let wider =
+        || Change { places: [vec![Place::Number(0)], [0, 1, 2].map(Place::Lent).to_vec()].concat(), ..number(0, 3) };
+    add(list, "tables of n 3", 17, wider());
+    add(list, "tables of n 3 with bit 3", 3, both(wider(), word(1, 1, 0b1000)));
+    let [left, right] = [b"p cnf 3 2\n1 2 0\n1 -1 0\n".to_vec(), b"p cnf 3 3\n-1 0 0\n2 -1 0\n".to_vec()];
+    add(list, "both texts with n 3", 17, both(text(3, left), text(4, right)));
+    let [left, right] = CLAUSE_TEXTS;
+    add(list, "the texts exchanged", 17, both(text(3, right.to_vec()), text(4, left.to_vec())));
+    add(list, "the left text twice", 17, text(4, left.to_vec()));
+    add(list, "the right text twice", 17, text(3, right.to_vec()));
+    for (k, to) in [
+        (3, &b"p cnf 2 1\n1 2 0\n"[..]),
+        (3, b"p cnf 2 3\n1 2 0\n1 -1 0\n0"),
+        (4, b"p cnf 2 2\n-1 0 0\n"),
+        (4, b"p cnf 2 4\n-1 0 0\n2 -1 0 0\n"),
+    ] {
+        for row in [1, 5] {
+            let what = format!("{} text \"{}\", row {row}", NAMES[k - 3], to.escape_ascii());
+            add(list, &what, 17, both(text(k, to.to_vec()), number(4, row)));
+        }
+    }
+}
+
 /// A public row count of 0, after which the public words are not looked at.
 fn no_public_rows() -> Change {
     Change { places: vec![Place::Number(3), Place::Lent(2)], ..number(3, 0) }
@@ -546,11 +618,12 @@ fn changes(function: Function) -> Changes {
         Function::Accept | Function::Solve | Function::Index | Function::SolveIndexed => &[sizes, tables],
         Function::Judge => &[],
         Function::Fresh | Function::Answer => &[variables],
-        Function::Step | Function::Unsatisfied => &[sizes, tables, step],
+        Function::Step | Function::Unsatisfied | Function::StepExplained => &[sizes, tables, step],
         Function::CountFree => &[sizes, tables, count_free],
         Function::StepIndexed => &[sizes, tables, step_indexed],
         Function::Replace => &[sizes, tables, replace],
         Function::ReplaceIndexed => &[sizes, tables, replace_indexed],
+        Function::Clause => &[sizes, tables, clause],
         Function::Model => &[model_wanted],
         Function::Generate => &[sizes, generate],
         Function::Pack => &[sizes, tables, pack],
@@ -577,6 +650,7 @@ fn harmless(function: Function) -> Vec<(String, Change)> {
         | Function::Index
         | Function::Unsatisfied
         | Function::SolveIndexed
+        | Function::StepExplained
         | Function::Pack
         | Function::Repeat => vec![
             ("no public rows, and words of some", number(3, 0)),
@@ -616,6 +690,21 @@ fn harmless(function: Function) -> Vec<(String, Change)> {
                 ("words behind the tables", both(longer(0, &[7, u32::MAX]), longer(1, &[7, u32::MAX]))),
             ]
         }
+        Function::Clause => vec![
+            ("no public rows, and words of some", number(3, 0)),
+            ("no public rows, and words that would be refused", both(number(3, 0), word(2, 1, u32::MAX))),
+            ("no public rows and no words", both(number(3, 0), cut(2, 0))),
+            ("the first left row", number(4, 1)),
+            ("the last left row", number(4, 2)),
+            ("the first right row", number(4, 3)),
+            ("an empty row", number(4, 4)),
+            ("the row with a literal more", word(1, 4, 0b11)),
+            ("the row with its signs exchanged", both(word(1, 4, 0b01), word(1, 5, 0b10))),
+            ("the row by another", both(word(1, 4, 0), word(1, 5, 0b10))),
+            ("padding by other padding", both(number(4, 2), both(word(0, 2, 0b11), word(0, 3, 0b11)))),
+            ("another row by another", word(1, 2, 0b10)),
+            ("words behind the tables", both(longer(0, &[7, u32::MAX]), longer(1, &[7, u32::MAX]))),
+        ],
         Function::ReadTables => vec![
             ("no public rows", none()),
             ("no public rows and no words", both(none(), cut(5, 0))),
@@ -629,13 +718,17 @@ fn harmless(function: Function) -> Vec<(String, Change)> {
 // ---- Two changes at once
 
 /// Which of two refusals comes first: the lower number, but 4 before 3, and a new row's 3 last; of texts whatever refuses the left one, then
-/// whatever refuses the right one, then the public one, then 4 and 6.
+/// whatever refuses the right one, then the public one, then 4 and 6. Where tables and texts are lent, the texts' come behind the
+/// tables' 3 and before 6.
 fn order(function: Function, number: u8, change: &Change) -> u8 {
     match (function, number) {
         (Function::ReadTables, 1 | 2 | 5) => {
             let text = (0..3).find(|&k| change.places == [Place::Lent(usize::from(k))]);
             text.expect("one of three texts is refused")
         }
+        (Function::Clause, 1 | 2 | 5) if change.places == [Place::Lent(3)] => 5,
+        (Function::Clause, 1 | 2 | 5) if change.places == [Place::Lent(4)] => 6,
+        (Function::Clause, 6) => 7,
         (Function::Replace | Function::ReplaceIndexed, 3)
             if change.places.iter().any(|place| matches!(place, Place::Number(_))) =>
         {

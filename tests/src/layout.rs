@@ -23,7 +23,7 @@ fn some(random: &mut Random, bytes: &[u8], least: usize) -> Vec<u8> {
 }
 
 #[rustfmt::skip]
-const REMARKS: &[&[u8]] = &[b"c", b"c p cnf 1 1", b"c\t1 0 \r", b"cc \0\xff", b"c 12 -3", b"c-1 0\r1 0", b"c0", b"c\x80\rc\0"];
+pub const REMARKS: &[&[u8]] = &[b"c", b"c p cnf 1 1", b"c\t1 0 \r", b"cc \0\xff", b"c 12 -3", b"c-1 0\r1 0", b"c0", b"c\x80\rc\0"];
 
 /// The same text with remarks where a line may start, at a few of these places or at every one; one may be its last line, and without an LF.
 pub fn remarked(text: &[u8], random: &mut Random) -> Vec<u8> {

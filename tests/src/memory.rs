@@ -50,21 +50,28 @@ pub fn accepted(size: Size, tables: [&[u32]; 3]) -> Result<Vec<Row>, u8> {
     Ok(words.chunks(2).map(|pair| row(pair[0], pair[1])).collect())
 }
 
-/// What T and F make of a row of two words, variable by variable: whether it is satisfied, how many of its literals are free, and the
-/// set of their variables. A free variable in both words is two free literals; one in both T and F is not free.
-pub fn judged([positive, negative, t, f]: [u32; 4]) -> [u64; 3] {
-    let [mut satisfied, mut literals, mut variables] = [0; 3];
-    for v in 0..32 {
+/// What T and F make of a row of two words, variable by variable: whether it is satisfied, how many of its literals are free, the set
+/// of their variables, and the variable to look at, from 1, or 0. A free variable in both words is two free literals; one in both T and
+/// F is not free. From the highest variable down, so that the lowest of a kind is the last one met.
+pub fn judged([positive, negative, t, f]: [u32; 4]) -> [u64; 4] {
+    let [mut literals, mut variables] = [0; 2];
+    let [mut in_both, mut set_right, mut free] = [None; 3];
+    for v in (0..32).rev() {
         let signs = (holds(positive, v), holds(negative, v));
-        if signs == (true, true) || signs.0 && holds(t, v) || signs.1 && holds(f, v) {
-            satisfied = 1;
+        if signs == (true, true) {
+            in_both = Some(v as u64 + 1);
         }
-        if !holds(t, v) && !holds(f, v) {
+        if signs.0 && holds(t, v) || signs.1 && holds(f, v) {
+            set_right = Some(v as u64 + 1);
+        }
+        if (signs.0 || signs.1) && !holds(t, v) && !holds(f, v) {
             literals += u64::from(signs.0) + u64::from(signs.1);
-            variables += u64::from(signs.0 || signs.1) << v;
+            variables += 1 << v;
+            free = Some(v as u64 + 1);
         }
     }
-    [satisfied, literals, variables]
+    let satisfied = u64::from(in_both.is_some() || set_right.is_some());
+    [satisfied, literals, variables, in_both.or(set_right).or(free).unwrap_or(0)]
 }
 
 /// For each literal the set of rows that hold it, six words each: variables 1 to 32, then their negations. Row r from 0 is bit

@@ -1,7 +1,8 @@
 //! Both programs as documents 01 and 02 describe them, in plain Rust and for the tests only. Literals stay numbers and a
 //! state is a list of truth values: nothing of the product's own words, states or readers stands in here.
 
-use std::ops::RangeInclusive;
+use std::cmp::Ordering;
+use std::ops::{Range, RangeInclusive};
 
 pub const TEXT_LIMIT: usize = 65_536;
 pub const LINE_LIMIT: usize = 100;
@@ -182,6 +183,30 @@ pub fn read(text: &[u8], counts: RangeInclusive<u64>) -> Result<Table, u8> {
     Ok(Table { n: n as usize, rows })
 }
 
+/// Where the clauses of a text stand that can be read, each from its first literal through its 0. Header and remarks are made blank,
+/// which moves nothing; then each 0 closes what began behind the one before it.
+pub fn clause_places(text: &[u8]) -> Vec<Range<usize>> {
+    let (mut bare, mut headed) = (vec![], false);
+    for line in text.split_inclusive(|&b| b == b'\n') {
+        let (remark, clauses) = (line[0] == b'c', headed);
+        headed |= !remark;
+        bare.extend(line.iter().map(|&b| if clauses && !remark { b } else { b' ' }));
+    }
+    let (mut places, mut start, mut at) = (vec![], None, 0);
+    for word in bare.split(|&b| separator(b)) {
+        let end = at + word.len();
+        if !word.is_empty() {
+            let first = *start.get_or_insert(at);
+            if word == b"0" {
+                places.push(first..end);
+                start = None;
+            }
+        }
+        at = end + 1;
+    }
+    places
+}
+
 /// One or more digits, at most 2^64 − 1.
 fn unsigned(digits: &[u8]) -> Result<u64, u8> {
     if digits.is_empty() || !digits.iter().all(u8::is_ascii_digit) {
@@ -327,6 +352,30 @@ impl Run {
         } else if let Some(chosen) = lowest {
             self.levels.push((self.values.clone(), chosen));
             self.values[chosen] = Some(true);
+        }
+    }
+
+    /// What the step to `after` tells: rule, row from 1, variable from 1, value. It is read off what the step changed.
+    pub fn told(&self, after: &Run, rows: &[Row]) -> [u64; 4] {
+        let lowest = |free: &[i64]| {
+            let shows = |row: &Row| !self.satisfied(row) && row.iter().filter(|&&l| self.free(l)).eq(free);
+            rows.iter().position(shows).map_or(0, |row| row as u64 + 1)
+        };
+        let last = |run: &Run| run.levels.last().map_or(0, |(_, chosen)| *chosen as u64 + 1);
+        match (self.standing, after.standing) {
+            (Standing::Satisfied | Standing::Refuted, _) => [0; 4],
+            (Standing::Open, Standing::Satisfied) => [1, 0, 0, 0],
+            (Standing::Open, Standing::Refuted) => [3, lowest(&[]), 0, 0],
+            (Standing::Open, Standing::Open) => match after.levels.len().cmp(&self.levels.len()) {
+                Ordering::Less => [2, lowest(&[]), last(self), 0],
+                Ordering::Greater => [5, 0, last(after), 1],
+                Ordering::Equal => {
+                    let v = (0..self.values.len()).find(|&v| self.values[v] != after.values[v]);
+                    let v = v.expect("a step from an open run changes something");
+                    let (number, value) = (v as i64 + 1, after.values[v] == Some(true));
+                    [4, lowest(&[if value { number } else { -number }]), number as u64, u64::from(value)]
+                }
+            },
         }
     }
 
