@@ -5,12 +5,16 @@
  * `make lib` writes the archive to link, target/lib/libforkhemit.a, for x86-64 Linux; it needs C's memcpy and memset and nothing else. docs/GUIDE.md
  * has the calls in the order in which a host makes them, examples/host hosts in C and in Rust.
  *
+ * `make install PREFIX=..` puts this header, archive and shared library there. `pkg-config --cflags --libs forkhemit` then says how to compile
+ * and link, and the guide and the examples stand in share/doc/forkhemit.
+ *
  * Rules for every call
  * - An array, as `uint64_t sizes[4]`, is lent as a pointer: it has at least so many elements. Any other buffer is lent as a pointer and
  *   then its length, counted in elements. Give a pointer that is not null and is aligned for its type, with length 0 too. A buffer that
  *   a call writes may overlap no other buffer of the same call.
  * - The function returns 0 where the call was taken, else one number of forkhemit_refusal_number. On a refusal nothing is written.
  * - A taken call fills an array of numbers whole (a text its front), and the front of a buffer with a length; the rest stays as it was.
+ * - What a call only writes, results and scratch alike, need not be set beforehand, and may be used again for the next call as it is.
  * - No function keeps a pointer, allocates memory or has a state of its own: calls in several threads over different buffers are safe.
  *   forkhemit_evaluate and forkhemit_repeat want about 320 KiB of the caller's stack.
  *
@@ -26,6 +30,21 @@
 
 #include <stddef.h>
 #include <stdint.h>
+
+/* The version, as CHANGES.md numbers it. While the first number is 0, parameters and buffers may change with the second: read there what
+ * did, and compile the host anew. With the third they never change. The shared library's soname has the first two. */
+#define FORKHEMIT_VERSION_MAJOR 0
+#define FORKHEMIT_VERSION_MINOR 7
+#define FORKHEMIT_VERSION_PATCH 0
+/* The same as one number that grows, for #if: 0.7.0 is 700. */
+#define FORKHEMIT_VERSION (FORKHEMIT_VERSION_MAJOR * 10000 + FORKHEMIT_VERSION_MINOR * 100 + FORKHEMIT_VERSION_PATCH)
+
+/* The most bytes that a DIMACS text may have, remarks included: one byte more of a file is all that a host need read. */
+#define FORKHEMIT_TEXT_BYTES 65536
+/* The words of a table of 128 rows, which are enough for any table. */
+#define FORKHEMIT_TABLE_WORDS 256
+/* Bytes that take any one line of the circuit text. */
+#define FORKHEMIT_LINE_BYTES 128
 
 #ifdef __cplusplus
 extern "C" {
@@ -83,9 +102,9 @@ enum forkhemit_verdict {
  * input wires; state wires. The largest, for n = 32 and 384 rows: 880704, 2642112, 27747, 3171. 1, 2. */
 uint8_t forkhemit_sizes(uint64_t n, uint64_t left_rows, uint64_t right_rows, uint64_t public_rows, uint64_t sizes[4]);
 
-/* Reads three DIMACS texts into tables. sizes: n, left rows, right rows, public rows; a public text may have none. 256 words for each
- * table are enough for any texts. The left text's 1, 2 or 5, then the right's, then the public one's, then 4 where a table has too few
- * words for its rows, then 6. */
+/* Reads three DIMACS texts into tables. sizes: n, left rows, right rows, public rows; a public text may have none. FORKHEMIT_TABLE_WORDS
+ * for each table are enough for any texts; a text of more than FORKHEMIT_TEXT_BYTES is 5, whatever it holds. The left text's 1, 2 or 5,
+ * then the right's, then the public one's, then 4 where a table has too few words for its rows, then 6. */
 uint8_t forkhemit_read_tables(const uint8_t *left_text, size_t left_text_length, const uint8_t *right_text, size_t right_text_length,
                               const uint8_t *public_text, size_t public_text_length, uint32_t *left, size_t left_length,
                               uint32_t *right, size_t right_length, uint32_t *public_table, size_t public_length, uint64_t sizes[4]);
@@ -112,7 +131,9 @@ uint8_t forkhemit_step(uint64_t n, uint64_t left_rows, uint64_t right_rows, uint
                        const uint32_t *public_table, size_t public_length, uint32_t run[FORKHEMIT_RUN_WORDS]);
 
 /* A fresh run until it closes or the budget of steps is spent; 2^(n+1) - 1 steps are always enough.
- * answer: steps taken, verdict (forkhemit_verdict), model as a word, 0 without one. 1, 2, 4, 3. */
+ * answer: steps taken, verdict (forkhemit_verdict), model as a word, 0 without one.
+ * Every call begins afresh and keeps nothing. To go on where a budget ended, keep a run of your own, forkhemit_fresh's, and give it more
+ * steps with forkhemit_step or more repeats with forkhemit_repeat: it goes on from where it stands, and the counts add up. 1, 2, 4, 3. */
 uint8_t forkhemit_solve(uint64_t n, uint64_t left_rows, uint64_t right_rows, uint64_t public_rows,
                         const uint32_t *left, size_t left_length, const uint32_t *right, size_t right_length,
                         const uint32_t *public_table, size_t public_length, uint64_t budget, uint64_t answer[3]);
@@ -251,6 +272,8 @@ uint8_t forkhemit_read_back(uint64_t n, const uint8_t *bytes, size_t bytes_lengt
  * gates evaluated, and the next run is read back from the last wires. gates: the circuit, as forkhemit_generate writes it, whether or not
  * there is a repeat. bytes, wires: inputs and all wires of the last repeat; as they were without one.
  * repeated: how many repeats were made, the last mark: 1 if the run is closed, else 0.
+ * Repeats end with the one that closes the run, or when they are as many as `times`; a run that is closed already has none, and its mark is
+ * 1. With mark 0 call again with the same run to go on: the numbers of repeats add up.
  * 1, 2, 4, 3, 7, 10 (bytes for the inputs, wires for inputs and gates), 12, 13. */
 uint8_t forkhemit_repeat(uint64_t n, uint64_t left_rows, uint64_t right_rows, uint64_t public_rows,
                          const uint32_t *left, size_t left_length, const uint32_t *right, size_t right_length,
@@ -261,7 +284,7 @@ uint8_t forkhemit_repeat(uint64_t n, uint64_t left_rows, uint64_t right_rows, ui
 /* ---- texts */
 
 /* bytes: the circuit text's line of a number, from 0, with its LF: four lines, then one a gate. length: its bytes; 0 past the last line.
- * 1, 2, 9, 11. */
+ * FORKHEMIT_LINE_BYTES take any line. 1, 2, 9, 11. */
 uint8_t forkhemit_write_line(uint64_t n, uint64_t left_rows, uint64_t right_rows, uint64_t public_rows,
                              const uint32_t *gates, size_t gates_length, uint64_t line,
                              uint8_t *bytes, size_t bytes_length, uint64_t length[1]);
