@@ -1,18 +1,23 @@
 # make test: proves and tests everything. make run: solves the example. make lib: the library for hosts, target/lib/libforkhemit.a.
+# make install PREFIX=/usr/local: programs, library, header, man pages and documents there (below DESTDIR); make uninstall takes them away.
 # make examples: builds the example hosts and runs them. make bench: compares with other solvers and with plain Rust.
 # make checktime: how long each crate's check takes, from nothing. make pictures: draws docs/pictures anew.
 # make fmt: puts every file in its layout. make fmt-check: says which are not.
-.PHONY: test run lib examples bench checktime pictures fmt fmt-check
+.PHONY: test run lib install uninstall examples bench checktime pictures fmt fmt-check
+# `rt` keeps notes in target: one call at a time.
+.NOTPARALLEL:
 
 test:
 	.ci/run
 
-target/obj/pair.o: crates.txt $(shell find crates -name '*.rt' -o -name '*.antt')
-	rt check pair
+PROGRAMS := pair circuit
+
+$(PROGRAMS:%=target/obj/%.o): target/obj/%.o: crates.txt $(shell find crates -name '*.rt' -o -name '*.antt')
+	rt check $*
 	touch $@
 
 # Linked statically, with the kit's C code that opens files: to load a shared C library takes longer than to solve.
-target/static/pair: target/obj/pair.o
+$(PROGRAMS:%=target/static/%): target/static/%: target/obj/%.o
 	mkdir -p target/static
 	cc -static -o $@ $< $(dir $(shell rt doc))../lib/libos_c.a
 
@@ -31,6 +36,46 @@ target/lib/libforkhemit.a: crates.txt $(shell find crates -name '*.rt' -o -name 
 	for crate in $(HOSTS); do rt staticlib $$crate || exit 1; done
 	mkdir -p target/lib
 	printf '%s\n' 'create $@' $(HOSTS:%='addlib target/staticlib/lib%.a') save end | ar -M
+
+# ---- make install
+
+PREFIX ?= /usr/local
+LIBDIR ?= $(PREFIX)/lib
+# The version stands in the header alone. The soname has its first two numbers: with another second one functions may have changed.
+VERSION := $(shell sed -n 's/^#define FORKHEMIT_VERSION_[A-Z]* //p' include/forkhemit.h | paste -sd.)
+SONAME := libforkhemit.so.$(basename $(VERSION))
+MAN := $(DESTDIR)$(PREFIX)/share/man/man1
+DOC := $(DESTDIR)$(PREFIX)/share/doc/forkhemit
+LIB := $(DESTDIR)$(LIBDIR)
+FILLED := sed -e 's|@VERSION@|$(VERSION)|' -e 's|@PREFIX@|$(PREFIX)|' -e 's|@LIBDIR@|$(LIBDIR)|'
+
+# The archive's code is position independent (`text`) and asks for nothing that C's library has not (`defs`). Without C's start files nothing
+# runs when the library is loaded, and it has no symbol but the functions that hosts call. It lies apart from the archive: of two in one folder
+# a linker takes the shared one.
+target/shared/libforkhemit.so: target/lib/libforkhemit.a include/forkhemit.h
+	mkdir -p target/shared
+	cc -shared -nostartfiles -o $@ -Wl,-soname,$(SONAME),-z,text,-z,defs,-z,now,-z,noexecstack -Wl,--whole-archive $< -Wl,--no-whole-archive
+
+# `pair` and `circuit` are too general as names of commands: there they begin with the product's.
+install: $(PROGRAMS:%=target/static/%) target/lib/libforkhemit.a target/shared/libforkhemit.so
+	install -d $(DESTDIR)$(PREFIX)/bin $(DESTDIR)$(PREFIX)/include $(LIB)/pkgconfig $(MAN) $(DOC)
+	for program in $(PROGRAMS); do \
+	  install -m 755 target/static/$$program $(DESTDIR)$(PREFIX)/bin/forkhemit-$$program && \
+	  $(FILLED) man/forkhemit-$$program.1 | install -m 644 /dev/stdin $(MAN)/forkhemit-$$program.1 || exit 1; \
+	done
+	install -m 644 include/forkhemit.h $(DESTDIR)$(PREFIX)/include
+	install -m 644 target/lib/libforkhemit.a $(LIB)
+	install -m 755 target/shared/libforkhemit.so $(LIB)/libforkhemit.so.$(VERSION)
+	ln -sf libforkhemit.so.$(VERSION) $(LIB)/$(SONAME)
+	ln -sf $(SONAME) $(LIB)/libforkhemit.so
+	$(FILLED) forkhemit.pc.in | install -m 644 /dev/stdin $(LIB)/pkgconfig/forkhemit.pc
+	install -m 644 LICENSE CHANGES.md docs/GUIDE.md $(DOC)
+	find examples -type f -exec install -D -m 644 {} $(DOC)/{} \;
+
+uninstall:
+	rm -f $(PROGRAMS:%=$(DESTDIR)$(PREFIX)/bin/forkhemit-%) $(PROGRAMS:%=$(MAN)/forkhemit-%.1) $(DESTDIR)$(PREFIX)/include/forkhemit.h
+	rm -f $(LIB)/libforkhemit.a $(LIB)/libforkhemit.so $(LIB)/$(SONAME) $(LIB)/libforkhemit.so.$(VERSION) $(LIB)/pkgconfig/forkhemit.pc
+	rm -rf $(DOC)
 
 target/examples/host-c: examples/host/host.c include/forkhemit.h target/lib/libforkhemit.a
 	mkdir -p target/examples

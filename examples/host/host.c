@@ -8,8 +8,8 @@
 #include <stdlib.h>
 #include <string.h>
 
-#define TEXT_LIMIT 65536
-#define ROW_WORDS 256
+#define TEXT_LIMIT FORKHEMIT_TEXT_BYTES
+#define ROW_WORDS FORKHEMIT_TABLE_WORDS
 
 /* A refusal as the pair program prints it, which is an answer too: the status is 0. What was lent is freed as the process ends. */
 static int refused(uint8_t number)

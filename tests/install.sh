@@ -1,0 +1,132 @@
+#!/usr/bin/env bash
+# Tries `make install`: into a folder of its own, where programs, example hosts and man pages are then used as a user would, with nothing of
+# the source tree. The last line counts the trials, `N passed, M failed`. Use: tests/install.sh
+set -uo pipefail
+cd "$(dirname "$0")/.." || exit
+room=$(mktemp -d)
+trap 'rm -rf "$room"' EXIT
+prefix=$room/prefix
+unset PREFIX LIBDIR DESTDIR
+passed=0
+failed=0
+
+fail() {
+    echo "FAILED: $*"
+    failed=$((failed + 1))
+}
+
+end() {
+    echo "$passed passed, $failed failed"
+    [ "$failed" -eq 0 ] && [ "$passed" -gt 0 ]
+    exit
+}
+
+# A trial: the command ends well, else what it said is shown.
+trial() { # WHAT COMMAND..
+    local what=$1
+    shift
+    if "$@" >"$room/log" 2>&1; then
+        echo "$what"
+        passed=$((passed + 1))
+    else
+        fail "$what"
+        sed 's/^/    /' "$room/log"
+    fi
+}
+
+# The command prints this and nothing else.
+prints() { # TEXT COMMAND..
+    local text=$1
+    shift
+    diff <(printf '%s' "${text:+$text$'\n'}") <("$@" 2>&1)
+}
+
+# In the example's folder the program prints the example's answer.
+answers() { # COMMAND..
+    "$@" <budget | diff - answer
+}
+
+# ---- what a file says of itself
+
+declared() { grep -oE 'forkhemit_[a-z_]+\(' "$1" | tr -d '(' | sort -u; }
+exported() { nm -D --defined-only "$1" | awk '{ print $3 }' | sort; }
+wanted() { nm -D --undefined-only "$1" | awk '{ sub(/@.*/, "", $2); print $2 }' | sort; }
+soname() { readelf -d "$1" | sed -n 's/.*soname: \[\(.*\)\]/\1/p'; }
+libraries() { readelf -d "$1" | sed -n 's/.*NEEDED.*\[\(.*\)\]/\1/p'; }
+titled() { sed -n 's/^\.TH [A-Z-]* 1 "" "Forkhemit \([^"]*\)".*/\1/p' "$1"; }
+
+for tool in make cc c++ rustc python3 pkg-config groff nm readelf valgrind; do
+    command -v "$tool" >/dev/null || fail "$tool is missing"
+done
+if [ "$failed" -gt 0 ]; then end; fi
+
+# ---- installed
+
+# whatever the mask, others can read it
+masked() { (umask 077 && make --silent install PREFIX="$prefix"); }
+trial 'installed' masked
+if [ "$failed" -gt 0 ]; then end; fi
+trial 'everybody can read all of it' prints '' find "$prefix" ! -type l ! -perm -o=r -o -type d ! -perm -o=x
+trial 'installed below DESTDIR' make --silent install PREFIX="$prefix" DESTDIR="$room/stage"
+trial 'with the same files' diff -r --no-dereference "$prefix" "$room/stage$prefix"
+trial 'nothing is left to be filled in' prints '' grep -rnI '@[A-Z]*@' "$prefix"
+
+export PKG_CONFIG_LIBDIR=$prefix/lib/pkgconfig PKG_CONFIG_PATH='' LD_LIBRARY_PATH=$prefix/lib
+read -ra compiled < <(pkg-config --cflags forkhemit)
+read -ra linked < <(pkg-config --libs forkhemit)
+library=$(pkg-config --variable=libdir forkhemit)/libforkhemit
+strict=(-Wall -Wextra -Wpedantic -Werror "${compiled[@]}")
+
+# ---- one version
+
+version=$(sed -n 's/^## \([0-9]*\.[0-9]*\.[0-9]*\)\. .*/\1/p' CHANGES.md | head -n 1)
+cat >"$room/version.c" <<'EOF'
+#include <forkhemit.h>
+#include <stdio.h>
+int main(void) { return printf("%d.%d.%d\n", FORKHEMIT_VERSION / 10000, FORKHEMIT_VERSION / 100 % 100, FORKHEMIT_VERSION % 100) < 0; }
+EOF
+trial 'a program that prints the version is built' cc "${strict[@]}" -o "$room/version" "$room/version.c"
+trial "$version in CHANGES.md and in the header" prints "$version" "$room/version"
+trial 'in the pkg-config file' prints "$version" pkg-config --modversion forkhemit
+trial 'in the soname' prints "libforkhemit.so.${version%.*}" soname "$library.so"
+trial "in the shared library's name" cmp "$library.so.${version%.*}" "$library.so.$version"
+for program in forkhemit-pair forkhemit-circuit; do
+    page=$prefix/share/man/man1/$program.1
+    trial "in the page of $program" prints "$version" titled "$page"
+    trial 'which is well-formed' prints '' groff -man -Tutf8 -ww -z "$page"
+done
+
+# ---- the shared library
+
+trial 'it has the functions of the header and no other symbol' prints "$(declared "$prefix/include/forkhemit.h")" exported "$library.so"
+trial "it needs C's library alone" prints libc.so.6 libraries "$library.so"
+trial 'and of that two functions' prints $'memcpy\nmemset' wanted "$library.so"
+cp tests/unset.c "$room"
+trial 'calls over unset buffers are built' cc -std=c11 "${strict[@]}" -o "$room/unset" "$room/unset.c" "${linked[@]}"
+trial 'no unset byte decides anything' valgrind --quiet --error-exitcode=9 "$room/unset"
+
+# ---- programs and hosts, from the installed examples
+
+cd "$prefix/share/doc/forkhemit/examples/harbour" || end
+host=../host/host
+texts=(left.cnf right.cnf public.cnf "$(cat budget)")
+smallest() { echo 1 1 1 0 | "$prefix/bin/forkhemit-circuit" | sed -n 2,3p; }
+trial 'the pair program answers' answers "$prefix/bin/forkhemit-pair"
+trial 'the circuit program prints' prints $'3 2 2 9\n2 9 1' smallest
+trial 'a host in C with the shared library is built' cc -std=c11 "${strict[@]}" -o "$room/shared" $host.c "${linked[@]}"
+trial 'asks for it by its soname' prints "libforkhemit.so.${version%.*}"$'\nlibc.so.6' libraries "$room/shared"
+trial 'and answers' answers "$room/shared" "${texts[@]}"
+trial 'a host in C with the archive is built' cc -std=c11 "${strict[@]}" -static -o "$room/static" $host.c "${linked[@]}"
+trial 'and answers' answers env -u LD_LIBRARY_PATH "$room/static" "${texts[@]}"
+trial 'a host in Rust with the archive is built' rustc --edition 2021 -D warnings -o "$room/rust" $host.rs -L "native=${library%/*}"
+trial 'and answers' answers env -u LD_LIBRARY_PATH "$room/rust" "${texts[@]}"
+trial 'a host in Python answers' answers python3 -B $host.py "${texts[@]}"
+trial 'and is refused a text that is missing' prints $'c refused 5\ns UNKNOWN' python3 -B $host.py none.cnf right.cnf public.cnf 9
+trial 'the header is C++ too' c++ -x c++ "${strict[@]}" -fsyntax-only -include forkhemit.h /dev/null
+cd "$OLDPWD" || end
+
+# ---- taken away
+
+trial 'uninstalled' make --silent uninstall PREFIX="$prefix"
+trial 'with no file left' prints '' find "$prefix" ! -type d
+end
