@@ -4,6 +4,7 @@
 pub mod assumed;
 pub mod bristol;
 pub mod cases;
+pub mod ceilings;
 pub mod circuits;
 pub mod claims;
 pub mod clock;

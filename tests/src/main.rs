@@ -1,6 +1,6 @@
 //! The project's own tests. Use: check CRATES [PROGRAM..]
-//! CRATES is the folder of crates, whose contracts and symbols are looked at, with what their checks said they assume and what the
-//! page of proofs names; each PROGRAM is a compiled program, known by its name,
+//! CRATES is the folder of crates, whose contracts and symbols are looked at, with what their checks said they assume, what the
+//! page of proofs names and how much there is that is hard to read; each PROGRAM is a compiled program, known by its name,
 //! `pair`, `circuit`, `host-c` or `host-rust`. A host is held to the pair program, which must be given too. A `pair` in a folder
 //! `static` is linked statically: nothing can be loaded before it that cuts what it reads into parts, and those tests are left out.
 //! The last line is `N passed, M failed`, and the status 0 where M is 0.
@@ -8,7 +8,7 @@
 use forkhemit_tests::process::{self, Source};
 use forkhemit_tests::report::{self, Tally};
 use forkhemit_tests::{
-    assumed, cases, circuits, claims, contracts, damage, hosts, pictures, published, symbols, tables, ties,
+    assumed, cases, ceilings, circuits, claims, contracts, damage, hosts, pictures, published, symbols, tables, ties,
 };
 use std::path::Path;
 use std::process::ExitCode;
@@ -55,6 +55,7 @@ fn all(arguments: &[String]) -> std::io::Result<Tally> {
     total.add(symbols::run(Path::new(crates))?);
     total.add(assumed::run(Path::new(crates))?);
     total.add(claims::run(Path::new(crates))?);
+    total.add(ceilings::run(Path::new(crates))?);
     let own = Path::new(env!("CARGO_MANIFEST_DIR"));
     total.add(pictures::run(&own.join(".."))?);
     total.add(ties::run(own)?);

@@ -1,5 +1,5 @@
-//! The pictures of folder docs/pictures, drawn from texts: which crate uses which, and which section of the circuit reads
-//! which. Boxes stand in layers, each on one side of all that it uses.
+//! The pictures of folder docs/pictures, drawn from texts: which crate uses which, which section of the circuit reads which, and
+//! who runs what and sees what. Boxes stand in layers, each on one side of all that it uses.
 
 use crate::report::Tally;
 use crate::sections::{self, Section};
@@ -338,23 +338,57 @@ fn crates(text: &str, folder: &Path) -> Vec<Node> {
     own.iter().map(node).chain(kit.iter().map(outside)).collect()
 }
 
+/// What is known to be wrong in a picture's text.
+fn invalid(fault: String) -> std::io::Error {
+    std::io::Error::new(std::io::ErrorKind::InvalidData, fault)
+}
+
+const STATIONS: &str = "docs/pictures/stations.txt";
+
+/// Who runs what: a line a box, with its name, its lines parted by `/`, what it is, and the names of what it reads parted by `;`.
+fn stations(text: &str) -> Result<Vec<Node>, String> {
+    let node = |line: &str| match line.split('|').map(str::trim).collect::<Vec<&str>>()[..] {
+        [name, lines, kind, reads] => {
+            let fill = match kind {
+                "data" => LIBRARY,
+                "program" => PROGRAM,
+                "outside" => KIT,
+                _ => return Err(format!("{line:?}: {kind:?} is no kind of box")),
+            };
+            let parts = |text: &str, sign| text.split(sign).map(|part| part.trim().into()).collect();
+            let uses = if reads.is_empty() { vec![] } else { parts(reads, ';') };
+            Ok(Node { name: name.into(), lines: parts(lines, '/'), fill, uses })
+        }
+        _ => Err(format!("{line:?} is no box")),
+    };
+    let boxes = text.lines().filter(|line| !line.is_empty() && !line.starts_with('#')).map(node);
+    let boxes: Vec<Node> = boxes.collect::<Result<_, _>>()?;
+    let missing = boxes.iter().flat_map(|node| &node.uses).find(|name| !boxes.iter().any(|node| node.name == **name));
+    missing.map_or(Ok(()), |name| Err(format!("there is no box {name:?}")))?;
+    Ok(boxes)
+}
+
 /// The circuit's sections as their text lists them.
 fn circuit(root: &Path) -> std::io::Result<Vec<Section>> {
     let circuit = sections::read(&fs::read_to_string(root.join(sections::SOURCE))?);
-    circuit.map_err(|fault| std::io::Error::new(std::io::ErrorKind::InvalidData, fault))
+    circuit.map_err(invalid)
 }
 
 /// Each picture's file and what it should hold.
 pub fn all(root: &Path) -> std::io::Result<Vec<(&'static str, String)>> {
     let crates_text = fs::read_to_string(root.join("crates.txt"))?;
     let circuit = circuit(root)?;
+    let stations = stations(&fs::read_to_string(root.join(STATIONS))?).map_err(invalid)?;
     let crates = crates(&crates_text, &root.join("crates"));
     let uses = "Who uses whom: an arrow points to what a crate uses; programs are orange";
     let flow = "The circuit's sections for n variables and m rows (b binary digits of n − 1, s the sum of n − 1 divided by 2^d over them, h = m divided by 2): \
                 arrows go from a section to those that read it";
+    let seen = "A drill, where one desk sees every table, and two stations that see only their own: these need a secure back end \
+                (grey: not included)";
     Ok(vec![
         ("docs/pictures/crates.svg", draw(uses, "crates.txt", &crates, Way::Uses)),
         ("docs/pictures/circuit.svg", draw(flow, sections::SOURCE, &sections::nodes(&circuit), Way::Flow)),
+        ("docs/pictures/stations.svg", draw(seen, STATIONS, &stations, Way::Flow)),
     ])
 }
 
