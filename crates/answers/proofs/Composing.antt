@@ -1,5 +1,4 @@
 -- An answer's pieces, put together: literals one by one, and how long the whole is. By induction on the variables.
--- Assumes nothing.
 use mathlib.Core.Path.{_≡_, sym, ap, _∙_}
 use mathlib.Core.Bool.{Bool, true, false}
 use mathlib.Core.List.{[], _++_, append-assoc}
@@ -58,7 +57,12 @@ literals-length : (k i model : ℕ) → i + k ≤ 32 → length (literals k i mo
 unfolding literals
 literals-length zero i model h = zero-le
 literals-length (suc k) i model h =
-    omega (arith, length-append (literal (i + 1) (bit model i)) (literals k (suc i) model), literal-length (i + 1) (bit model i) (omega arith), literals-length k (suc i) model (omega arith))
+    omega (
+      arith,
+      length-append (literal (i + 1) (bit model i)) (literals k (suc i) model),
+      literal-length (i + 1) (bit model i) (omega arith),
+      literals-length k (suc i) model (omega arith),
+    )
 
 verdict-length : (n : ℕ) (v : Verdict) → n ≤ 32 → length (verdictText n v) ≤ 160
 verdict-length n (Satisfiable model) h = simp length-append (omega (arith, literals-length n 0 model (omega arith)))

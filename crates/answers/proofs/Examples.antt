@@ -1,5 +1,4 @@
 -- Answers of document 01, computed.
--- Assumes nothing.
 use mathlib.Core.Path.{_≡_, refl}
 use Rattle.words.specs.Sets.{bit}
 use Rattle.refusals.specs.declared.Refusal.the-variants.{TextsDiffer}

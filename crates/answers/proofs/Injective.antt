@@ -1,6 +1,5 @@
 -- Nothing is lost in print: two printed texts of the same n are equal only if count, verdict and model are, or the refusals are.
 -- A number ends at its LF, so the texts part into the same pieces; literals go one by one.
--- Assumes nothing.
 use mathlib.Core.Path.{_≡_, refl, sym, ap, _∙_, subst}
 use mathlib.Core.Bool.{Bool, true, false, false≢true}
 use mathlib.Core.List.{List, [], _∷_, _++_, append-assoc, append-cancel-left}
@@ -114,8 +113,10 @@ answer-injective n a b wa wb e =
   where
     parts : (decimal (a .count) ≡ decimal (b .count)) × (_≡_ {A = ℕ} 10 10) × (verdictText n (a .verdict) ≡ verdictText n (b .verdict))
     parts =
-        field-split (decimal (a .count)) (decimal (b .count)) 10 10 (verdictText n (a .verdict)) (verdictText n (b .verdict)) (decimal-plain (a .count)) (decimal-plain (b .count)) refl refl
-        (append-cancel-left (bytes "c steps ") (decimal (a .count) ++ (10 ∷ verdictText n (a .verdict))) (decimal (b .count) ++ (10 ∷ verdictText n (b .verdict)))
+        field-split (decimal (a .count)) (decimal (b .count)) 10 10 (verdictText n (a .verdict)) (verdictText n (b .verdict)) (decimal-plain (a .count))
+        (decimal-plain (b .count)) refl refl
+        (append-cancel-left (bytes "c steps ") (decimal (a .count) ++ (10 ∷ verdictText n (a .verdict)))
+        (decimal (b .count) ++ (10 ∷ verdictText n (b .verdict)))
         (sym (answer-spread n a) ∙ e ∙ answer-spread n b))
 
 -- every answer of the budgeted run is so
@@ -144,11 +145,13 @@ unfolding refusalText
 refusal-spread r = simp append-assoc
 
 pub refusal-injective : (q r : Refusal) → refusalText q ≡ refusalText r → q ≡ r
-refusal-injective q r e = number-injective q r (decimal-injective (numberOf q) (numberOf r) (omega (arith, number-lt q)) (omega (arith, number-lt r)) (parts .0))
+refusal-injective q r e =
+    number-injective q r (decimal-injective (numberOf q) (numberOf r) (omega (arith, number-lt q)) (omega (arith, number-lt r)) (parts .0))
   where
     parts : (decimal (numberOf q) ≡ decimal (numberOf r)) × (_≡_ {A = ℕ} 10 10) × (bytes "s UNKNOWN\n" ≡ bytes "s UNKNOWN\n")
     parts =
-        field-split (decimal (numberOf q)) (decimal (numberOf r)) 10 10 (bytes "s UNKNOWN\n") (bytes "s UNKNOWN\n") (decimal-plain (numberOf q)) (decimal-plain (numberOf r)) refl refl
+        field-split (decimal (numberOf q)) (decimal (numberOf r)) 10 10 (bytes "s UNKNOWN\n") (bytes "s UNKNOWN\n") (decimal-plain (numberOf q))
+        (decimal-plain (numberOf r)) refl refl
         (append-cancel-left (bytes "c refused ") (decimal (numberOf q) ++ (10 ∷ bytes "s UNKNOWN\n")) (decimal (numberOf r) ++ (10 ∷ bytes "s UNKNOWN\n"))
         (sym (refusal-spread q) ∙ e ∙ refusal-spread r))
 

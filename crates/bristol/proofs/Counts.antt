@@ -1,6 +1,5 @@
 -- What the two numbers of an answer say to a host: the lines are within the bytes, at least one while there is one, and no more than there are. By
 -- what the checks found.
--- Assumes nothing.
 use mathlib.Core.Path.{_≡_, refl, ap, sym, _∙_}
 use mathlib.Core.Bool.{Bool, true, false}
 use mathlib.Core.List.{List, flatten}
@@ -50,5 +49,6 @@ module _ (d : Dimensions) (ws : List ℕ) (i : ℕ) (lent : List ℕ) (k n : ℕ
   pub lines-few : i < 4 + length ws / 3 → i + k ≤ 4 + length ws / 3
   lines-few h =
       let ls = drop i (linesOf d (gatesOf ws)) in
-      let front : k ≡ min k (length ls) = answered .count ∙ ap length (fitting-front (length lent) ls) ∙ length-take (length (linesAt d ws i lent)) ls ∙ ap (λ (x : ℕ). min x (length ls)) (sym (answered .count)) in
+      let front : k ≡ min k (length ls) = answered .count ∙ ap length (fitting-front (length lent) ls) ∙ length-take (length (linesAt d ws i lent)) ls
+      ∙ ap (λ (x : ℕ). min x (length ls)) (sym (answered .count)) in
       omega (arith, front, number, length-drop i (linesOf d (gatesOf ws)))

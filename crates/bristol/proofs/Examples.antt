@@ -1,5 +1,4 @@
 -- Whole texts, computed, without public rows and with them, and the lines of one that fit.
--- Assumes nothing.
 use mathlib.Core.Path.{_≡_, refl}
 use mathlib.Core.List.{[], _∷_, flatten}
 use Rattle.lexer.specs.Spelling.{bytes}

@@ -1,6 +1,5 @@
 -- Lines put one behind the other: those that are put, and those that still fit behind them, are those that fit from the first on. Each turn unfolds
 -- `fitting` once.
--- Assumes nothing.
 use mathlib.Core.Path.{_≡_, refl, sym, ap, ap₂, _∙_, subst}
 use mathlib.Core.Bool.{Bool, true, false}
 use mathlib.Core.List.{List, [], _∷_, _++_, append-assoc, append-nil, flatten}
@@ -51,7 +50,8 @@ module _ (ls : List (List ℕ)) (lent : List ℕ) (line : ℕ) where
 
   module _ (bytes : List ℕ) (next at : ℕ) (p : Put ls lent line bytes next at) where
     -- one line more, written over the bytes behind those that are put
-    module _ (l out : List ℕ) (h : next < length ls) (e : getD ls next [] ≡ l) (f : length l ≤ length (drop at bytes)) (o : out ≡ take at bytes ++ over l (drop at bytes)) where
+    module _ (l out : List ℕ) (h : next < length ls) (e : getD ls next [] ≡ l) (f : length l ≤ length (drop at bytes))
+        (o : out ≡ take at bytes ++ over l (drop at bytes)) where
       room : at + length l ≤ length lent
       room = omega (arith, length-drop at bytes, p .same, p .inside)
 
@@ -73,7 +73,15 @@ module _ (ls : List (List ℕ)) (lent : List ℕ) (line : ℕ) where
       one-more = record {
         after = omega (arith, p .after);
         inside = room;
-        same = ap length split ∙ omega (arith, length-append (take at bytes ++ l) (drop (length l) (drop at bytes)), front, length-drop (length l) (drop at bytes), length-drop at bytes, p .same, room);
+        same = ap length split ∙ omega (
+          arith,
+          length-append (take at bytes ++ l) (drop (length l) (drop at bytes)),
+          front,
+          length-drop (length l) (drop at bytes),
+          length-drop at bytes,
+          p .same,
+          room,
+        );
         counted = omega (arith, p .counted, p .after, ap length more);
         text =
             ap (λ (x : List ℕ). x ++ flatten (fitting (length lent - (at + length l)) (drop (suc next) ls)))
@@ -118,7 +126,8 @@ module _ (d : Dimensions) (ws : List ℕ) (e : outcome (circuitChecks d ws) ≡ 
   pub line-last : OneOf (1 ∷ (2 ∷ [])) (tagOf the-type r)
       → (putMid at (length bytes - at) bytes out ≡ bytes) × (fitting (length lent - at) (drop next (linesOf d (gatesOf ws))) ≡ [])
   line-last t =
-      let q = not-put d ws next (drop at bytes) e h (subst (λ (x : Written). OneOf (1 ∷ (2 ∷ [])) (tagOf the-type x)) (hr ∙ ap (written d ws next) (lent-part bytes at)) t) in (
+      let q = not-put d ws next (drop at bytes) e h
+      (subst (λ (x : Written). OneOf (1 ∷ (2 ∷ [])) (tagOf the-type x)) (hr ∙ ap (written d ws next) (lent-part bytes at)) t) in (
         put-back bytes at out ∙ ap (λ (x : List ℕ). take at bytes ++ x) (ho ∙ ap (filled d ws next) (lent-part bytes at) ∙ q .1) ∙ take-append-drop at bytes,
         fitting-none (linesOf d (gatesOf ws)) next (length lent - at) h (omega (arith, length-drop at bytes, p .same, q .0)),
       )
@@ -129,12 +138,22 @@ module _ (d : Dimensions) (ws : List ℕ) (e : outcome (circuitChecks d ws) ≡ 
     (p : Put (linesOf d (gatesOf ws)) lent line bytes next at) (z : fitting (length lent - at) (drop next (linesOf d (gatesOf ws))) ≡ []) where
   -- a first line that there is and that has no room: none is put
   long-first : line < length (linesOf d (gatesOf ws)) → ltb (length lent) (length (lineAt d ws line)) ≡ true → next ≡ line
-  long-first h q = omega (arith, p .after, put-count (linesOf d (gatesOf ws)) lent line bytes next at p z, ap length (fitting-none (linesOf d (gatesOf ws)) line (length lent) h (ltb-true _ _ q)))
+  long-first h q = omega (
+    arith,
+    p .after,
+    put-count (linesOf d (gatesOf ws)) lent line bytes next at p z,
+    ap length (fitting-none (linesOf d (gatesOf ws)) line (length lent) h (ltb-true _ _ q)),
+  )
 
-  pub lines-put : (next ≡ line → length (linesOf d (gatesOf ws)) ≤ line) → (lines.Lines (next - line) at ≡ writtenLines d ws line lent) × (bytes ≡ filledLines d ws line lent)
+  pub lines-put : (next ≡ line → length (linesOf d (gatesOf ws)) ≤ line) → (lines.Lines (next - line) at ≡ writtenLines d ws line lent)
+      × (bytes ≡ filledLines d ws line lent)
   lines-put some =
-      let q = lines-by-room d ws line lent e false (fits (ltb (length lent) (length (lineAt d ws line))) refl (ltb line (length (linesOf d (gatesOf ws)))) refl) in
-      (ap₂ lines.Lines (put-count (linesOf d (gatesOf ws)) lent line bytes next at p z) (put-length (linesOf d (gatesOf ws)) lent line bytes next at p z) ∙ sym (q .0), put-bytes (linesOf d (gatesOf ws)) lent line bytes next at p z ∙ sym (q .1))
+      let q = lines-by-room d ws line lent e false
+      (fits (ltb (length lent) (length (lineAt d ws line))) refl (ltb line (length (linesOf d (gatesOf ws)))) refl) in (
+        ap₂ lines.Lines (put-count (linesOf d (gatesOf ws)) lent line bytes next at p z) (put-length (linesOf d (gatesOf ws)) lent line bytes next at p z)
+            ∙ sym (q .0),
+        put-bytes (linesOf d (gatesOf ws)) lent line bytes next at p z ∙ sym (q .1),
+      )
     where
       fits : (b : Bool) → ltb (length lent) (length (lineAt d ws line)) ≡ b → (c : Bool) → ltb line (length (linesOf d (gatesOf ws))) ≡ c
           → ltb (length lent) (length (lineAt d ws line)) ≡ false
@@ -144,7 +163,8 @@ module _ (d : Dimensions) (ws : List ℕ) (e : outcome (circuitChecks d ws) ≡ 
           let none : lineAt d ws line ≡ [] = List·getD-eq-default (linesOf d (gatesOf ws)) [] (ltb-false _ _ r) in
           absurd (omega (arith, ltb-true (length lent) (length (lineAt d ws line)) q, ap length none))
 
-  pub lines-refused : line < length (linesOf d (gatesOf ws)) → next ≡ line → (lines.Refused LineBuffer ≡ writtenLines d ws line lent) × (bytes ≡ filledLines d ws line lent)
+  pub lines-refused : line < length (linesOf d (gatesOf ws)) → next ≡ line → (lines.Refused LineBuffer ≡ writtenLines d ws line lent)
+      × (bytes ≡ filledLines d ws line lent)
   unfolding flatten
   lines-refused h none =
       let q = lines-by-room d ws line lent e true (long (ltb (length lent) (length (lineAt d ws line))) refl) in
@@ -153,7 +173,12 @@ module _ (d : Dimensions) (ws : List ℕ) (e : outcome (circuitChecks d ws) ≡ 
       long : (b : Bool) → ltb (length lent) (length (lineAt d ws line)) ≡ b → ltb (length lent) (length (lineAt d ws line)) ≡ true
       long true q = q
       long false q =
-          absurd (omega (arith, none, put-count (linesOf d (gatesOf ws)) lent line bytes next at p z, ap length (fitting-next (linesOf d (gatesOf ws)) line (length lent) h (ltb-false _ _ q))))
+          absurd (omega (
+            arith,
+            none,
+            put-count (linesOf d (gatesOf ws)) lent line bytes next at p z,
+            ap length (fitting-next (linesOf d (gatesOf ws)) line (length lent) h (ltb-false _ _ q)),
+          ))
 
       empty : linesAt d ws line lent ≡ []
       empty = fitting-none (linesOf d (gatesOf ws)) line (length lent) h (ltb-true _ _ (long (ltb (length lent) (length (lineAt d ws line))) refl))

@@ -1,5 +1,4 @@
 -- The lines that fit are the longest front of the lines whose bytes have room. By induction on the lines.
--- Assumes nothing.
 use mathlib.Core.Path.{_≡_, refl, sym, ap, _∙_, subst}
 use mathlib.Core.Bool.{Bool, true, false, cond}
 use mathlib.Core.List.{List, [], _∷_, flatten}

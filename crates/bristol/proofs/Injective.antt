@@ -1,5 +1,4 @@
 -- The text determines gates and dimensions: nothing is lost on the way to the back end. Each of its lines parts from what follows; the gates by induction.
--- Assumes nothing.
 use mathlib.Core.Path.{_≡_, refl, sym, ap, ap₂, subst, _∙_}
 use mathlib.Core.Bool.{true}
 use mathlib.Core.List.{List, [], _∷_, _++_, tail-eq-of-cons-eq, flatten}
@@ -36,7 +35,8 @@ unfolding circuitText linesOf flatten
 header-split d e fs gs h =
     let s : List ℕ = 10 ∷ flatten (gateLines (inputWires d) fs) in
     let t : List ℕ = 10 ∷ flatten (gateLines (inputWires e) gs) in
-    let sizes = size-split (length fs) (inputWires d + length fs) (length gs) (inputWires e + length gs) (inputLine d ++ (outputLine d ++ s)) (inputLine e ++ (outputLine e ++ t)) h in
+    let sizes = size-split (length fs) (inputWires d + length fs) (length gs) (inputWires e + length gs) (inputLine d ++ (outputLine d ++ s)) (inputLine e
+    ++ (outputLine e ++ t)) h in
     let inputs = input-split d e (outputLine d ++ s) (outputLine e ++ t) sizes in
     (inputs .0, tail-eq-of-cons-eq (output-split d e s t (inputs .1)))
 
@@ -55,7 +55,8 @@ words-injective d us ws h k p q e =
     sym (words-gates m us p) ∙ ap wordsOf same ∙ words-gates m ws q
 
 -- the text determines the dimensions as well
-pub circuit-injective : (d e : Dimensions) (us ws : List ℕ) → Within d → Within e → inputWires d + length us / 3 ≤ 2 ^ 64 → inputWires e + length ws / 3 ≤ 2 ^ 64
+pub circuit-injective : (d e : Dimensions) (us ws : List ℕ) → Within d → Within e → inputWires d + length us / 3 ≤ 2 ^ 64
+    → inputWires e + length ws / 3 ≤ 2 ^ 64
     → accepted (inputWires d) us ≡ true → accepted (inputWires e) ws ≡ true → circuitText d (gatesOf us) ≡ circuitText e (gatesOf ws) → (d ≡ e) × (us ≡ ws)
 circuit-injective d e us ws wd we h k p q t =
     let same : d ≡ e = dimensions-injective d e wd we (header-split d e (gatesOf us) (gatesOf ws) t .0) in

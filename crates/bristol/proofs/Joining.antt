@@ -1,7 +1,6 @@
 -- The writer's lines in order are the text: asked from the first line on, each time with room for a line, and each time from where the last request
 -- ended, it leaves in front of the lent bytes what joins to the text, and past the last line nothing. By induction on the requests, once for both
 -- entries. With room for the whole text one request puts it.
--- Assumes nothing.
 use mathlib.Core.Path.{_≡_, refl, sym, ap, ap₂, _∙_}
 use mathlib.Core.Bool.{Bool, true, false, cond}
 use mathlib.Core.List.{List, [], _∷_, _++_, append-assoc, append-nil, flatten}
@@ -59,7 +58,8 @@ module _ (ls : List (List ℕ)) (put : ℕ → List ℕ) (count : ℕ → ℕ)
 -- ---- a line a request
 
 -- the lent bytes have room for the line that is asked
-module _ (d : Dimensions) (ws : List ℕ) (e : outcome (circuitChecks d ws) ≡ Taken) (lent : ℕ → List ℕ) (room : (i : ℕ) → length (lineAt d ws i) ≤ length (lent i)) where
+module _ (d : Dimensions) (ws : List ℕ) (e : outcome (circuitChecks d ws) ≡ Taken) (lent : ℕ → List ℕ)
+    (room : (i : ℕ) → length (lineAt d ws i) ≤ length (lent i)) where
   fits : (i : ℕ) → ltb (length (lent i)) (length (lineAt d ws i)) ≡ false
   fits i = le-ltb (length (lent i)) (length (lineAt d ws i)) (room i)
 
@@ -67,7 +67,8 @@ module _ (d : Dimensions) (ws : List ℕ) (e : outcome (circuitChecks d ws) ≡ 
   unfolding flatten
   one-line i = go (ltb i (length (linesOf d (gatesOf ws)))) refl
     where
-      go : (b : Bool) → ltb i (length (linesOf d (gatesOf ws))) ≡ b → front (written d ws i (lent i)) (filled d ws i (lent i)) ≡ flatten (take 1 (drop i (linesOf d (gatesOf ws))))
+      go : (b : Bool) → ltb i (length (linesOf d (gatesOf ws))) ≡ b → front (written d ws i (lent i)) (filled d ws i (lent i))
+          ≡ flatten (take 1 (drop i (linesOf d (gatesOf ws))))
       go true q =
           let p = line-put d ws i (lent i) e (ltb-true _ _ q) in
           ap₂ front
@@ -112,15 +113,18 @@ fronts (lines.Refused r) bytes = []
 
 -- the fronts of k requests, each from behind the lines that the last one put, each with lent bytes of its own
 abbrev pub requestedLines : Dimensions → List ℕ → (ℕ → List ℕ) → ℕ → ℕ → List ℕ
-requestedLines d ws lent i k = asked (λ j. fronts (writtenLines d ws j (lent j)) (filledLines d ws j (lent j))) (λ j. counted (writtenLines d ws j (lent j))) i k
+requestedLines d ws lent i k = asked (λ j. fronts (writtenLines d ws j (lent j)) (filledLines d ws j (lent j)))
+    (λ j. counted (writtenLines d ws j (lent j))) i k
 
 -- lent bytes that take the line from which they are asked
-module _ (d : Dimensions) (ws : List ℕ) (e : outcome (circuitChecks d ws) ≡ Taken) (lent : ℕ → List ℕ) (room : (i : ℕ) → length (lineAt d ws i) ≤ length (lent i)) where
+module _ (d : Dimensions) (ws : List ℕ) (e : outcome (circuitChecks d ws) ≡ Taken) (lent : ℕ → List ℕ)
+    (room : (i : ℕ) → length (lineAt d ws i) ≤ length (lent i)) where
   given-lines : (i : ℕ) → (writtenLines d ws i (lent i) ≡ lines.Lines (length (linesAt d ws i (lent i))) (length (flatten (linesAt d ws i (lent i)))))
       × (filledLines d ws i (lent i) ≡ over (flatten (linesAt d ws i (lent i))) (lent i))
   given-lines i = lines-by-room d ws i (lent i) e false (le-ltb (length (lent i)) (length (lineAt d ws i)) (room i))
 
-  some-lines : (i : ℕ) → fronts (writtenLines d ws i (lent i)) (filledLines d ws i (lent i)) ≡ flatten (take (counted (writtenLines d ws i (lent i))) (drop i (linesOf d (gatesOf ws))))
+  some-lines : (i : ℕ) → fronts (writtenLines d ws i (lent i)) (filledLines d ws i (lent i))
+      ≡ flatten (take (counted (writtenLines d ws i (lent i))) (drop i (linesOf d (gatesOf ws))))
   some-lines i =
       let p = given-lines i in
       ap₂ fronts (p .0) (p .1) ∙ take-append-seam (flatten (linesAt d ws i (lent i))) (drop (length (flatten (linesAt d ws i (lent i)))) (lent i))
@@ -134,7 +138,8 @@ module _ (d : Dimensions) (ws : List ℕ) (e : outcome (circuitChecks d ws) ≡ 
   pub lines-join : (k : ℕ) → 4 + length ws / 3 ≤ k → requestedLines d ws lent 0 k ≡ circuitText d (gatesOf ws)
   unfolding circuitText
   lines-join k h =
-      asked-join (linesOf d (gatesOf ws)) (λ j. fronts (writtenLines d ws j (lent j)) (filledLines d ws j (lent j))) (λ j. counted (writtenLines d ws j (lent j)))
+      asked-join (linesOf d (gatesOf ws)) (λ j. fronts (writtenLines d ws j (lent j)) (filledLines d ws j (lent j)))
+      (λ j. counted (writtenLines d ws j (lent j)))
       some-lines one-at-least 0 k (omega (arith, taken-lines d ws e))
 
   -- and past the last line none is put
@@ -148,7 +153,8 @@ module _ (d : Dimensions) (ws : List ℕ) (e : outcome (circuitChecks d ws) ≡ 
 
 -- ---- lent bytes that take the whole text: one request puts it
 
-module _ (d : Dimensions) (ws : List ℕ) (e : outcome (circuitChecks d ws) ≡ Taken) (lent : List ℕ) (room : length (circuitText d (gatesOf ws)) ≤ length lent) where
+module _ (d : Dimensions) (ws : List ℕ) (e : outcome (circuitChecks d ws) ≡ Taken) (lent : List ℕ)
+    (room : length (circuitText d (gatesOf ws)) ≤ length lent) where
   first-fits : length (lineAt d ws 0) ≤ length lent
   unfolding circuitText linesOf flatten
   first-fits = omega (arith, room, length-append (lineAt d ws 0) (flatten (drop 1 (linesOf d (gatesOf ws)))))

@@ -1,5 +1,4 @@
 -- The lines by their numbers: how many there are, and the line of each gate. By induction on the gates.
--- Assumes nothing.
 use mathlib.Core.Path.{_≡_, refl, sym, ap, _∙_}
 use mathlib.Core.Bool.{true}
 use mathlib.Core.List.{List, [], _∷_}
@@ -71,7 +70,8 @@ lines-length d gs (suc (suc (suc (suc i)))) = gate-lines-length (inputWires d) g
 
 -- ---- the lines of a number
 
-pub lines-first : (d : Dimensions) (ws : List ℕ) (i : ℕ) → accepted (inputWires d) ws ≡ true → i ≡ 0 → lineAt d ws i ≡ sizeLine (length ws / 3) (inputWires d + length ws / 3)
+pub lines-first : (d : Dimensions) (ws : List ℕ) (i : ℕ) → accepted (inputWires d) ws ≡ true → i ≡ 0 → lineAt d ws i
+    ≡ sizeLine (length ws / 3) (inputWires d + length ws / 3)
 unfolding linesOf
 lines-first d ws i a e =
     let count : length (gatesOf ws) ≡ length ws / 3 = omega (arith, accepted-length (inputWires d) ws a) in

@@ -1,5 +1,4 @@
 -- A part of a list that runs to its end: what is lent and what comes back, by the lengths.
--- Assumes nothing.
 use mathlib.Core.Path.{_≡_, ap, _∙_}
 use mathlib.Core.List.{List, [], _++_, append-nil}
 use Prim.Native.Nat.{ℕ, _-_, _≤_}

@@ -1,5 +1,4 @@
 -- What asking for a line gives, by what its checks find: each law computes the list of checks.
--- Assumes nothing.
 use mathlib.Core.Path.{_≡_, refl, sym, ap, subst, _∙_}
 use mathlib.Core.Bool.{Bool, true, false, not, cond}
 use mathlib.Core.List.{List, [], _∷_, _++_, flatten}
@@ -28,7 +27,8 @@ use Rattle.bristol.specs.declared.Written.the-variants as W
 use Rattle.bristol.specs.declared.WrittenLines.{WrittenLines}
 use Rattle.bristol.specs.declared.WrittenLines.the-variants as lines
 use Rattle.bristol.specs.Text.{linesOf}
-use Rattle.bristol.specs.Writing.{circuitChecks, lineAt, checks, written, lineCode, lineNumbers, filled, linesAt, writtenLines, linesCode, linesNumbers, filledLines}
+use Rattle.bristol.specs.Writing.{circuitChecks, lineAt, checks, written, lineCode, lineNumbers, filled, linesAt, writtenLines, linesCode, linesNumbers}
+use Rattle.bristol.specs.Writing.{filledLines}
 use Rattle.bristol.proofs.Written.{the-type}
 use Rattle.bristol.proofs.Numbering.{lines-of-words}
 
@@ -85,7 +85,14 @@ module _ (d : Dimensions) (ws : List ℕ) where
       pub with-line : (r : Written) → (r ≡ written d ws i lent) × (out ≡ filled d ws i lent)
           → (r ≡ written d ws i lent)
           × ((out ≡ filled d ws i lent) × (lineCode r ∷ lineNumbers r ≡ said (outcome (checks d ws i lent)) (length (lineAt d ws i) ∷ [])))
-      with-line r p = (p .0, (p .1, ap says (p .0) ∙ given-said says (outcome (checks d ws i lent)) (at (ltb i all)) W.Refused _ (go (ltb i all) refl) (λ q. refl)))
+      with-line r p = (
+        p .0,
+        (
+          p .1,
+          ap says (p .0) ∙ given-said says (outcome (checks d ws i lent)) (at (ltb i all)) W.Refused _
+              (go (ltb i all) refl) (λ q. refl),
+        ),
+      )
         where
           says : Written → List ℕ
           says x = lineCode x ∷ lineNumbers x
@@ -105,8 +112,14 @@ module _ (d : Dimensions) (ws : List ℕ) where
           × ((out ≡ filledLines d ws i lent)
           × (linesCode r ∷ linesNumbers r ≡ said (outcome (checks d ws i lent)) (length (linesAt d ws i lent) ∷ (length (flatten (linesAt d ws i lent)) ∷ []))))
       with-lines r p =
-          let says : WrittenLines → List ℕ = λ x. linesCode x ∷ linesNumbers x in
-          (p .0, (p .1, ap says (p .0) ∙ given-said says (outcome (checks d ws i lent)) (lines.Lines (length (linesAt d ws i lent)) (length (flatten (linesAt d ws i lent)))) lines.Refused _ refl (λ q. refl)))
+          let says : WrittenLines → List ℕ = λ x. linesCode x ∷ linesNumbers x in (
+            p .0,
+            (
+              p .1,
+              ap says (p .0) ∙ given-said says (outcome (checks d ws i lent))
+                  (lines.Lines (length (linesAt d ws i lent)) (length (flatten (linesAt d ws i lent)))) lines.Refused _ refl (λ q. refl),
+            ),
+          )
 
     module _ (q : Refusal) (e : outcome (circuitChecks d ws) ≡ Refused q) where
       refused : outcome (checks d ws i lent) ≡ Refused q

@@ -1,4 +1,5 @@
--- What the writer gives when a line, or the lines from one on, are asked for, and what it leaves in the lent bytes: document 01, "Circuit", refusals 1, 2, 9 and 11.
+-- What the writer gives when a line, or the lines from one on, are asked for, and what it leaves in the lent bytes: document 01, "Circuit",
+-- refusals 1, 2, 9 and 11.
 use Prim.Native.Nat.{ℕ, zero, suc, _-_}
 use mathlib.Core.Bool.{not, cond}
 use mathlib.Core.List.{List, [], _∷_, _++_, flatten}
@@ -75,7 +76,8 @@ linesAt d words number lent = fitting (length lent) (drop number (linesOf d (gat
 -- how many they are and how many bytes they take, or the line writer's refusal
 abbrev pub writtenLines : Dimensions → List ℕ → ℕ → List ℕ → WrittenLines
 writtenLines d words number lent =
-    given (outcome (checks d words number lent)) (lines.Lines (length (linesAt d words number lent)) (length (flatten (linesAt d words number lent)))) lines.Refused
+    given (outcome (checks d words number lent))
+    (lines.Lines (length (linesAt d words number lent)) (length (flatten (linesAt d words number lent)))) lines.Refused
 
 -- what the writer of several lines returns: as the line writer
 abbrev pub linesCode : WrittenLines → ℕ
@@ -89,4 +91,5 @@ linesNumbers (lines.Refused r) = []
 
 -- the lent bytes afterwards
 abbrev pub filledLines : Dimensions → List ℕ → ℕ → List ℕ → List ℕ
-filledLines d words number lent = given (outcome (checks d words number lent)) (over (flatten (linesAt d words number lent)) lent) (λ r. lent)
+filledLines d words number lent =
+    given (outcome (checks d words number lent)) (over (flatten (linesAt d words number lent)) lent) (λ r. lent)

@@ -14,7 +14,8 @@ ghost use Rattle.gates.specs.Memory as Memory;
 ghost use Rattle.bristol_line.specs.ByValue.{lineOf};
 ghost use Rattle.bristol.specs.Text.{gateLines};
 ghost use Rattle.bristol.specs.Writing as Writing;
-ghost use Rattle.bristol.specs.Writing.{circuitChecks, lineAt, written, lineCode, lineNumbers, filled, linesAt, writtenLines, linesCode, linesNumbers, filledLines};
+ghost use Rattle.bristol.specs.Writing.{circuitChecks, lineAt, written, lineCode, lineNumbers, filled, linesAt, writtenLines};
+ghost use Rattle.bristol.specs.Writing.{linesCode, linesNumbers, filledLines};
 
 // What became of a line that was asked for: written, with its length; none, the number being past the last line; or why not.
 pub enum Written {
@@ -23,11 +24,14 @@ pub enum Written {
     Refused(Refusal),
 }
 
-// Writes the line of a number, from 0, with its LF to the front of the bytes; later bytes stay as they are. Refused, or asked past the last line, it changes no byte.
+// Writes the line of a number, from 0, with its LF to the front of the bytes; later bytes stay as they are. Refused, or asked past the last
+// line, it changes no byte.
 pub fn write_line(d: Dimensions, gates: &[u32], line: usize, bytes: &mut [u8]) -> Written
     ensures { λ r. ⌜ r ≡ written d (now (gates .entry)) line (now (bytes .entry)) ⌝ }
     ensures { λ _. ⌜ now (bytes .exit) ≡ filled d (now (gates .entry)) line (now (bytes .entry)) ⌝ }
-    ensures { λ r. ⌜ lineCode r ∷ lineNumbers r ≡ said (outcome (Writing.checks d (now (gates .entry)) line (now (bytes .entry)))) (length (lineAt d (now (gates .entry)) line) ∷ []) ⌝ }
+    ensures { λ r.
+        ⌜ lineCode r ∷ lineNumbers r ≡ said (outcome (Writing.checks d (now (gates .entry)) line (now (bytes .entry))))
+        (length (lineAt d (now (gates .entry)) line) ∷ []) ⌝ }
 {
     match check(d, gates) {
         Outcome::Taken => {}
@@ -39,17 +43,22 @@ pub fn write_line(d: Dimensions, gates: &[u32], line: usize, bytes: &mut [u8]) -
     put_line(d, gates, line, bytes)
 }
 
-// What became of the lines that were asked for: how many were written and how many bytes they take, none where the number is past the last line; or why not.
+// What became of the lines that were asked for: how many were written and how many bytes they take, none where the number is past the last
+// line; or why not.
 pub enum WrittenLines {
     Lines(usize, usize),
     Refused(Refusal),
 }
 
-// Writes the lines from a number on, each with its LF, as many as fit, to the front of the bytes; later bytes stay as they are. Refused, or asked past the last line, it changes no byte.
+// Writes the lines from a number on, each with its LF, as many as fit, to the front of the bytes; later bytes stay as they are. Refused, or
+// asked past the last line, it changes no byte.
 pub fn write_lines(d: Dimensions, gates: &[u32], line: usize, bytes: &mut [u8]) -> WrittenLines
     ensures { λ r. ⌜ r ≡ writtenLines d (now (gates .entry)) line (now (bytes .entry)) ⌝ }
     ensures { λ _. ⌜ now (bytes .exit) ≡ filledLines d (now (gates .entry)) line (now (bytes .entry)) ⌝ }
-    ensures { λ r. ⌜ linesCode r ∷ linesNumbers r ≡ said (outcome (Writing.checks d (now (gates .entry)) line (now (bytes .entry)))) (length (linesAt d (now (gates .entry)) line (now (bytes .entry))) ∷ (length (flatten (linesAt d (now (gates .entry)) line (now (bytes .entry)))) ∷ [])) ⌝ }
+    ensures { λ r.
+        ⌜ linesCode r ∷ linesNumbers r ≡ said (outcome (Writing.checks d (now (gates .entry)) line (now (bytes .entry))))
+        (length (linesAt d (now (gates .entry)) line (now (bytes .entry)))
+        ∷ (length (flatten (linesAt d (now (gates .entry)) line (now (bytes .entry)))) ∷ [])) ⌝ }
 {
     match check(d, gates) {
         Outcome::Taken => {}

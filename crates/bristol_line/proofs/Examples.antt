@@ -1,5 +1,4 @@
 -- Document 01's lines, computed: the second and third header line for n = 1 and one row each, and its three gate lines; and the second with public rows.
--- Assumes nothing.
 use mathlib.Core.Path.{_≡_, refl}
 use Rattle.lexer.specs.Spelling.{bytes}
 use Rattle.text.specs.Decimal.{decimalWithin, decimal}

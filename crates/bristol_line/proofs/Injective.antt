@@ -1,5 +1,4 @@
 -- A line determines what it says. No field holds a space or an LF, so a line parts into its fields, and a number is determined by its digits.
--- Assumes nothing.
 use mathlib.Core.Path.{_≡_, refl, sym, ap, ap₂, _∙_}
 use mathlib.Core.Bool.{Bool, true, false, _&&_, cond, false≢true}
 use mathlib.Core.List.{List, [], _∷_, _++_, append-assoc}
@@ -39,10 +38,12 @@ line-split (f ∷ []) (g ∷ []) s t h k e =
     let p = field-split f g 10 10 s t h k refl refl (sym (append-assoc f (10 ∷ []) s) ∙ e ∙ append-assoc g (10 ∷ []) t) in
     (ap (λ (x : List ℕ). x ∷ []) (p .0), p .2)
 line-split (f ∷ []) (g ∷ g′ ∷ gs) s t h k e =
-    let p = field-split f g 10 32 s (line (g′ ∷ gs) ++ t) h (and-l (plain g) _ k) refl refl (sym (append-assoc f (10 ∷ []) s) ∙ e ∙ append-assoc g (32 ∷ line (g′ ∷ gs)) t) in
+    let p = field-split f g 10 32 s (line (g′ ∷ gs) ++ t) h (and-l (plain g) _ k) refl refl
+    (sym (append-assoc f (10 ∷ []) s) ∙ e ∙ append-assoc g (32 ∷ line (g′ ∷ gs)) t) in
     absurd (let z : _≡_ {A = ℕ} 10 32 = p .1 in omega arith)
 line-split (f ∷ f′ ∷ fs) (g ∷ []) s t h k e =
-    let p = field-split f g 32 10 (line (f′ ∷ fs) ++ s) t (and-l (plain f) _ h) k refl refl (sym (append-assoc f (32 ∷ line (f′ ∷ fs)) s) ∙ e ∙ append-assoc g (10 ∷ []) t) in
+    let p = field-split f g 32 10 (line (f′ ∷ fs) ++ s) t (and-l (plain f) _ h) k refl refl (sym (append-assoc f (32 ∷ line (f′ ∷ fs)) s)
+    ∙ e ∙ append-assoc g (10 ∷ []) t) in
     absurd (let z : _≡_ {A = ℕ} 32 10 = p .1 in omega arith)
 line-split (f ∷ f′ ∷ fs) (g ∷ g′ ∷ gs) s t h k e =
     let p = field-split f g 32 32 (line (f′ ∷ fs) ++ s) (line (g′ ∷ gs) ++ t) (and-l (plain f) _ h) (and-l (plain g) _ k) refl refl

@@ -1,5 +1,4 @@
 -- No line is longer than 127 bytes: it has at most six fields, of at most 20 bytes each. So a line by value holds it whole.
--- Assumes nothing.
 use mathlib.Core.Path.{_≡_, ap, ap₂, _∙_}
 use mathlib.Core.Bool.{Bool, true, false, cond}
 use mathlib.Core.List.{List, [], _∷_}
@@ -58,7 +57,13 @@ pub gate-length : (wire : ℕ) (g : Gate) → length (gateLine wire g) ≤ 127
 gate-length wire (XOR a b) = two-length a b wire (bytes "XOR") (omega arith)
 gate-length wire (AND a b) = two-length a b wire (bytes "AND") (omega arith)
 gate-length wire (INV a) =
-    omega (arith, line-length (bytes "1" ∷ bytes "1" ∷ decimal a ∷ decimal wire ∷ bytes "INV" ∷ []) (omega arith, (omega arith, (decimal-length a, (decimal-length wire, (omega arith, tt))))))
+    omega (
+      arith,
+      line-length (bytes "1" ∷ bytes "1" ∷ decimal a ∷ decimal wire ∷ bytes "INV" ∷ []) (
+        omega arith,
+        (omega arith, (decimal-length a, (decimal-length wire, (omega arith, tt)))),
+      ),
+    )
 
 -- ---- by value
 

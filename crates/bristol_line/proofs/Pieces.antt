@@ -1,5 +1,4 @@
 -- Pieces written one behind the other are a line: their stores are one run of stores.
--- Assumes nothing.
 use mathlib.Core.Path.{_≡_, refl, sym, ap, ap₂, _∙_}
 use mathlib.Core.List.{List, [], _∷_, _++_}
 use Prim.Native.Nat.{ℕ, _+_, _*_, _/_, _%_, _^_, _≤_, _<_}
@@ -46,7 +45,8 @@ number-digit l x at h =
     (ap (λ (d : List ℕ). at + length d) digit, ap (sets l at) digit)
 
 -- a number's last digit behind the others
-pub number-more : (l out : List ℕ) (x at end : ℕ) → 10 ≤ x → x < 2 ^ 64 → Piece l at out end (decimal (x / 10)) → Piece l at (set out end (48 + x % 10)) (end + 1) (decimal x)
+pub number-more : (l out : List ℕ) (x at end : ℕ) → 10 ≤ x → x < 2 ^ 64 → Piece l at out end (decimal (x / 10))
+    → Piece l at (set out end (48 + x % 10)) (end + 1) (decimal x)
 number-more l out x at end h f e =
     let p = byte-more l out (decimal (x / 10)) at end (48 + x % 10) e in
     let step = sym (decimal-step x h f) in

@@ -1,4 +1,5 @@
-// A line of the circuit text in Bristol Fashion, by value (document 01, "Circuit"). Every number has at most 20 digits, so that 128 bytes take any line.
+// A line of the circuit text in Bristol Fashion, by value (document 01, "Circuit"). Every number has at most 20 digits, so that 128 bytes
+// take any line.
 use dimensions::Dimensions;
 ghost use mathlib.Core.Path.{_≡_};
 ghost use mathlib.Core.List.{[], _∷_, _++_};
@@ -108,7 +109,8 @@ fn put_stations(count: usize, d: Dimensions, bytes: &mut [u8; 128]) -> usize
 // The line of a gate of two inputs; the kind has its LF with it.
 fn two_inputs(a: usize, b: usize, wire: usize, kind: &[u8; 4]) -> Line
     requires { ⌜ length (now kind) ≡ 4 ⌝ }
-    ensures { λ r. ⌜ r ≡ lineOf (Spelling.bytes "2 1 " ++ decimal a ++ (32 ∷ decimal b ++ (32 ∷ decimal wire ++ (32 ∷ now (kind .entry))))) ⌝ }
+    ensures { λ r.
+        ⌜ r ≡ lineOf (Spelling.bytes "2 1 " ++ decimal a ++ (32 ∷ decimal b ++ (32 ∷ decimal wire ++ (32 ∷ now (kind .entry))))) ⌝ }
 {
     let mut bytes = [0u8; 128];
     let first = put(b"2 1 ", &mut bytes, 0);

@@ -1,6 +1,5 @@
 -- A clause's row is the set of its literals: repeated ones count once, their order does not matter, and a variable with both
 -- signs makes padding. By the bits of the two words, a literal at a time.
--- Assumes nothing.
 use mathlib.Core.Path.{_≡_, refl, sym, ap, ap₂, _∙_}
 use mathlib.Core.Bool.{Bool, true, false, _&&_, _||_, or-false, or-assoc, or-comm}
 use mathlib.Core.List.{List, [], _∷_}
@@ -65,7 +64,8 @@ empty-lt n false = pow-pos n
 pub row-lt : (n : ℕ) (s : Bool) (ls : List Literal) → below n ls ≡ true → wordFor s (rowOf ls) < 2 ^ n
 row-lt n s [] h = empty-lt n s
 row-lt n s (l ∷ ls) h =
-    with-lt n s (l .minus) (l .bit) (rowOf ls) (ltb-true (l .bit) n (and-l (ltb (l .bit) n) (below n ls) h)) (row-lt n s ls (and-r (ltb (l .bit) n) (below n ls) h))
+    with-lt n s (l .minus) (l .bit) (rowOf ls) (ltb-true (l .bit) n (and-l (ltb (l .bit) n) (below n ls) h))
+    (row-lt n s ls (and-r (ltb (l .bit) n) (below n ls) h))
 
 -- ---- the same literals, the same row
 
@@ -82,7 +82,8 @@ below-more a b (l ∷ ls) h e =
 below-width : (ls : List Literal) → below (width ls) ls ≡ true
 unfolding width
 below-width [] = refl
-below-width (l ∷ ls) = and-i (lt-ltb (l .bit) (suc (l .bit) + width ls) (omega arith)) (below-more (width ls) (suc (l .bit) + width ls) ls (omega arith) (below-width ls))
+below-width (l ∷ ls) = and-i (lt-ltb (l .bit) (suc (l .bit) + width ls) (omega arith))
+    (below-more (width ls) (suc (l .bit) + width ls) ls (omega arith) (below-width ls))
 
 pub same-row : (ls ks : List Literal) → ((s : Bool) (i : ℕ) → holds s i ls ≡ holds s i ks) → rowOf ls ≡ rowOf ks
 same-row ls ks h = ap₂ (λ (p q : ℕ). record { positive = p; negative = q }) (words false) (words true)

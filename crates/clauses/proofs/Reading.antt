@@ -1,5 +1,4 @@
 -- Clauses, a token at a time: what was read of a clause is carried on to the clause that the rest begins with.
--- Assumes nothing.
 use mathlib.Core.Path.{_≡_, refl, sym, ap, _∙_}
 use mathlib.Core.Bool.{Bool, true, _&&_}
 use mathlib.Core.List.{List, [], _∷_}
@@ -82,7 +81,8 @@ pub record Begun (n : ℕ) (text : List ℕ) (at start : ℕ) (row : Row) (from 
 
 pub begun : (n : ℕ) (text : List ℕ) (at from to : ℕ) → FoundBy (tokensPast text) text at from to → Begun n text at from emptyRow from to
 begun n text at from to F = record {
-  whole = sym (ap first (next-is n text at from to F) ∙ first-before n (record { at = from; bytes = part from to text }) (numberOf (part from to text)) (clausesFrom n text to));
+  whole = sym (ap first (next-is n text at from to F) ∙ first-before n (record { at = from; bytes = part from to text })
+      (numberOf (part from to text)) (clausesFrom n text to));
   filled = F .filled;
   within = F .within;
   ends = F .ends;
@@ -91,7 +91,8 @@ begun n text at from to F = record {
 module _ {n : ℕ} {text : List ℕ} {at start : ℕ} {row : Row} {from to : ℕ} (B : Begun n text at start row from to) where
   by-number : (x : Number) → numberOf (part from to text) ≡ x
       → first (clausesFrom n text at) ≡ carried row start (before n (record { at = from; bytes = part from to text }) x (clausesFrom n text to))
-  by-number x e = sym (B .whole) ∙ ap (λ (y : Number). carried row start (before n (record { at = from; bytes = part from to text }) y (clausesFrom n text to))) e
+  by-number x e = sym (B .whole)
+      ∙ ap (λ (y : Number). carried row start (before n (record { at = from; bytes = part from to text }) y (clausesFrom n text to))) e
 
   pub not-a-number : numberHeld (numberOf (part from to text)) ≡ L.Malformed → first (clausesFrom n text at) ≡ Unreadable
   not-a-number e = by-number malformed (held-none (numberOf (part from to text)) e)
@@ -124,7 +125,8 @@ module _ {n : ℕ} {text : List ℕ} {at start : ℕ} {row : Row} {from to : ℕ
 
       pub goes-on : (r : Row) → r ≡ rowWith minus (v - 1) row → (next end : ℕ) → FoundBy (tokensPast text) text to next end → Begun n text at start r next end
       goes-on r w next end F = record {
-        whole = ap (λ (x : Row). carried x start (tokenThen n text next end)) w ∙ sym (joins ∙ ap (carried (rowWith minus (v - 1) row) start) (next-is n text to next end F));
+        whole = ap (λ (x : Row). carried x start (tokenThen n text next end)) w
+            ∙ sym (joins ∙ ap (carried (rowWith minus (v - 1) row) start) (next-is n text to next end F));
         filled = F .filled;
         within = F .within;
         ends = F .ends;
@@ -166,7 +168,8 @@ module _ (n : ℕ) (text : List ℕ) where
       let both : t ∷ ts ≡ record { at = t .at; bytes = part (t .at) (behind t) text } ∷ tokensPast text (behind t) = e ∙ F .pieces in
       cc both
 
-  rest-step : (t : Piece) (x : Number) (ts : List Piece) (y : Reading) (ls : List Literal) (s e : ℕ) (rest : Reading) → ts ≡ tokensPast text (behind t) → y ≡ clauses n ts
+  rest-step : (t : Piece) (x : Number) (ts : List Piece) (y : Reading) (ls : List Literal) (s e : ℕ) (rest : Reading)
+      → ts ≡ tokensPast text (behind t) → y ≡ clauses n ts
       → ((ls : List Literal) (s e : ℕ) (rest : Reading) → y ≡ clause ls s e rest → rest ≡ clausesFrom n text e)
       → before n t x y ≡ clause ls s e rest → rest ≡ clausesFrom n text e
   rest-step t malformed ts y ls s e rest h q ih f = absurd (let z : _≡_ {A = ℕ} 0 1 = cc in omega arith)

@@ -1,4 +1,5 @@
--- The first clause from a place on, as code reads it: its literals from the first on, in words of 32 bits. No entry's contract rests on this file.
+-- The first clause from a place on, as code reads it: its literals from the first on, in words of 32 bits. No entry's contract rests on
+-- this file.
 use Prim.Native.Nat.{ℕ}
 use mathlib.Core.Bool.{Bool, cond}
 use mathlib.Core.List.{List, [], _∷_}

@@ -1,5 +1,4 @@
 -- A host's numbers as bytes, at most 255: within the limits they are the same numbers, and past them both are refused alike.
--- Assumes nothing.
 use mathlib.Core.Path.{_≡_, refl, sym, ap, _∙_}
 use mathlib.Core.Bool.{Bool, true, false, or-true}
 use Prim.Native.Nat.{ℕ, _≤_, _<_, min}

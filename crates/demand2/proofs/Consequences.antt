@@ -1,5 +1,4 @@
 -- What demand 2 comes to, in a reader's words. From the fields of the record alone, each of which is used: one that said less would be refused here.
--- Assumes nothing.
 use mathlib.Core.Path.{_≡_, refl, sym, ap, _∙_}
 use mathlib.Core.Bool.{Bool, true, false, true≢false}
 use mathlib.Core.List.{List, [], _∷_, _++_}

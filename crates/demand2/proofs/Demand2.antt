@@ -1,5 +1,4 @@
 -- Demand 2: the budgeted run ends after as many steps as it counts, and what is known of the state there gives each part.
--- Assumes nothing.
 use mathlib.Core.Path.{_≡_, refl, sym, ap, _∙_}
 use mathlib.Core.Bool.{Bool, true, false}
 use mathlib.Core.List.{List}
@@ -93,7 +92,8 @@ module _ (n : ℕ) (rows : ℕ → List Row) (few : n ≤ 32) (low : (i : ℕ) �
       let is = last-step some in
       let h : step n last before .standing ≡ Satisfied = ap (λ (s : State). s .standing) (sym is) ∙ v .0 in
       let m : step n last before .t ≡ model = ap (λ (s : State). s .t) (sym is) ∙ v .1 in
-      rw m at (satisfied-model n last few (low (r .steps - 1)) before (after-formed n rows (r .steps - 1) fresh (fresh-formed n)) (ran .open-before (r .steps - 1) (omega arith)) h)
+      rw m at (satisfied-model n last few (low (r .steps - 1)) before (after-formed n rows (r .steps - 1) fresh (fresh-formed n))
+      (ran .open-before (r .steps - 1) (omega arith)) h)
 
   none-true : verdictOf (r .final .standing) (r .final .t) ≡ Unsatisfiable → (a : ℕ → Bool) → allTrue a last ≡ false
   none-true e a =

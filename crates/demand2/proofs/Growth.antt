@@ -6,7 +6,7 @@ use Prim.Native.Nat.{ℕ, zero, suc, _≤_}
 use native.Mathlib.Omega.{arith}
 use lib.ListN.{getD, set}
 use Rattle.words.specs.Booleans.{imp}
-use Rattle.words.specs.Sets.{bit, any}
+use Rattle.words.specs.Sets.{bit}
 use Rattle.words.proofs.Truth.{mp, and-l, and-r, and-i, on, taut3}
 use Rattle.words.proofs.Upto.{any-e, any-i}
 use Rattle.tables.specs.declared.Row.{Row}

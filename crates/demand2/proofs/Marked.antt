@@ -1,5 +1,4 @@
 -- Document 01's ten marked instances, together as one table over the giant step's definition. By computation.
--- Assumes nothing.
 use mathlib.Core.Path.{_≡_, refl}
 use Prim.Native.Nat.{ℕ, _-_, _^_}
 use mathlib.Core.List.{List, [], _∷_, _++_, map}

@@ -1,5 +1,4 @@
 -- The columns of document 01's table of marked instances: n, steps and result, read off `ten-marked`. A line that is missing or moved is refused here.
--- Assumes nothing.
 use mathlib.Core.Path.{_≡_, refl, ap}
 use Prim.Native.Nat.{ℕ}
 use mathlib.Core.List.{List, [], _∷_, map}

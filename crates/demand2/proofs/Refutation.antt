@@ -1,6 +1,6 @@
--- A refuted run leaves no assignment that makes every row true: such an assignment always agrees with T and F or with a level whose variable is still to go to F,
+-- A refuted run leaves no assignment that makes every row true: such an assignment always agrees with T and F or with a level whose variable is still to go to
+-- F,
 -- and a refuted run has neither.
--- Assumes nothing.
 use mathlib.Core.Path.{_≡_, refl, sym, ap, _∙_}
 use mathlib.Core.Logic.{_⊎_, inl, inr}
 use mathlib.Core.Bool.{Bool, true, false, not, _&&_, _||_, true≢false}
@@ -76,7 +76,8 @@ module _ (n : ℕ) (a : ℕ → Bool) (t f : ℕ) (g : Agrees n a t f) where
       count-one (λ i. freeIn r t f i) n (with-count 1 n t f r (w .one-literal)) (x .0) v (x .1) (w .low) (by-free r (x .0) (x .1) o (x .2)) (w .free-there) in
       let l : literal a r v ≡ true = rw one at (x .2) in
       agree-eq (mp _ _
-      (taut5 (λ p q t f a. imp (literals p q a && not (satisfying p q t f)) (agree a p)) refl (bit (r .positive) v) (bit (r .negative) v) (bit t v) (bit f v) (a v))
+      (taut5 (λ p q t f a. imp (literals p q a && not (satisfying p q t f)) (agree a p)) refl (bit (r .positive) v)
+      (bit (r .negative) v) (bit t v) (bit f v) (a v))
       (and-i l (ap not (unsatisfied-none n r t f o v (w .low)))))
       ∙ sym (w .sign)
 

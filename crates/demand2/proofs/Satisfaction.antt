@@ -1,5 +1,4 @@
 -- A satisfied run's model makes every row true: the standing becomes satisfied by rule 1 alone, and a variable that satisfies a row makes it true under T.
--- Assumes nothing.
 use mathlib.Core.Path.{_≡_, refl, subst⁻¹}
 use mathlib.Core.Bool.{true, false, not, _&&_, _||_}
 use mathlib.Core.List.{List, [], _∷_}
@@ -65,7 +64,8 @@ satisfied-true : (n t f : ℕ) → Sets n t f → (r : Row) → satisfied n r t 
 satisfied-true n t f d r e =
     any-mono (λ i. satisfies r t f i) (λ i. literal (bit t) r i) n
     (λ i b h. mp _ _
-    (taut4 (λ p q t f. imp ((p && q || p && t || q && f) && not (t && f)) ((p && t) || (q && not t))) refl (bit (r .positive) i) (bit (r .negative) i) (bit t i) (bit f i))
+    (taut4 (λ p q t f. imp ((p && q || p && t || q && f) && not (t && f)) ((p && t) || (q && not t))) refl (bit (r .positive) i)
+    (bit (r .negative) i) (bit t i) (bit f i))
     (and-i h (d .apart i b)))
     (rw (satisfied-any n r t f) at e)
 

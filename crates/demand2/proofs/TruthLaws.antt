@@ -1,5 +1,4 @@
 -- Rows whose words are below 2 ^ n are true by a variable below n, if at all: no other stands in them.
--- Assumes nothing.
 use mathlib.Core.Path.{_≡_}
 use mathlib.Core.Bool.{Bool, true, not, _&&_, _||_}
 use mathlib.Core.List.{List}
@@ -29,6 +28,7 @@ module _ (n : ℕ) (few : n ≤ 32) where
       ))
 
   -- each of these rows is true
-  pub all-true-e : (a : ℕ → Bool) (rows : List Row) → allRows (lowRow n) rows ≡ true → allTrue a rows ≡ true → (r : Row) → In r rows → any (λ i. literal a r i) n ≡ true
+  pub all-true-e : (a : ℕ → Bool) (rows : List Row) → allRows (lowRow n) rows ≡ true → allTrue a rows ≡ true → (r : Row) → In r rows
+      → any (λ i. literal a r i) n ≡ true
   unfolding allTrue
   all-true-e a rows low h r m = rw (row-true a r (m (lowRow n) low)) at (m (rowTrue a) h)

@@ -1,4 +1,5 @@
--- Demand 2, as one statement about the answer of any accepted tables under any budget, whatever rows took the place of padding rows meanwhile.
+-- Demand 2, as one statement about the answer of any accepted tables under any budget, whatever rows took the place of padding rows
+-- meanwhile.
 use Prim.Native.Nat.{ℕ, suc, _-_, _^_, _≤_, _<_}
 use mathlib.Core.Path.{_≡_}
 use mathlib.Core.Bool.{Bool, true, false}
@@ -28,7 +29,8 @@ pub record Demand2 (n : ℕ) (rows : ℕ → List Row) (budget : ℕ) (answer : 
   pub count-most : answer .count ≤ budget
   pub count-least : (k : ℕ) → k < answer .count → after n rows k fresh .standing ≡ Open
   pub count-closes : (after n rows (answer .count) fresh .standing ≡ Open → answer .count ≡ budget)
-  -- the count is at most 2 ^ (k + 1) - 1, k being the number of variables in rows at the end that are no padding, and so many steps suffice; and k is at most n
+  -- the count is at most 2 ^ (k + 1) - 1, k being the number of variables in rows at the end that are no padding, and so many steps
+  -- suffice; and k is at most n
   pub bound-count : answer .count ≤ 2 ^ suc (occurring n (atEnd rows answer)) - 1
   pub bound : 2 ^ suc (occurring n (atEnd rows answer)) - 1 ≤ budget → answer .verdict ≡ Unknown → ⊥
   pub bound-n : 2 ^ suc n - 1 ≤ budget → answer .verdict ≡ Unknown → ⊥

@@ -1,6 +1,6 @@
--- A host that calls `repeat` on the fresh run with the budget as the times gets the budgeted run's answer: the call's repeats are demand 3's, every attempt is long
+-- A host that calls `repeat` on the fresh run with the budget as the times gets the budgeted run's answer: the call's repeats are demand 3's, every attempt is
+-- long
 -- enough, so they reach the end, and there the demand says so.
--- Assumes nothing.
 use mathlib.Core.Path.{_≡_, refl, sym, ap, _∙_}
 use mathlib.Core.Bool.{true}
 use mathlib.Core.List.{List}
@@ -62,12 +62,15 @@ module _ (d : Dimensions) (tables : Tables) (budget : ℕ) (gates bytes wires : 
   -- every attempt of a call that is taken is long enough
   module _ (p : Passed d tables (length gates) (length bytes) (length wires) run) where
     long : longEnough d (whole d bytes wires) ≡ true
-    long = rw (le-leb (inputWires d) (length bytes) (p .bytes-enough), le-leb (inputWires d + length (gatesOn d)) (length wires) (p .wires-enough)) (le-leb (stateWires (d .n)) (stateWires (d .n) + 1) (omega arith))
+    long = rw (le-leb (inputWires d) (length bytes) (p .bytes-enough), le-leb (inputWires d + length (gatesOn d)) (length wires) (p .wires-enough))
+        (le-leb (stateWires (d .n)) (stateWires (d .n) + 1) (omega arith))
 
     answer-of : answered (repeatedBy run history) ≡ answerOf (d .n) (always (rowsOf d tables)) budget
     answer-of =
-        ap (λ (k : ℕ). record { count = k; verdict = verdictOf (lastRun run history .standing) (lastRun run history .t) }) (sym (length-map history (λ (r : Repeat). r .mark)))
-        ∙ answer-is d (demand3 d (sizes-taken d tables (p .tables-taken))) (λ i. tables) (λ i. p .tables-taken) budget attempts (answerFor d (λ i. tables) budget) refl
+        ap (λ (k : ℕ). record { count = k; verdict = verdictOf (lastRun run history .standing) (lastRun run history .t) })
+        (sym (length-map history (λ (r : Repeat). r .mark)))
+        ∙ answer-is d (demand3 d (sizes-taken d tables (p .tables-taken))) (λ i. tables) (λ i. p .tables-taken) budget attempts
+        (answerFor d (λ i. tables) budget) refl
         (omega (arith, all-long d (whole d bytes wires) long budget, count-most (d .n) budget (always (rowsOf d tables))))
 
   -- repeats and verdict of a call that is taken are the budgeted run's

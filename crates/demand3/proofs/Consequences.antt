@@ -1,6 +1,6 @@
--- What follows from demand 3, each from its statement alone: a closed state that stays, the run after every repeat, the marks and the answer at the end, and two
+-- What follows from demand 3, each from its statement alone: a closed state that stays, the run after every repeat, the marks and the answer at the end, and
+-- two
 -- hosts that see the same. Each part of `Demand3` is used, so that none can be left out or weakened.
--- Assumes nothing.
 use mathlib.Core.Path.{_≡_, refl, sym, ap, ap₂, _∙_}
 use mathlib.Core.Bool.{Bool, true, false, true≢false}
 use mathlib.Core.List.{List, [], _∷_, _++_}
@@ -68,7 +68,8 @@ module _ (d : Dimensions) where
   zeros-fit k = le-leb k (length (zeros k)) (omega (arith, length-replicate {A = ℕ} k 0))
 
   roomy-long : longEnough d roomy ≡ true
-  roomy-long = and-i (and-i (zeros-fit (inputWires d)) (zeros-fit (inputWires d + length (gatesOn d)))) (le-leb (stateWires (d .n)) (stateWires (d .n)) (omega arith))
+  roomy-long = and-i (and-i (zeros-fit (inputWires d)) (zeros-fit (inputWires d + length (gatesOn d))))
+      (le-leb (stateWires (d .n)) (stateWires (d .n)) (omega arith))
 
   -- k of them behind others
   pub roomy-ones : (attempts : List Attempt) (k : ℕ) → k ≤ longOnes d (attempts ++ replicate k roomy)

@@ -1,5 +1,4 @@
 -- Demand 3: the repeats are a number of giant steps with their marks, which `Histories` gives as one equation; each part is read off it.
--- Assumes nothing.
 use mathlib.Core.Path.{_≡_, refl, sym, ap, ap₂, _∙_, fun-ext}
 use mathlib.Core.Bool.{Bool, true, false, not, cond, true≢false, or-true}
 use mathlib.Core.List.{List, [], _∷_}
@@ -43,7 +42,8 @@ use Rattle.bristol.proofs.Joining.{requests-join, requests-end}
 use Rattle.repeats.specs.Repeats.{Attempt, Repeat, circuitWords, marks, lastRun, ended, longOnes}
 use Rattle.demand3.specs.Demand3.{rowsIn, AllAccepts, SamePublic, historyOf, Follows, answerFor, answerIn, textOf, publicIn, Seen, seen, Demand3}
 use Rattle.repeats.proofs.Applying.{words-third, words-accepted}
-use Rattle.demand3.proofs.Histories.{closed-open, open-closed, repeated, repeated-length, repeated-at, repeated-marks, repeated-last, number, repeats-are}
+use Rattle.demand3.proofs.Histories.{closed-open, open-closed, repeated, repeated-length, repeated-at, repeated-marks, repeated-last, number}
+use Rattle.demand3.proofs.Histories.{repeats-are}
 
 -- ---- marks
 
@@ -153,7 +153,8 @@ module _ (d : Dimensions) (tables : ℕ → Tables) (acc : AllAccepts d tables) 
         let e : k ≡ final .steps = omega arith in
         on (ltb (final .steps) budget)
         (λ q. go (final .steps) refl (closes (ltb-true _ _ q)) e)
-        (λ q. rw (eq-eqb (length whole) budget (omega (arith, size, law .most, ltb-false (final .steps) budget q))) (or-true (anyMark (marks whole) (length whole))))
+        (λ q. rw (eq-eqb (length whole) budget (omega (arith, size, law .most, ltb-false (final .steps) budget q)))
+        (or-true (anyMark (marks whole) (length whole))))
       where
         go : (j : ℕ) → final .steps ≡ j → closed (final .final) ≡ true → k ≡ final .steps → ended budget whole ≡ true
         go zero q c e = absurd (true≢false (sym c ∙ open-closed (ap (λ (s : State). s .standing) (law .final-after) ∙ start q)))

@@ -1,7 +1,8 @@
--- Demand 3 on small tables of two variables and a row each: the marks of a marked instance of document 01, two pairs of tables that are seen alike, and two that
--- differ in one mark; then two pairs with one public row that are seen alike, and a pair with another that is not. What the plain run does is computed, the rest
+-- Demand 3 on small tables of two variables and a row each: the marks of a marked instance of document 01, two pairs of tables that are seen alike, and two
+-- that
+-- differ in one mark; then two pairs with one public row that are seen alike, and a pair with another that is not. What the plain run does is computed, the
+-- rest
 -- is what follows from the demand's statement.
--- Assumes nothing.
 use mathlib.Core.Path.{_≡_, refl, sym, ap, _∙_}
 use mathlib.Core.Bool.{Bool, true, false, true≢false}
 use mathlib.Core.List.{List, [], _∷_}
@@ -133,7 +134,8 @@ module _ (x : Demand3 small) where
     -- under a budget of two, tables whose marks differ in the second
     pub unlike-seen : 2 ≤ longOnes small attempts → 2 ≤ longOnes small attempts′ → seen small marked 2 attempts ≡ seen small unlike 2 attempts′ → ⊥
     unlike-seen long long′ e =
-        let l = marks-are small x marked marked-accepted 2 attempts (answer 2 Unknown) marked-cut long (false ∷ false ∷ []) refl (λ i h. marked-closes i (omega arith) ∙ cut i h) in
+        let l = marks-are small x marked marked-accepted 2 attempts (answer 2 Unknown) marked-cut long (false ∷ false ∷ []) refl
+        (λ i h. marked-closes i (omega arith) ∙ cut i h) in
         let r = marks-are small x unlike unlike-accepted 2 attempts′ (answer 2 (Satisfiable 1)) unlike-answer long′ (false ∷ true ∷ []) refl unlike-closes in
         true≢false (sym (ap (λ (m : List Bool). getD m 1 false) (sym l ∙ ap (λ (s : Seen). s .2) e ∙ r)))
       where

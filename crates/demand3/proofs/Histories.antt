@@ -1,6 +1,5 @@
 -- Any list of attempts from an open state: as many repeats as there are long enough attempts, at most as many as the budgeted run takes steps,
 -- each a giant step with its mark. By induction on the attempts.
--- Assumes nothing.
 use mathlib.Core.Path.{_≡_, refl, sym, ap, _∙_}
 use mathlib.Core.Bool.{Bool, true, false, cond, true≢false}
 use mathlib.Core.List.{List, [], _∷_}
@@ -43,7 +42,8 @@ module _ (n : ℕ) (rows : ℕ → List Row) where
     | Refuted ↦ record { steps = 0; final = s }
   ]
 
-  pub steps-open : (budget : ℕ) (s : State) → s .standing ≡ Open → runFrom n rows (suc budget) s .steps ≡ suc (runFrom n (later rows) budget (step n (rows 0) s) .steps)
+  pub steps-open : (budget : ℕ) (s : State) → s .standing ≡ Open → runFrom n rows (suc budget) s .steps
+      ≡ suc (runFrom n (later rows) budget (step n (rows 0) s) .steps)
   unfolding runFrom
   steps-open budget s e = ap (λ (st : Standing). ranBy budget s st .steps) e
 
@@ -86,7 +86,8 @@ module _ (d : Dimensions) where
   repeated-marks tables s zero = refl
   repeated-marks tables s (suc k) = ap (λ (l : List Bool). closed (first tables s) ∷ l) (repeated-marks (laterTables tables) (first tables s) k)
 
-  pub repeated-last : (tables : ℕ → Tables) (s : State) (k : ℕ) → lastRun (runOf (d .n) s) (repeated tables s k) ≡ runOf (d .n) (after (d .n) (rowsIn d tables) k s)
+  pub repeated-last : (tables : ℕ → Tables) (s : State) (k : ℕ) → lastRun (runOf (d .n) s) (repeated tables s k)
+      ≡ runOf (d .n) (after (d .n) (rowsIn d tables) k s)
   unfolding repeated after lastRun
   repeated-last tables s zero = refl
   repeated-last tables s (suc k) = repeated-last (laterTables tables) (first tables s) k
@@ -122,7 +123,8 @@ module _ (d : Dimensions) where
       omega (arith, steps-open (d .n) rows rest s o) in
       ap (λ (l : List Repeat). returned (d .n) (first tables s) ∷ l) (h (closed-open (first tables s .standing) e)) ∙ ap (repeated tables s) (sym k)
 
-  pub repeats-are : (attempts : List Attempt) (tables : ℕ → Tables) → AllAccepts d tables → (budget : ℕ) (s : State) → wellFormedState (d .n) s ≡ true → s .standing ≡ Open
+  pub repeats-are : (attempts : List Attempt) (tables : ℕ → Tables) → AllAccepts d tables → (budget : ℕ) (s : State)
+      → wellFormedState (d .n) s ≡ true → s .standing ≡ Open
       → repeats d tables budget (runOf (d .n) s) attempts ≡ repeated tables s (number tables attempts budget s)
   unfolding repeats longOnes
   repeats-are [] tables acc budget s w o = none tables s _ (omega arith)
@@ -134,8 +136,10 @@ module _ (d : Dimensions) where
     where
       go : repeats d tables (suc rest) (runOf (d .n) s) more ≡ repeated tables s (number tables more (suc rest) s)
           → (first tables s .standing ≡ Open
-          → repeats d (laterTables tables) rest (runOf (d .n) (first tables s)) more ≡ repeated (laterTables tables) (first tables s) (number (laterTables tables) more rest (first tables s)))
-          → (long : Bool) → comes d (tables 0) (acc 0) s w (λ next. repeats d tables (suc rest) next more) (λ next. repeats d (laterTables tables) rest next more) long
+          → repeats d (laterTables tables) rest (runOf (d .n) (first tables s)) more ≡ repeated (laterTables tables) (first tables s)
+          (number (laterTables tables) more rest (first tables s)))
+          → (long : Bool) → comes d (tables 0) (acc 0) s w (λ next. repeats d tables (suc rest) next more)
+          (λ next. repeats d (laterTables tables) rest next more) long
           ≡ repeated tables s (min (cond long (suc (longOnes d more)) (longOnes d more)) (runFrom (d .n) (rowsIn d tables) (suc rest) s .steps))
       go same further true = repeat tables more rest s o further (closed (first tables s)) refl
       go same further false = same

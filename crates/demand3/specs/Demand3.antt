@@ -94,7 +94,8 @@ pub record Demand3 (d : Dimensions) : Type 0 where
   pub text : outcome (sizeChecks d) ≡ Taken
       → (lent : ℕ → List ℕ) → ((i : ℕ) → length (lineAt d (circuitWords d) i) ≤ length (lent i)) → (k : ℕ) → 4 + length (gatesOn d) ≤ k
       → (requested d (circuitWords d) lent 0 k ≡ textOf d) × (written d (circuitWords d) k (lent k) ≡ Past)
-  -- two pairs of tables with the same public rows, wherever their replacements fell, under one budget that agree in verdict, model and count,
+  -- two pairs of tables with the same public rows, wherever their replacements fell, under one budget that agree in verdict, model and
+  -- count,
   -- each with attempts of its own
   pub secrecy : (tables tables′ : ℕ → Tables) → AllAccepts d tables → AllAccepts d tables′ → SamePublic d tables tables′
       → (budget : ℕ) (attempts attempts′ : List Attempt) → answerFor d tables budget ≡ answerFor d tables′ budget

@@ -1,5 +1,4 @@
 -- Every text ends in exactly one of accepted, 1, 2 and 5, and any three texts in one of these and 6. By the cases of the definitions.
--- Assumes nothing.
 use mathlib.Core.Path.{_≡_, refl, sym, ap, _∙_}
 use mathlib.Core.Bool.{Bool, true, false, not, _&&_, _||_, cond}
 use mathlib.Core.List.{List}

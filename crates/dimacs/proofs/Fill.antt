@@ -1,5 +1,4 @@
 -- Rows filled into words, a clause at a time: the rows still to come fill the words as all rows fill empty ones.
--- Assumes nothing.
 use mathlib.Core.Path.{_≡_, refl, sym, ap, ap₂, _∙_, subst}
 use mathlib.Core.Bool.{Bool, true, false, false≢true, _&&_, and-false}
 use mathlib.Core.List.{List, [], _∷_, _++_}
@@ -78,7 +77,8 @@ words-all : (z : ℕ) (rs : List Row) → 2 * length rs ≤ z → sets (replicat
 unfolding zeros
 words-all z rs h =
     sets-eq (wordsOf rs) (zeros z) 0 (omega (arith, words-length rs, length-replicate {A = ℕ} z 0))
-    ∙ ap (λ (l : List ℕ). wordsOf rs ++ l) (drop-zeros z (0 + length (wordsOf rs)) ∙ (let q : z - (0 + length (wordsOf rs)) ≡ z - 2 * length rs = omega (arith, words-length rs) in ap zeros q))
+    ∙ ap (λ (l : List ℕ). wordsOf rs ++ l) (drop-zeros z (0 + length (wordsOf rs))
+    ∙ (let q : z - (0 + length (wordsOf rs)) ≡ z - 2 * length rs = omega (arith, words-length rs) in ap zeros q))
 
 counts-length : (m : ℕ) (x : Reading) → counts m x ≡ true → length (rowsOf x) ≡ m
 counts-length zero (clause ls s e rest) h = absurd (false≢true h)
@@ -131,7 +131,8 @@ module _ {n m : ℕ} {text : List ℕ} {start : ℕ} {words : List ℕ} {at k : 
   pub unread : (y : Clause) → k < m → y ≡ first (clausesFrom n text at) → Tagged (1 ∷ (2 ∷ [])) y → bodyOf n m (clausesFrom n text start) ≡ refused Text
   unread y h e q =
       let left : m - k ≡ suc (m - (k + 1)) = omega arith in
-      rw (counts-is m (clausesFrom n text start) ∙ sym (F .counted) ∙ ap (λ (i : ℕ). counts i (clausesFrom n text at)) left ∙ not-read (clausesFrom n text at) (m - (k + 1)) (subst (Tagged (1 ∷ (2 ∷ []))) e q))
+      rw (counts-is m (clausesFrom n text start) ∙ sym (F .counted) ∙ ap (λ (i : ℕ). counts i (clausesFrom n text at)) left ∙ not-read (clausesFrom n text at)
+      (m - (k + 1)) (subst (Tagged (1 ∷ (2 ∷ []))) e q))
 
   module _ (h : m ≤ k) where
     none-left : counts 0 (clausesFrom n text at) ≡ counts m (clausesFrom n text start)
@@ -148,7 +149,8 @@ module _ {n m : ℕ} {text : List ℕ} {start : ℕ} {words : List ℕ} {at k : 
         let last = is-ended (clausesFrom n text at) e in
         let all : counts m x ≡ true = sym none-left ∙ ap (counts 0) last in
         let rows : length (rowsOf x) ≡ m = counts-length m x all in
-        let fill : words ≡ sets (replicate 256 0) 0 (wordsOf (rowsOf x)) = sym (ap (λ (y : Reading). sets words (2 * k) (wordsOf (rowsOf y))) last) ∙ F .filled in
+        let fill : words ≡ sets (replicate 256 0) 0 (wordsOf (rowsOf x)) =
+        sym (ap (λ (y : Reading). sets words (2 * k) (wordsOf (rowsOf y))) last) ∙ F .filled in
         rw (counts-is m x ∙ all)
         (ap₂ (λ (i : ℕ) (l : List ℕ). record { outcome = Taken; n = n; rows = i; words = l }) (sym rows)
         (fill ∙ words-all 256 (rowsOf x) (omega arith)))

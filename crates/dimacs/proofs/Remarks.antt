@@ -1,5 +1,4 @@
 -- A text's table by the places in the text as it stands: the header has the same sizes and the clauses the same rows as without the remark lines.
--- Assumes nothing.
 use mathlib.Core.Path.{_≡_, refl, ap, ap₂, _∙_}
 use mathlib.Core.Bool.{Bool, _&&_, cond}
 use mathlib.Core.List.{List}

@@ -1,5 +1,4 @@
 -- What a text means, from its header on: an overlong one is refused, else the header's refusal or the clauses decide. By the definition's tests.
--- Assumes nothing.
 use mathlib.Core.Path.{_≡_, sym, ap, _∙_}
 use mathlib.Core.List.{List}
 use Prim.Native.Nat.{ℕ, _≤_, _<_}

@@ -1,5 +1,4 @@
 -- Three texts together: the first refusal decides. By the outcomes, one after the other.
--- Assumes nothing.
 use mathlib.Core.Path.{_≡_, refl, ap, _∙_}
 use mathlib.Core.Bool.{Bool, not, _||_, cond}
 use lib.Dec.{eqb}

@@ -1,5 +1,5 @@
--- The trial's bytes, 2 more than a wire's value but wire 0's value alone: their laws by cases of the list, the table's by computation, and a turn of `Run` by both.
--- Assumes nothing.
+-- The trial's bytes, 2 more than a wire's value but wire 0's value alone: their laws by cases of the list, the table's by computation, and a turn of `Run` by
+-- both.
 use mathlib.Core.Path.{_≡_, refl, ap, ap₂, sym, _∙_}
 use mathlib.Core.Bool.{Bool, true, false, _&&_, cond, false≢true}
 use mathlib.Core.List.{List, [], _∷_, _++_, map, map-append}
@@ -207,7 +207,8 @@ pub stored : (s g : List ℕ) → accepted (length s) g ≡ true → (w₁ v : L
     → (x w₂ : List ℕ) → w₂ ≡ over (plain (take (length s + length g / 3) v)) x → w₂ ≡ over (bytesOf (wiresOf (bitsOf s) (gatesOf g))) x
 stored s g a w₁ v h x w₂ f =
     let all-values : List Bool = wiresOf (bitsOf s) (gatesOf g) in
-    let q : length (held all-values) ≡ length s + length g / 3 = omega (arith, accepted-length (length s) g a, values-length s (gatesOf g), held-length all-values) in
+    let q : length (held all-values) ≡ length s + length g / 3 =
+    omega (arith, accepted-length (length s) g a, values-length s (gatesOf g), held-length all-values) in
     let t : plain (take (length s + length g / 3) v) ≡ bytesOf all-values =
     ap (λ (l : List ℕ). plain (take (length s + length g / 3) l)) h
     ∙ ap plain (take-at (held all-values) (drop (length (held all-values)) w₁) (length s + length g / 3) q)

@@ -95,7 +95,10 @@ fn trial(gates: &[u32], inputs: &[u8], scratch: &mut [u8]) -> bool
     requires { ⌜ length (now inputs) + length (now gates) / 3 ≤ length (now scratch) ⌝ }
     requires { ⌜ take (length (now inputs)) (now scratch) ≡ held (Memory.bitsOf (now inputs)) ⌝ }
     ensures { λ r. ⌜ r ≡ Memory.accepted (length (now (inputs .entry))) (now (gates .entry)) ⌝ }
-    ensures { λ r. ⌜ cond r (now (scratch .exit)) [] ≡ cond r (Memory.over (held (wiresOf (Memory.bitsOf (now (inputs .entry))) (Memory.gatesOf (now (gates .entry))))) (now (scratch .entry))) [] ⌝ }
+    ensures { λ r.
+        ⌜ cond r (now (scratch .exit)) []
+        ≡ cond r (Memory.over (held (wiresOf (Memory.bitsOf (now (inputs .entry))) (Memory.gatesOf (now (gates .entry)))))
+        (now (scratch .entry))) [] ⌝ }
 {
     let values = values::HELD;
     let stop = inputs.len() + gates.len() / 3;

@@ -1,4 +1,5 @@
--- Clause k of a text: it lies in the text, and the words have a bit for each of its literals. By induction on the tokens, then on k; the code goes clause by clause.
+-- Clause k of a text: it lies in the text, and the words have a bit for each of its literals. By induction on the tokens, then on k; the code goes clause by
+-- clause.
 use mathlib.Core.Path.{_≡_, refl, sym, ap, _∙_, subst}
 use mathlib.Core.Bool.{true}
 use mathlib.Core.List.{List, [], _∷_}

@@ -29,7 +29,8 @@ use Rattle.tables.specs.Rows.{rowAt}
 use Rattle.excerpts.specs.declared.Place.{Place}
 use Rattle.excerpts.specs.declared.Placed.{Placed}
 use Rattle.excerpts.specs.declared.Placed.the-variants as placed′
-use Rattle.excerpts.specs.Excerpts.{excerptChecks, clauseOf, sameWords, between, placeIn, placeOf, clausePlace, placed, placedCode, placeNumbers, placedNumbers, bytesAt, clauseBytes}
+use Rattle.excerpts.specs.Excerpts.{excerptChecks, clauseOf, sameWords, between, placeIn, placeOf, clausePlace, placed, placedCode, placeNumbers}
+use Rattle.excerpts.specs.Excerpts.{placedNumbers, bytesAt, clauseBytes}
 use Rattle.excerpts.specs.Held.{placeHeld, Ordered}
 use Rattle.excerpts.proofs.Clauses.{Lies, clause-lies, NoneRead}
 use Rattle.excerpts.proofs.Checks.{asked}
@@ -64,9 +65,11 @@ module _ (station : ℕ) (positive negative : ℕ) (y : Clause) where
 
 -- ---- the place of a station's row
 
-held-is : (station : ℕ) (text : List ℕ) (row : Row) (x : Reading) → Lies text x → placeHeld station (first x) (row .positive) (row .negative) ≡ placeIn station x row
+held-is : (station : ℕ) (text : List ℕ) (row : Row) (x : Reading) → Lies text x → placeHeld station (first x) (row .positive)
+    (row .negative) ≡ placeIn station x row
 held-is station text row (clause ls from to rest) l =
-    ap (λ (r : clause-row.Row). cond (eqb (r .positive) (row .positive) && eqb (r .negative) (row .negative)) (between station from to) (between station 0 0)) (l .2)
+    ap (λ (r : clause-row.Row). cond (eqb (r .positive) (row .positive) && eqb (r .negative) (row .negative)) (between station from to)
+    (between station 0 0)) (l .2)
 held-is station text row ended l = refl
 held-is station text row unreadable l = refl
 
@@ -146,7 +149,8 @@ module _ (d : Dimensions) (tables : Tables) (leftText rightText : List ℕ) (num
     e,
     ap (λ (x : Placed). placedCode x ∷ placedNumbers x) e
         ∙ given-said (λ (x : Placed). placedCode x ∷ placedNumbers x) (outcome (excerptChecks d tables leftText rightText number))
-        (placed′.Of (clausePlace d tables leftText rightText number)) placed′.Refused (placeNumbers (clausePlace d tables leftText rightText number)) refl (λ r. refl),
+        (placed′.Of (clausePlace d tables leftText rightText number)) placed′.Refused
+        (placeNumbers (clausePlace d tables leftText rightText number)) refl (λ r. refl),
   )
 
   pub place-refused : (q : Refusal) → outcomes.Refused q ≡ outcome (excerptChecks d tables leftText rightText number)
@@ -159,7 +163,8 @@ module _ (d : Dimensions) (tables : Tables) (leftText rightText : List ℕ) (num
     unfolding placed
     place-taken = ap answer e
 
-    pub left-place : number ≤ d .left → (p : Place) → p ≡ placeOf 0 (tables .left) leftText (number - 1) → placed′.Of p ≡ placed d tables leftText rightText number
+    pub left-place : number ≤ d .left → (p : Place) → p ≡ placeOf 0 (tables .left) leftText (number - 1) → placed′.Of p
+        ≡ placed d tables leftText rightText number
     left-place h p q = ap placed′.Of (q ∙ sym (left-is h)) ∙ place-taken
 
     pub right-place : d .left < number → (p : Place) → p ≡ placeOf 1 (tables .right) rightText (number - d .left - 1)

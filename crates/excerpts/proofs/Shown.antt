@@ -63,7 +63,8 @@ module _ (station : ℕ) (text : List ℕ) (k : ℕ) where
       let end = headerOf 1 text .end in
       let x = clausesFrom n text end in
       on (complete x && eqb (length (rowsOf x)) m)
-      (λ e. rw e (λ taken h. clause-shown station text (replicate (256 - 2 * length (rowsOf x)) 0) k end x (clauses-lie n text (tokensPast text end) end refl) h))
+      (λ e. rw e (λ taken h. clause-shown station text (replicate (256 - 2 * length (rowsOf x)) 0) k end x
+      (clauses-lie n text (tokensPast text end) end refl) h))
       (λ e. rw e (λ taken h. absurd (refused-taken taken)))
 
   pub row-shown : tableOf 1 text .outcome ≡ Taken → k < tableOf 1 text .rows → (words : List ℕ) → rowAt words k ≡ rowAt (tableOf 1 text .words) k

@@ -1,4 +1,5 @@
--- A clause's own bytes, by the number of its row: document 02, "The rule behind each step". Rows are numbered from 1, the left station's first.
+-- A clause's own bytes, by the number of its row: document 02, "The rule behind each step". Rows are numbered from 1, the left station's
+-- first.
 use Prim.Native.Nat.{ℕ, zero, suc, _+_, _-_}
 use mathlib.Core.Bool.{Bool, true, not, _&&_, cond}
 use mathlib.Core.List.{List, [], _∷_, _++_}
@@ -100,7 +101,8 @@ clausePlace d tables leftText rightText number =
 unfoldable pub placed : Dimensions → Tables → List ℕ → List ℕ → ℕ → Placed
 unfolding clausePlace
 placed d tables leftText rightText number =
-    given (outcome (excerptChecks d tables leftText rightText number)) (placed′.Of (clausePlace d tables leftText rightText number)) placed′.Refused
+    given (outcome (excerptChecks d tables leftText rightText number))
+    (placed′.Of (clausePlace d tables leftText rightText number)) placed′.Refused
 
 -- what asking for the place returns: 0, or the refusal's number
 abbrev pub placedCode : Placed → ℕ
@@ -124,4 +126,5 @@ bytesAt leftText rightText place = take (place .length) (drop (place .start) (co
 unfoldable pub clauseBytes : Dimensions → Tables → List ℕ → List ℕ → ℕ → List ℕ
 unfolding clausePlace
 clauseBytes d tables leftText rightText number =
-    given (outcome (excerptChecks d tables leftText rightText number)) (bytesAt leftText rightText (clausePlace d tables leftText rightText number)) (λ r. [])
+    given (outcome (excerptChecks d tables leftText rightText number))
+    (bytesAt leftText rightText (clausePlace d tables leftText rightText number)) (λ r. [])

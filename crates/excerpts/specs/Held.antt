@@ -9,7 +9,8 @@ use Rattle.excerpts.specs.Excerpts.{between}
 
 -- the place of a clause that has these two words; else start 0 and length 0
 abbrev pub placeHeld : ℕ → Clause → ℕ → ℕ → Place
-placeHeld station (Read row from to) positive negative = cond (eqb (row .positive) positive && eqb (row .negative) negative) (between station from to) (between station 0 0)
+placeHeld station (Read row from to) positive negative = cond (eqb (row .positive) positive && eqb (row .negative) negative)
+    (between station from to) (between station 0 0)
 placeHeld station End positive negative = between station 0 0
 placeHeld station Unreadable positive negative = between station 0 0
 

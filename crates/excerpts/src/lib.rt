@@ -13,7 +13,8 @@ ghost use Rattle.refusals.specs.Numbers.{said};
 ghost use Rattle.refusals.specs.Checks.{outcome};
 ghost use Rattle.clauses.specs.First.{clausesFrom, first};
 ghost use Rattle.tables.specs.Tables.{allTables};
-ghost use Rattle.excerpts.specs.Excerpts.{hasClause, textChecks, excerptChecks, skip, clauseOf, between, placeOf, clausePlace, placed, placedCode, placeNumbers, placedNumbers, clauseBytes};
+ghost use Rattle.excerpts.specs.Excerpts.{hasClause, textChecks, excerptChecks, skip, clauseOf, between, placeOf, clausePlace};
+ghost use Rattle.excerpts.specs.Excerpts.{placed, placedCode, placeNumbers, placedNumbers, clauseBytes};
 ghost use Rattle.excerpts.specs.Held.{placeHeld, Ordered};
 
 // Where a clause stands: the text of station 0, the left one, or 1, the right one, its first byte and how many they are.
@@ -73,7 +74,9 @@ pub fn check(
     right_text: &[u8],
     number: u64,
 ) -> Outcome
-    ensures { λ r. ⌜ r ≡ outcome (excerptChecks d (allTables (now (left .entry)) (now (right .entry)) (now (public .entry))) (now («left_text» .entry)) (now («right_text» .entry)) number) ⌝ }
+    ensures { λ r.
+        ⌜ r ≡ outcome (excerptChecks d (allTables (now (left .entry)) (now (right .entry)) (now (public .entry))) (now («left_text» .entry))
+        (now («right_text» .entry)) number) ⌝ }
 {
     let checked = tables::accept(d, left, right, public);
     match checked {
@@ -166,8 +169,15 @@ pub fn clause_place(
     right_text: &[u8],
     number: u64,
 ) -> Placed
-    ensures { λ r. ⌜ r ≡ placed d (allTables (now (left .entry)) (now (right .entry)) (now (public .entry))) (now («left_text» .entry)) (now («right_text» .entry)) number ⌝ }
-    ensures { λ r. ⌜ placedCode r ∷ placedNumbers r ≡ said (outcome (excerptChecks d (allTables (now (left .entry)) (now (right .entry)) (now (public .entry))) (now («left_text» .entry)) (now («right_text» .entry)) number)) (placeNumbers (clausePlace d (allTables (now (left .entry)) (now (right .entry)) (now (public .entry))) (now («left_text» .entry)) (now («right_text» .entry)) number)) ⌝ }
+    ensures { λ r.
+        ⌜ r ≡ placed d (allTables (now (left .entry)) (now (right .entry)) (now (public .entry))) (now («left_text» .entry))
+        (now («right_text» .entry)) number ⌝ }
+    ensures { λ r.
+        ⌜ placedCode r ∷ placedNumbers r
+        ≡ said (outcome (excerptChecks d (allTables (now (left .entry)) (now (right .entry)) (now (public .entry)))
+        (now («left_text» .entry)) (now («right_text» .entry)) number))
+        (placeNumbers (clausePlace d (allTables (now (left .entry)) (now (right .entry)) (now (public .entry))) (now («left_text» .entry))
+        (now («right_text» .entry)) number)) ⌝ }
 {
     let checked = check(d, left, right, public, left_text, right_text, number);
     if let Outcome::Refused(refusal) = checked {
@@ -182,7 +192,8 @@ pub fn clause_place(
     Placed::Of(find_place(1, right, right_text, i))
 }
 
-// The own bytes of the clause that row `number`, from 1, was read from, a part of the left or the right text: from its first literal through its 0.
+// The own bytes of the clause that row `number`, from 1, was read from, a part of the left or the right text: from its first literal
+// through its 0.
 // The part is empty where the table's row no longer has the clause's two words, and where `check` refuses.
 pub fn clause_bytes<'a>(
     d: Dimensions,
@@ -193,7 +204,9 @@ pub fn clause_bytes<'a>(
     right_text: &'a [u8],
     number: u64,
 ) -> &'a [u8]
-    ensures { λ r. ⌜ now r ≡ clauseBytes d (allTables (now (left .entry)) (now (right .entry)) (now (public .entry))) (now («left_text» .entry)) (now («right_text» .entry)) number ⌝ }
+    ensures { λ r.
+        ⌜ now r ≡ clauseBytes d (allTables (now (left .entry)) (now (right .entry)) (now (public .entry))) (now («left_text» .entry))
+        (now («right_text» .entry)) number ⌝ }
 {
     let asked = clause_place(d, left, right, public, left_text, right_text, number);
     let Placed::Of(place) = asked else {

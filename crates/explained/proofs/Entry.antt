@@ -34,7 +34,8 @@ module _ (d : Dimensions) (tables : Tables) (run : Run) where
   step-outcome = go checked
     where
       go : (o : Outcome)
-          → given {A = Stepped} o (record { outcome = Taken; run = runOf (d .n) (step (d .n) (rowsOf d tables) (stateOf run)) }) (λ r. record { outcome = Refused r; run = run }) .outcome ≡ o
+          → given {A = Stepped} o (record { outcome = Taken; run = runOf (d .n) (step (d .n) (rowsOf d tables) (stateOf run)) })
+          (λ r. record { outcome = Refused r; run = run }) .outcome ≡ o
       go Taken = refl
       go (Refused r) = refl
 
@@ -60,13 +61,15 @@ module _ (d : Dimensions) (tables : Tables) (run : Run) where
         ∙ ap (λ (x : Stepped). record { outcome = x .outcome; run = x .run; told = given (x .outcome) tells (λ r. Nothing) }) q
 
     pub explained-taken : s .outcome ≡ Taken → (told : Told) → told ≡ tells
-        → let e : Explained = record { outcome = s .outcome; run = s .run; told = told } in (e ≡ explained d tables run) × (explainedSaid e ≡ said checked (toldNumbers tells))
+        → let e : Explained = record { outcome = s .outcome; run = s .run; told = told } in
+        (e ≡ explained d tables run) × (explainedSaid e ≡ said checked (toldNumbers tells))
     explained-taken t told h =
         with-said (record { outcome = s .outcome; run = s .run; told = told })
         (explained-as told (h ∙ ap (λ (o : Outcome). given o tells (λ r. Nothing)) (sym t)))
 
     pub explained-refused : (r : Refusal) → s .outcome ≡ Refused r
-        → let e : Explained = record { outcome = s .outcome; run = s .run; told = Nothing } in (e ≡ explained d tables run) × (explainedSaid e ≡ said checked (toldNumbers tells))
+        → let e : Explained = record { outcome = s .outcome; run = s .run; told = Nothing } in
+        (e ≡ explained d tables run) × (explainedSaid e ≡ said checked (toldNumbers tells))
     explained-refused r t =
         with-said (record { outcome = s .outcome; run = s .run; told = Nothing })
         (explained-as Nothing (ap (λ (o : Outcome). given o tells (λ r. Nothing)) (sym t)))

@@ -1,4 +1,5 @@
--- What a step tells over the fronts of accepted buffers, at 32 variables, is what it tells over the tables at n: a front holds the table's rows, and accepted rows are judged alike.
+-- What a step tells over the fronts of accepted buffers, at 32 variables, is what it tells over the tables at n: a front holds the table's rows, and accepted
+-- rows are judged alike.
 use mathlib.Core.Path.{_≡_, refl, ap, ap₂, _∙_}
 use mathlib.Core.Bool.{Bool, true, _&&_}
 use mathlib.Core.List.{List, [], _∷_, _++_}

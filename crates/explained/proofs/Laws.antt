@@ -1,4 +1,5 @@
--- What is told: nothing exactly if the run was closed; and where a conflict or a forced literal is told, some row shows the rule, so that the row named is the lowest that does.
+-- What is told: nothing exactly if the run was closed; and where a conflict or a forced literal is told, some row shows the rule, so that the row named is the
+-- lowest that does.
 -- The first by the cases of the rule, the second from what holds where each rule applies.
 use mathlib.Core.Path.{_≡_, refl, sym, ap, _∙_}
 use mathlib.Core.Bool.{Bool, true, false, _&&_, _||_, false≢true}
@@ -57,7 +58,8 @@ module _ (n : ℕ) (rows : List Row) (s : State) where
   nothing-closed = go (s .standing)
     where
       go : (st : Standing) → ifOpen st (told n rows s (rule n rows (s .t) (s .f))) Nothing ≡ Nothing → ifOpen st false true ≡ true
-      go Open e = absurd (let z : ruleNumber (told n rows s (rule n rows (s .t) (s .f))) ≡ 0 = ap ruleNumber e in omega (arith, z, told-number (rule n rows (s .t) (s .f))))
+      go Open e = absurd (let z : ruleNumber (told n rows s (rule n rows (s .t) (s .f)))
+          ≡ 0 = ap ruleNumber e in omega (arith, z, told-number (rule n rows (s .t) (s .f))))
       go Satisfied e = refl
       go Refuted e = refl
 

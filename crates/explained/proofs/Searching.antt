@@ -73,7 +73,8 @@ module _ (p : Row → Bool) where
     at-row : (i : ℕ) → i < m → rowsFrom words i (m - i) ≡ rowAt words i ∷ rowsFrom words (suc i) (m - suc i)
     at-row i h = let e : m - i ≡ suc (m - suc i) = omega arith in ap (rowsFrom words i) e
 
-    pub searched-next : (i found next : ℕ) → 1 ≤ first → i < m → found ≡ 0 → next ≡ cond (p (rowAt words i)) (first + i) found → Searched i found → Searched (i + 1) next
+    pub searched-next : (i found next : ℕ) → 1 ≤ first → i < m → found ≡ 0 → next ≡ cond (p (rowAt words i)) (first + i) found
+        → Searched i found → Searched (i + 1) next
     unfolding lowestFrom
     searched-next i found next h b z e s =
         let rest = rowsFrom words (suc i) (m - suc i) in

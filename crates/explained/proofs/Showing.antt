@@ -1,4 +1,5 @@
--- When a row shows a rule, from what judging it gives: the test of its literals is the judging's, and a literal that the row holds is free if its variable is in neither T nor F.
+-- When a row shows a rule, from what judging it gives: the test of its literals is the judging's, and a literal that the row holds is free if its variable is
+-- in neither T nor F.
 use mathlib.Core.Path.{_≡_, refl, ap, ap₂, _∙_}
 use mathlib.Core.Bool.{Bool, true, false, not, _&&_, _||_}
 use Prim.Native.Nat.{ℕ}

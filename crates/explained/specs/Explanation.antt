@@ -66,7 +66,11 @@ unfoldable pub explained : Dimensions → Tables → Run → Explained
 unfolding explanation stepped
 explained d tables run =
     let s = stepped d tables run in
-    record { outcome = s .outcome; run = s .run; told = given (s .outcome) (explanation (d .n) (rowsOf d tables) (stateOf run)) (λ r. Nothing) }
+    record {
+      outcome = s .outcome;
+      run = s .run;
+      told = given (s .outcome) (explanation (d .n) (rowsOf d tables) (stateOf run)) (λ r. Nothing);
+    }
 
 -- rule, row or 0, variable from 1 and value of the literal taken: by a conflict with a level false, by a choice true; else 0 and 0
 abbrev pub toldNumbers : Told → List ℕ

@@ -74,7 +74,11 @@ fn tell(left: &[u32], right: &[u32], public: &[u32], run: Run) -> Told
     requires { ⌜ length (now right) ≤ 510 ⌝ }
     requires { ⌜ length (now public) ≤ 510 ⌝ }
     requires { ⌜ run .depth ≤ 32 ⌝ }
-    ensures { λ r. ⌜ r ≡ told 32 (Rules.rowsIn (now (left .entry)) ++ (Rules.rowsIn (now (right .entry)) ++ Rules.rowsIn (now (public .entry)))) (stateOf run) (Rules.rule 32 (Rules.rowsIn (now (left .entry)) ++ (Rules.rowsIn (now (right .entry)) ++ Rules.rowsIn (now (public .entry)))) (run .t) (run .f)) ⌝ }
+    ensures { λ r.
+        ⌜ r ≡ told 32 (Rules.rowsIn (now (left .entry)) ++ (Rules.rowsIn (now (right .entry)) ++ Rules.rowsIn (now (public .entry))))
+        (stateOf run) (Rules.rule 32
+        (Rules.rowsIn (now (left .entry))
+        ++ (Rules.rowsIn (now (right .entry)) ++ Rules.rowsIn (now (public .entry)))) (run .t) (run .f)) ⌝ }
 {
     let t = run.t;
     let f = run.f;
@@ -97,7 +101,8 @@ fn tell(left: &[u32], right: &[u32], public: &[u32], run: Run) -> Told
 fn explain(d: Dimensions, left: &[u32], right: &[u32], public: &[u32], run: Run) -> Told
     requires { ⌜ outcome (tableChecks d (allTables (now left) (now right) (now public))) ≡ Taken ⌝ }
     requires { ⌜ wellFormed run ≡ true ⌝ }
-    ensures { λ r. ⌜ r ≡ explanation (d .n) (rowsOf d (allTables (now (left .entry)) (now (right .entry)) (now (public .entry)))) (stateOf run) ⌝ }
+    ensures { λ r.
+        ⌜ r ≡ explanation (d .n) (rowsOf d (allTables (now (left .entry)) (now (right .entry)) (now (public .entry)))) (stateOf run) ⌝ }
 {
     let standing = run.standing;
     match standing {
@@ -126,7 +131,10 @@ pub fn step_explained(
     run: Run,
 ) -> Explained
     ensures { λ r. ⌜ r ≡ explained d (allTables (now (left .entry)) (now (right .entry)) (now (public .entry))) run ⌝ }
-    ensures { λ r. ⌜ explainedSaid r ≡ said (outcome (tableChecks d (allTables (now (left .entry)) (now (right .entry)) (now (public .entry))) ++ stateChecks d run)) (toldNumbers (explanation (d .n) (rowsOf d (allTables (now (left .entry)) (now (right .entry)) (now (public .entry)))) (stateOf run))) ⌝ }
+    ensures { λ r.
+        ⌜ explainedSaid r ≡ said (outcome (tableChecks d (allTables (now (left .entry)) (now (right .entry)) (now (public .entry)))
+        ++ stateChecks d run)) (toldNumbers (explanation (d .n)
+        (rowsOf d (allTables (now (left .entry)) (now (right .entry)) (now (public .entry)))) (stateOf run))) ⌝ }
 {
     let stepped = solver::step(d, left, right, public, run);
     let outcome = stepped.outcome;

@@ -82,7 +82,9 @@ pub(crate) fn lowest_row(
     requires { ⌜ length (now left) ≤ 510 ⌝ }
     requires { ⌜ length (now right) ≤ 510 ⌝ }
     requires { ⌜ length (now public) ≤ 510 ⌝ }
-    ensures { λ r. ⌜ r ≡ Explanation.lowestRow (Explanation.shows 32 t f rule) (rowsIn (now (left .entry)) ++ (rowsIn (now (right .entry)) ++ rowsIn (now (public .entry)))) ⌝ }
+    ensures { λ r.
+        ⌜ r ≡ Explanation.lowestRow (Explanation.shows 32 t f rule)
+        (rowsIn (now (left .entry)) ++ (rowsIn (now (right .entry)) ++ rowsIn (now (public .entry)))) ⌝ }
 {
     let right_first = 1 + (left.len() / 2) as u32;
     let public_first = right_first + (right.len() / 2) as u32;

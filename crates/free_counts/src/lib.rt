@@ -64,8 +64,12 @@ pub fn count_free(
     run: Run,
     counts: &mut [u8],
 ) -> Outcome
-    ensures { λ r. ⌜ r ≡ outcome (countChecks d (allTables (now (left .entry)) (now (right .entry)) (now (public .entry))) run (length (now (counts .entry)))) ⌝ }
-    ensures { λ _. ⌜ now (counts .exit) ≡ countsAfter d (allTables (now (left .entry)) (now (right .entry)) (now (public .entry))) run (now (counts .entry)) ⌝ }
+    ensures { λ r.
+        ⌜ r ≡ outcome (countChecks d (allTables (now (left .entry)) (now (right .entry)) (now (public .entry))) run
+        (length (now (counts .entry)))) ⌝ }
+    ensures { λ _.
+        ⌜ now (counts .exit) ≡ countsAfter d (allTables (now (left .entry)) (now (right .entry)) (now (public .entry)))
+        run (now (counts .entry)) ⌝ }
 {
     match check(d, left, right, public, run, counts.len()) {
         Outcome::Taken => {}

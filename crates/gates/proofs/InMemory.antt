@@ -1,5 +1,4 @@
 -- Gates and their words, wires and their bytes, there and back: by induction on the list, a gate or a byte at a time.
--- Assumes nothing.
 use mathlib.Core.Path.{_≡_, refl, ap, ap₂, sym, _∙_}
 use mathlib.Core.Bool.{Bool, true, false, _&&_, false≢true, and-comm}
 use mathlib.Core.List.{List, [], _∷_, _++_, append-assoc}

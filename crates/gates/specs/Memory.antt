@@ -1,4 +1,5 @@
--- Gates and wires in memory: a gate is three words, kind (0 XOR, 1 AND, 2 INV), first wire and second wire (0 for INV); a wire is a byte, 0 or 1.
+-- Gates and wires in memory: a gate is three words, kind (0 XOR, 1 AND, 2 INV), first wire and second wire (0 for INV); a wire is a byte, 0
+-- or 1.
 use mathlib.Core.Bool.{Bool, true, false, _&&_, cond}
 use mathlib.Core.List.{List, [], _∷_, _++_, map}
 use Prim.Native.Nat.{ℕ, zero, suc}

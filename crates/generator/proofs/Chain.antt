@@ -127,7 +127,8 @@ module _ (a : Addresses) (f : ℕ → Section) where
         e ∙ upto g same 5 ∙ ap (rows g) all
 
     -- where each member begins where the one before ends, the last of these ends at base b
-    module _ (base : ℕ → ℕ) (at : (d : ℕ) → f d .base ≡ base d) (next : (d : ℕ) → base d + size (f d) ≡ base (suc d)) (late : (d : ℕ) → a .inputs ≤ base d) where
+    module _ (base : ℕ → ℕ) (at : (d : ℕ) → f d .base ≡ base d) (next : (d : ℕ) → base d + size (f d) ≡ base (suc d))
+        (late : (d : ℕ) → a .inputs ≤ base d) where
       step : (d : ℕ) → Begins (a .inputs) (base (min d (a .b))) (ifDigit a f d) × (base (min d (a .b)) + size (ifDigit a f d) ≡ base (min (suc d) (a .b)))
       unfolding size
       step d =

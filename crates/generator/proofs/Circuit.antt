@@ -95,7 +95,8 @@ module _ (a : Addresses) where
 
   abbrev pub chosen : List Section
   chosen =
-      Sections.keyLow a ∷ Sections.keyHigh a ∷ Sections.bye a ∷ Sections.pairs a ∷ Sections.nodes a ∷ Sections.greatest a ∷ Sections.rule a ∷ Sections.root a ∷ []
+      Sections.keyLow a ∷ Sections.keyHigh a ∷ Sections.bye a ∷ Sections.pairs a ∷ Sections.nodes a ∷ Sections.greatest a
+      ∷ Sections.rule a ∷ Sections.root a ∷ []
 
   abbrev pub held : List Section
   held = Sections.targets a ∷ Sections.guards a ∷ Sections.selectLine a ∷ Sections.selectEnd a ∷ []
@@ -192,7 +193,8 @@ module _ (a : Addresses) where
   signed-gates = append-nil _ ∙ in-cells Templates.sum _ _ _ (a .m) refl
 
   chosen-gates : joined chosen
-      ≡ Netlist.keyLow a ++ (Netlist.keyHigh a ++ (Netlist.bye a ++ (Netlist.pairs a ++ (Netlist.nodes a ++ (Netlist.greatest a ++ (Netlist.rule a ++ Netlist.root a))))))
+      ≡ Netlist.keyLow a ++ (Netlist.keyHigh a
+      ++ (Netlist.bye a ++ (Netlist.pairs a ++ (Netlist.nodes a ++ (Netlist.greatest a ++ (Netlist.rule a ++ Netlist.root a))))))
   chosen-gates =
       ap₂ _++_ (in-cells Templates.sum _ _ _ (a .m) refl)
       (ap₂ _++_ (in-cells Templates.sum _ _ _ (a .m) refl)
@@ -218,7 +220,8 @@ module _ (a : Addresses) where
       ∙ simp append-assoc
 
   module _ (few : a .b ≤ 5) where
-    splits-on : joined from-splits ≡ rows (Netlist.split a) (a .b) ++ (Netlist.holding a ++ (Netlist.changing a ++ (Netlist.nextAssignment a ++ Netlist.nextDepth a)))
+    splits-on : joined from-splits ≡ rows (Netlist.split a) (a .b)
+        ++ (Netlist.holding a ++ (Netlist.changing a ++ (Netlist.nextAssignment a ++ Netlist.nextDepth a)))
     splits-on =
         joined-append (five a (Sections.split a)) (held ++ changed)
         ∙ ap₂ _++_ (five-joined a (Sections.split a) few (Netlist.split a) (λ d. in-cells Templates.split _ _ _ (2 ^ d) refl))
@@ -227,7 +230,8 @@ module _ (a : Addresses) where
     keys-on : joined from-keys ≡ rows (Netlist.keyDigit a) (a .b) ++ (joined chosen ++ joined from-splits)
     keys-on =
         joined-append (five a (Sections.keyDigit a)) (chosen ++ from-splits)
-        ∙ ap₂ _++_ (five-joined a (Sections.keyDigit a) few (Netlist.keyDigit a) (λ d. in-cells Templates.sum _ _ _ (a .m) refl)) (joined-append chosen from-splits)
+        ∙ ap₂ _++_ (five-joined a (Sections.keyDigit a) few (Netlist.keyDigit a) (λ d. in-cells Templates.sum _ _ _ (a .m) refl))
+        (joined-append chosen from-splits)
 
     first-gates : joined (first a) ≡ Netlist.judging a ++ (rows (Netlist.digit a) (a .b) ++ (Netlist.keySign a ++ joined from-keys))
     first-gates =
@@ -243,8 +247,11 @@ module _ (a : Addresses) where
         ap₂ _++_ (level-rows (a .n) (le-refl (a .n)) k (omega arith))
         (ap gatesOf (sym (at-last a k (omega arith) (omega arith))) ∙ in-cells Templates.standing _ _ _ 1 refl ∙ one-cell Templates.standing _ _ refl)
         ∙ ap (λ (l : List Gate). (l ++ rows (nextLevel a) (a .n)) ++ Netlist.nextStanding a) first-gates
-        ∙ ap (λ (l : List Gate). ((Netlist.judging a ++ (rows (Netlist.digit a) (a .b) ++ (Netlist.keySign a ++ l))) ++ rows (nextLevel a) (a .n)) ++ Netlist.nextStanding a)
+        ∙ ap (λ (l : List Gate). ((Netlist.judging a ++ (rows (Netlist.digit a) (a .b) ++ (Netlist.keySign a ++ l))) ++ rows (nextLevel a)
+        (a .n)) ++ Netlist.nextStanding a)
         (keys-on ∙ ap (λ (l : List Gate). rows (Netlist.keyDigit a) (a .b) ++ l) (ap₂ _++_ chosen-gates splits-on))
-        ∙ grouped (Netlist.judging a) (rows (Netlist.digit a) (a .b)) (Netlist.keySign a) (rows (Netlist.keyDigit a) (a .b)) (Netlist.keyLow a) (Netlist.keyHigh a) (Netlist.bye a)
-        (Netlist.pairs a) (Netlist.nodes a) (Netlist.greatest a) (Netlist.rule a) (Netlist.root a) (rows (Netlist.split a) (a .b)) (Netlist.holding a) (Netlist.changing a)
+        ∙ grouped (Netlist.judging a) (rows (Netlist.digit a) (a .b)) (Netlist.keySign a) (rows (Netlist.keyDigit a) (a .b)) (Netlist.keyLow a)
+        (Netlist.keyHigh a) (Netlist.bye a)
+        (Netlist.pairs a) (Netlist.nodes a) (Netlist.greatest a) (Netlist.rule a) (Netlist.root a) (rows (Netlist.split a) (a .b))
+        (Netlist.holding a) (Netlist.changing a)
         (Netlist.nextAssignment a) (Netlist.nextDepth a) (rows (nextLevel a) (a .n)) (Netlist.nextStanding a)

@@ -1,5 +1,4 @@
 -- What the generator gives, by what its checks find, and how many gates these are: from the order of the checks.
--- Assumes nothing.
 use mathlib.Core.Path.{_≡_, refl, ap, sym, _∙_, subst}
 use mathlib.Core.List.{List, [], _∷_, _++_}
 use Prim.Native.Nat.{ℕ, _+_, _*_, _-_, _≤_, _<_}
@@ -52,7 +51,10 @@ module _ (d : Dimensions) (words : List ℕ) where
   -- what follows from the outcome
   by-outcome : (o : Outcome) → outcome (generatorChecks d words) ≡ o
       → (given o (Of (length (gatesOn d))) Refused ≡ generated d words) × (given o (over (wordsOf (gatesOn d)) words) (λ r. words) ≡ written d words)
-  by-outcome o e = (ap (λ (x : Outcome). given x (Of (length (gatesOn d))) Refused) (sym e), ap (λ (x : Outcome). given x (over (wordsOf (gatesOn d)) words) (λ r. words)) (sym e))
+  by-outcome o e = (
+    ap (λ (x : Outcome). given x (Of (length (gatesOn d))) Refused) (sym e),
+    ap (λ (x : Outcome). given x (over (wordsOf (gatesOn d)) words) (λ r. words)) (sym e),
+  )
 
   pub refuse-size : (r : Refusal) → outcome (sizeChecks d) ≡ Not r
       → (Refused r ≡ generated d words) × ((words ≡ written d words) × Carried d (Refused r) words)
@@ -62,7 +64,8 @@ module _ (d : Dimensions) (words : List ℕ) where
       (t .0, (t .1, tt))
 
   module _ (e : outcome (sizeChecks d) ≡ Taken) where
-    pub refuse-buffer : length words < 3 * ceiling d → (Refused GateBuffer ≡ generated d words) × ((words ≡ written d words) × Carried d (Refused GateBuffer) words)
+    pub refuse-buffer : length words < 3 * ceiling d → (Refused GateBuffer ≡ generated d words)
+        × ((words ≡ written d words) × Carried d (Refused GateBuffer) words)
     unfolding bufferChecks
     refuse-buffer h =
         let t = by-outcome (Not GateBuffer) (outcome-taken (sizeChecks d) bufferChecks e ∙ rw (lt-ltb _ _ h)) in
@@ -76,6 +79,7 @@ module _ (d : Dimensions) (words : List ℕ) where
         let g = circuit (addressesOn d) in
         let t = by-outcome Taken (outcome-taken (sizeChecks d) bufferChecks e ∙ rw (le-ltb _ _ h)) in
         let l : 0 + length (wordsOf g) ≤ length words = omega (arith, words-length g, gates-few d (within d e)) in
-        let whole : w ≡ over (wordsOf g) words = ew ∙ sets-eq (wordsOf g) words 0 l ∙ ap (λ (k : ℕ). wordsOf g ++ drop k words) (zero-add (length (wordsOf g))) in
+        let whole : w ≡ over (wordsOf g) words = ew ∙ sets-eq (wordsOf g) words 0 l ∙ ap (λ (k : ℕ). wordsOf g ++ drop k words)
+        (zero-add (length (wordsOf g))) in
         let front : take (3 * r) w ≡ wordsOf g = ap (take (3 * r)) whole ∙ take-at (wordsOf g) _ (3 * r) (omega (arith, words-length g, er)) in
         (ap Of er ∙ t .0, (whole ∙ t .1, subst (CarriesOut d) (sym front) (gates-carry-out d e)))

@@ -84,7 +84,8 @@ module _ (n m b : ℕ) (few : b ≤ 5) where
       chain-append (a .inputs) (a .inputs) (a .digits) (digitAt a 0) _ (judged a) (from-digits a) judged-chained (omega arith)
       (chain-append (a .inputs) (digitAt a 0) (digitAt a b) (a .keys) _ (five a (Sections.digit a)) ((signed a) ++ (from-keys a)) digits-chained refl
       (chain-append (a .inputs) (a .keys) (a .keys + m * (1 + 0)) _ _ (signed a) (from-keys a) (omega arith) refl
-      (chain-append (a .inputs) (a .keys + m * (1 + 0)) (a .keys + m * (1 + b)) _ _ (five a (Sections.keyDigit a)) ((chosen a) ++ (from-splits a)) keys-chained refl
+      (chain-append (a .inputs) (a .keys + m * (1 + 0)) (a .keys + m * (1 + b)) _ _ (five a (Sections.keyDigit a))
+      ((chosen a) ++ (from-splits a)) keys-chained refl
       (chain-append (a .inputs) (a .keys + m * (1 + b)) (a .rule + 14) (a .rule + 12 + 2 * 2 ^ 0) _ (chosen a) (from-splits a) chosen-chained (omega arith)
       (chain-append (a .inputs) (a .rule + 12 + 2 * 2 ^ 0) (a .targets) _ _ (five a (Sections.split a)) ((held a) ++ (changed a)) splits-chained refl
       (chain-append (a .inputs) (a .targets) (a .levels) _ _ (held a) (changed a) held-chained refl changed-chained))))))
@@ -93,7 +94,8 @@ module _ (n m b : ℕ) (few : b ≤ 5) where
   reach zero h = omega arith
   reach (suc k) h =
       step (a .inputs) (length (rows (f a) k)) (length (f a k)) _ (size (getD (first a) k (last a))) (ends (a .inputs) (first a) k) _
-      (length-append (rows (f a) k) (f a k)) (f-length a k ∙ ap size (sym (at-first a k h))) (reach k (omega arith)) (ends-more (a .inputs) (first a) (last a) k h)
+      (length-append (rows (f a) k) (f a k)) (f-length a k ∙ ap size (sym (at-first a k h))) (reach k (omega arith))
+      (ends-more (a .inputs) (first a) (last a) k h)
 
   -- with l of the next levels
   reach-levels : (l : ℕ) → l ≤ n → (k : ℕ) → k ≡ 40 + l → a .inputs + length (rows (f a) k) ≡ a .outputs + 3 * n + 1 + 3 * n * l

@@ -1,5 +1,4 @@
 -- A part of the templates in memory holds that part of their gates: by what `take` and `drop` leave of a list.
--- Assumes nothing.
 use mathlib.Core.Path.{_≡_, refl, ap, _∙_}
 use mathlib.Core.Bool.{true}
 use mathlib.Core.List.{List, [], _∷_}
@@ -46,5 +45,6 @@ part t g e l from end f k ef ee h =
     let room : end - from ≤ length (drop from t) = omega (arith, length-drop from t) in (
       tidy-take (end - from) (drop from t) (tidy-drop from t e),
       length-take-le (end - from) (drop from t) room ∙ size,
-      take-gates (end - from) (drop from t) ∙ ap (take (end - from)) (drop-gates from t ∙ ap (drop from) g) ∙ ap (λ (j : ℕ). take j (drop from templates)) size ∙ ap (λ (j : ℕ). take k (drop j templates)) ef,
+      take-gates (end - from) (drop from t) ∙ ap (take (end - from)) (drop-gates from t ∙ ap (drop from) g) ∙ ap (λ (j : ℕ). take j (drop from templates)) size
+          ∙ ap (λ (j : ℕ). take k (drop j templates)) ef,
     )

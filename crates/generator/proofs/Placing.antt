@@ -1,5 +1,4 @@
 -- What placing a cell's gates keeps from turn to turn: the rest of the template, stored now, gives what the whole gives, stored at first.
--- Assumes nothing.
 use mathlib.Core.Path.{_≡_, refl, ap, ap₂, sym, _∙_}
 use mathlib.Core.Bool.{true, _&&_, cond}
 use mathlib.Core.List.{List, [], _∷_, _++_}
@@ -94,7 +93,9 @@ pub cells-more : (t : List Gate) (slots steps here : List ℕ) (b at size i : �
 unfolding cells
 cells-more t slots steps here b at size i w₀ w w′ p q e s h eh ea e′ =
     row-more (λ j. cell (along slots steps j) (b + length t * j) t) w₀ w w′ p q i e
-    (h ∙ ap (λ (k : ℕ). p + 3 * k) (ap (λ (k : ℕ). k * i) s ∙ sym (rows-length (λ j. cell (along slots steps j) (b + length t * j) t) (length t) (λ j. cell-length (along slots steps j) (b + length t * j) t) i)))
+    (h ∙ ap (λ (k : ℕ). p + 3 * k)
+    (ap (λ (k : ℕ). k * i) s ∙ sym (rows-length (λ j. cell (along slots steps j) (b + length t * j) t) (length t)
+    (λ j. cell-length (along slots steps j) (b + length t * j) t) i)))
     (e′ ∙ ap₂ (λ (l : List ℕ) (k : ℕ). sets w q (wordsOf (cell l k t))) eh (ea ∙ ap (λ (k : ℕ). b + k * i) s))
 
 -- one more line
@@ -105,7 +106,9 @@ pub lines-more : (z : ℕ) (t : List Gate) (slots outer inner here : List ℕ) (
 unfolding array
 lines-more z t slots outer inner here b at size n i w₀ w w′ p q e s h eh ea e′ =
     row-more (λ j. line z t (along slots outer j) inner (b + (z + length t * n) * j) n) w₀ w w′ p q i e
-    (h ∙ ap (λ (k : ℕ). p + 3 * k) (ap (λ (k : ℕ). (z + k * n) * i) s ∙ sym (rows-length (λ j. line z t (along slots outer j) inner (b + (z + length t * n) * j) n) (z + length t * n) (λ j. line-length z t (along slots outer j) inner (b + (z + length t * n) * j) n) i)))
+    (h ∙ ap (λ (k : ℕ). p + 3 * k)
+    (ap (λ (k : ℕ). (z + k * n) * i) s ∙ sym (rows-length (λ j. line z t (along slots outer j) inner (b + (z + length t * n) * j) n) (z + length t * n)
+    (λ j. line-length z t (along slots outer j) inner (b + (z + length t * n) * j) n) i)))
     (e′ ∙ ap₂ (λ (l : List ℕ) (k : ℕ). sets w q (wordsOf (line z t l inner k n))) eh (ea ∙ ap (λ (k : ℕ). b + (z + k * n) * i) s))
 
 -- zeros, then cells

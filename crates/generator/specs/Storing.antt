@@ -10,7 +10,8 @@ use Rattle.dimensions.specs.declared.Dimensions.{Dimensions}
 use Rattle.sections.specs.declared.Section.{Section}
 use Rattle.sections.specs.Addressing.{addressesOn}
 use Rattle.sections.specs.Sections.{sectionAt}
-use Rattle.netlist.specs.Templates.{sum, literal, count, rank, bye, pair, node, choice, rule, split, target, guard, select, level, assignment, standing}
+use Rattle.netlist.specs.Templates.{sum, literal, count, rank, bye, pair, node, choice, rule, split, target, guard, select, level}
+use Rattle.netlist.specs.Templates.{assignment, standing}
 use Rattle.netlist.specs.Arrays.{Below, inArray}
 
 -- the gates of a template in memory, a number a gate: its kind, then two hexadecimal digits for each operand

@@ -50,7 +50,9 @@ fn place(words: &mut [u32], inputs: u32, base: u32, template: &[u32], slots: [u3
     requires { ⌜ tidy (now template) ≡ true ⌝ }
     requires { ⌜ (inputs ≤ base) × (base ≤ 33554432) ⌝ }
     requires { ⌜ 3 * (base - inputs) + 3 * length (now template) ≤ length (now words) ⌝ }
-    ensures { λ _. ⌜ now (words .exit) ≡ sets (now (words .entry)) (3 * (base - inputs)) (wordsOf (cell slots base (gatesIn (now (template .entry))))) ⌝ }
+    ensures { λ _.
+        ⌜ now (words .exit) ≡ sets (now (words .entry)) (3 * (base - inputs))
+        (wordsOf (cell slots base (gatesIn (now (template .entry))))) ⌝ }
 {
     let mut p = 3 * wide(base - inputs);
     let mut i = 0;
@@ -95,7 +97,9 @@ fn cells(
     requires { ⌜ (n ≤ 384) × (inputs ≤ base) × (base ≤ 16777216) ⌝ }
     requires { ⌜ (Below 41943040 slots) × (Below 65536 steps) ⌝ }
     requires { ⌜ 3 * (base - inputs) + 3 * (length (now template) * n) ≤ length (now words) ⌝ }
-    ensures { λ _. ⌜ now (words .exit) ≡ sets (now (words .entry)) (3 * (base - inputs)) (wordsOf (Arrays.cells (gatesIn (now (template .entry))) slots steps base n)) ⌝ }
+    ensures { λ _.
+        ⌜ now (words .exit) ≡ sets (now (words .entry)) (3 * (base - inputs))
+        (wordsOf (Arrays.cells (gatesIn (now (template .entry))) slots steps base n)) ⌝ }
 {
     let size = template.len() as u32;
     let mut at = base;
@@ -123,7 +127,9 @@ fn line(
     requires { ⌜ (zeros ≤ 4) × (n ≤ 384) × (inputs ≤ base) × (base ≤ 8388608) ⌝ }
     requires { ⌜ (Below 41943040 slots) × (Below 65536 steps) ⌝ }
     requires { ⌜ 3 * (base - inputs) + 3 * (zeros + length (now template) * n) ≤ length (now words) ⌝ }
-    ensures { λ _. ⌜ now (words .exit) ≡ sets (now (words .entry)) (3 * (base - inputs)) (wordsOf (Arrays.line zeros (gatesIn (now (template .entry))) slots steps base n)) ⌝ }
+    ensures { λ _.
+        ⌜ now (words .exit) ≡ sets (now (words .entry)) (3 * (base - inputs))
+        (wordsOf (Arrays.line zeros (gatesIn (now (template .entry))) slots steps base n)) ⌝ }
 {
     cells(words, inputs, base, &templates::SUM, zeros, [0; 8], [0; 8]);
     cells(words, inputs, base + zeros, template, n, slots, steps);
@@ -133,7 +139,8 @@ fn line(
 fn array(words: &mut [u32], inputs: u32, template: &[u32], s: Section)
     requires { ⌜ (tidy (now template) ≡ true) × (length (now template) ≡ s .size) ⌝ }
     requires { ⌜ Fits inputs s (length (now words)) ⌝ }
-    ensures { λ _. ⌜ now (words .exit) ≡ sets (now (words .entry)) (3 * (s .base - inputs)) (wordsOf (inArray (gatesIn (now (template .entry))) s)) ⌝ }
+    ensures { λ _.
+        ⌜ now (words .exit) ≡ sets (now (words .entry)) (3 * (s .base - inputs)) (wordsOf (inArray (gatesIn (now (template .entry))) s)) ⌝ }
 {
     let zeros = s.zeros;
     let n = s.cells;

@@ -35,7 +35,9 @@ pub fn generate(d: Dimensions, words: &mut [u32]) -> Generated
     ensures { λ r. ⌜ r ≡ Generation.generated d (now (words .entry)) ⌝ }
     ensures { λ _. ⌜ now (words .exit) ≡ written d (now (words .entry)) ⌝ }
     ensures { λ r. ⌜ Carried d r (now (words .exit)) ⌝ }
-    ensures { λ r. ⌜ generatedCode r ∷ generatedNumbers r ≡ said (Checks.outcome (generatorChecks d (now (words .entry)))) (length (gatesOn d) ∷ []) ⌝ }
+    ensures { λ r.
+        ⌜ generatedCode r ∷ generatedNumbers r ≡ said (Checks.outcome (generatorChecks d (now (words .entry))))
+        (length (gatesOn d) ∷ []) ⌝ }
 {
     let outcome = d.check();
     match outcome {

@@ -1,4 +1,5 @@
-// The templates of the cells, a number a gate: its kind, then two hexadecimal digits for each operand. An operand below 8 is a slot, 8 + k the cell's own gate k.
+// The templates of the cells, a number a gate: its kind, then two hexadecimal digits for each operand. An operand below 8 is a slot, 8 + k
+// the cell's own gate k.
 // What each computes stands beside its namesake in netlist's definitions.
 
 // XOR of slots 0 and 1; on unused slots a gate that is 0.

@@ -1,5 +1,4 @@
 -- Headers of small texts, each with the place behind its line, computed.
--- Assumes nothing.
 use mathlib.Core.Path.{_≡_, refl}
 use mathlib.Core.List.{[], _∷_}
 use Prim.Native.Nat.{ℕ}

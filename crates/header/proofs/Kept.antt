@@ -1,6 +1,5 @@
 -- The header is the same without the remarks: what stands before it is left out, its line is kept, and what is kept of the text goes on behind it.
 -- By the lines before the header, one at a time.
--- Assumes nothing.
 use mathlib.Core.Path.{_≡_, refl, sym, ap, ap₂, _∙_}
 use mathlib.Core.Bool.{Bool, not}
 use mathlib.Core.List.{List, []}

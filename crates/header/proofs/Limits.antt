@@ -1,5 +1,4 @@
 -- n and m as they are judged: a value held up to 1000 passes the tests that the exact one passes, and what is taken is within the limits. By the tests' cases.
--- Assumes nothing.
 use mathlib.Core.Path.{_≡_, refl, sym, ap, ap₂, _∙_}
 use mathlib.Core.Bool.{Bool, false, _&&_, _||_}
 use mathlib.Core.List.{List, [], _∷_}

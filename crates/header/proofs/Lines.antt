@@ -1,5 +1,4 @@
 -- The lines before the header, one at a time: past a remark stand the lines of the text that follows it.
--- Assumes nothing.
 use mathlib.Core.Path.{_≡_, sym, ap, ap₂, _∙_}
 use mathlib.Core.Bool.{Bool, not}
 use mathlib.Core.List.{List, [], _∷_}

@@ -1,5 +1,4 @@
 -- The parts of a header's line, one at a time: each that is found is the next of the definition's.
--- Assumes nothing.
 use mathlib.Core.Path.{_≡_, _∙_}
 use mathlib.Core.Bool.{true, false, cond, _&&_}
 use mathlib.Core.List.{List, []}

@@ -1,4 +1,5 @@
--- The header of a text: `c` lines may stand before it, and nothing else; n and m are judged in it (document 01, "DIMACS" and "Turned back").
+-- The header of a text: `c` lines may stand before it, and nothing else; n and m are judged in it (document 01, "DIMACS" and "Turned
+-- back").
 -- `least` is the least m that is taken: 1 in a station's text, 0 in that of the public rest rules (document 02, "Public rest rules").
 use Prim.Native.Nat.{ℕ}
 use mathlib.Core.Path.{_≡_}

@@ -1,6 +1,5 @@
 -- What the circuit's entries give on a host's numbers as bytes is what they give on the numbers: refused sizes are refused alike, since the
 -- checks begin with those.
--- Assumes nothing.
 use mathlib.Core.Path.{_≡_, refl, sym, ap, subst, _∙_}
 use mathlib.Core.List.{List, [], _∷_, _++_}
 use Prim.Native.Nat.{ℕ, _+_, _*_, _≤_, min}

@@ -1,5 +1,4 @@
 -- A run read back by a host's number n: its byte is refused alike or is n itself.
--- Assumes nothing.
 use mathlib.Core.Path.{_≡_, ap}
 use mathlib.Core.Bool.{true}
 use mathlib.Core.List.{List}

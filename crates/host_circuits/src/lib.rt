@@ -46,7 +46,8 @@ pub extern "C" fn forkhemit_sizes(
     0
 }
 
-// Writes the circuit, which carries out the giant step, over the front of the words, and how many gates it has; 1, 2 or 7 where it is turned back, and then nothing is written.
+// Writes the circuit, which carries out the giant step, over the front of the words, and how many gates it has; 1, 2 or 7 where it is
+// turned back, and then nothing is written.
 #[no_mangle]
 pub extern "C" fn forkhemit_generate(
     n: u64,
@@ -58,8 +59,12 @@ pub extern "C" fn forkhemit_generate(
 ) -> u8
     ensures { λ r. ⌜ r ≡ generatedCode (Generation.generated (dimensions n «left_rows» «right_rows» «public_rows») (now (gates .entry))) ⌝ }
     ensures { λ _. ⌜ now (gates .exit) ≡ Generation.written (dimensions n «left_rows» «right_rows» «public_rows») (now (gates .entry)) ⌝ }
-    ensures { λ _. ⌜ now (count .exit) ≡ numbersOr (generatedNumbers (Generation.generated (dimensions n «left_rows» «right_rows» «public_rows») (now (gates .entry)))) (now (count .entry)) ⌝ }
-    ensures { λ _. ⌜ Generation.Carried (dimensions n «left_rows» «right_rows» «public_rows») (Generation.generated (dimensions n «left_rows» «right_rows» «public_rows») (now (gates .entry))) (now (gates .exit)) ⌝ }
+    ensures { λ _.
+        ⌜ now (count .exit) ≡ numbersOr (generatedNumbers (Generation.generated (dimensions n «left_rows» «right_rows» «public_rows»)
+        (now (gates .entry)))) (now (count .entry)) ⌝ }
+    ensures { λ _.
+        ⌜ Generation.Carried (dimensions n «left_rows» «right_rows» «public_rows»)
+        (Generation.generated (dimensions n «left_rows» «right_rows» «public_rows») (now (gates .entry))) (now (gates .exit)) ⌝ }
 {
     let d = codes::dimensions(n, left_rows, right_rows, public_rows);
     match generator::generate(d, gates) {
@@ -71,7 +76,8 @@ pub extern "C" fn forkhemit_generate(
     }
 }
 
-// Packs left rows, right rows, public rows and run over the front of the bytes; 1, 2, 4, 3, 10, 12 or 13 where it is turned back, and then no byte changes.
+// Packs left rows, right rows, public rows and run over the front of the bytes; 1, 2, 4, 3, 10, 12 or 13 where it is turned back, and then
+// no byte changes.
 #[no_mangle]
 pub extern "C" fn forkhemit_pack(
     n: u64,
@@ -84,8 +90,13 @@ pub extern "C" fn forkhemit_pack(
     run: &[u32; 101],
     bytes: &mut [u8],
 ) -> u8
-    ensures { λ r. ⌜ r ≡ codeOf (outcome (packChecks (dimensions n «left_rows» «right_rows» «public_rows») (allTables (now (left .entry)) (now (right .entry)) (now (public .entry))) (runIn (now (run .entry))) (length (now (bytes .entry))))) ⌝ }
-    ensures { λ _. ⌜ now (bytes .exit) ≡ packed (dimensions n «left_rows» «right_rows» «public_rows») (allTables (now (left .entry)) (now (right .entry)) (now (public .entry))) (runIn (now (run .entry))) (now (bytes .entry)) ⌝ }
+    ensures { λ r.
+        ⌜ r ≡ codeOf (outcome (packChecks (dimensions n «left_rows» «right_rows» «public_rows»)
+        (allTables (now (left .entry)) (now (right .entry)) (now (public .entry))) (runIn (now (run .entry)))
+        (length (now (bytes .entry))))) ⌝ }
+    ensures { λ _.
+        ⌜ now (bytes .exit) ≡ packed (dimensions n «left_rows» «right_rows» «public_rows»)
+        (allTables (now (left .entry)) (now (right .entry)) (now (public .entry))) (runIn (now (run .entry))) (now (bytes .entry)) ⌝ }
 {
     let d = codes::dimensions(n, left_rows, right_rows, public_rows);
     codes::code(wires::pack(d, left, right, public, stored::load(*run), bytes))

@@ -1,4 +1,5 @@
--- What asking for a clause's place gives on a host's numbers as bytes is what it gives on the numbers: refused sizes are refused alike, since the checks begin with those.
+-- What asking for a clause's place gives on a host's numbers as bytes is what it gives on the numbers: refused sizes are refused alike, since the checks begin
+-- with those.
 use mathlib.Core.Path.{_≡_, sym}
 use mathlib.Core.List.{List}
 use Prim.Native.Nat.{ℕ}
@@ -21,5 +22,6 @@ module _ (tables : Tables) (leftText rightText : List ℕ) (row : ℕ) where
   sizes-refused d q h =
       sym (place-refused d tables leftText rightText row q (tables-refused d tables leftText rightText row q (sym (refuse-size d tables q h))))
 
-  pub place-is : (asked d : Dimensions) → d ≡ asBytes asked → (p : Placed) → p ≡ placed d tables leftText rightText row → p ≡ placed asked tables leftText rightText row
+  pub place-is : (asked d : Dimensions) → d ≡ asBytes asked → (p : Placed) → p ≡ placed d tables leftText rightText row
+      → p ≡ placed asked tables leftText rightText row
   place-is asked d e = on-numbers asked (λ x. placed x tables leftText rightText row) placed′.Refused sizes-refused d e

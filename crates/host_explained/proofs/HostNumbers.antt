@@ -1,4 +1,5 @@
--- What the step that tells its rule gives on a host's numbers as bytes is what it gives on the numbers: refused sizes are refused alike, since the checks begin with those.
+-- What the step that tells its rule gives on a host's numbers as bytes is what it gives on the numbers: refused sizes are refused alike, since the checks begin
+-- with those.
 use mathlib.Core.Path.{_≡_, sym, ap, _∙_}
 use mathlib.Core.List.{List}
 use Prim.Native.Nat.{ℕ}

@@ -32,9 +32,16 @@ pub extern "C" fn forkhemit_step_explained(
     run: &mut [u32; 101],
     explanation: &mut [u64; 4],
 ) -> u8
-    ensures { λ r. ⌜ r ≡ codeOf (explainIn (dimensions n «left_rows» «right_rows» «public_rows») (allTables (now (left .entry)) (now (right .entry)) (now (public .entry))) (now (run .entry)) .outcome) ⌝ }
-    ensures { λ _. ⌜ now (run .exit) ≡ runAfter (explainIn (dimensions n «left_rows» «right_rows» «public_rows») (allTables (now (left .entry)) (now (right .entry)) (now (public .entry))) (now (run .entry))) (now (run .entry)) ⌝ }
-    ensures { λ _. ⌜ now (explanation .exit) ≡ numbersAfter (explainIn (dimensions n «left_rows» «right_rows» «public_rows») (allTables (now (left .entry)) (now (right .entry)) (now (public .entry))) (now (run .entry))) (now (explanation .entry)) ⌝ }
+    ensures { λ r.
+        ⌜ r ≡ codeOf (explainIn (dimensions n «left_rows» «right_rows» «public_rows»)
+        (allTables (now (left .entry)) (now (right .entry)) (now (public .entry))) (now (run .entry)) .outcome) ⌝ }
+    ensures { λ _.
+        ⌜ now (run .exit) ≡ runAfter (explainIn (dimensions n «left_rows» «right_rows» «public_rows»)
+        (allTables (now (left .entry)) (now (right .entry)) (now (public .entry))) (now (run .entry))) (now (run .entry)) ⌝ }
+    ensures { λ _.
+        ⌜ now (explanation .exit)
+        ≡ numbersAfter (explainIn (dimensions n «left_rows» «right_rows» «public_rows»)
+        (allTables (now (left .entry)) (now (right .entry)) (now (public .entry))) (now (run .entry))) (now (explanation .entry)) ⌝ }
 {
     let d = codes::dimensions(n, left_rows, right_rows, public_rows);
     let stepped = explained::step_explained(d, left, right, public, stored::load(*run));

@@ -1,6 +1,5 @@
 -- What the index, the number of unsatisfied rows, the step and the run that go by them give on a host's numbers as bytes is what they give on the
 -- numbers: refused sizes are refused alike, since the checks begin with those.
--- Assumes nothing.
 use mathlib.Core.Path.{_≡_, sym, ap, _∙_}
 use mathlib.Core.List.{List}
 use Prim.Native.Nat.{ℕ}

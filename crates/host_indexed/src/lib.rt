@@ -1,4 +1,5 @@
-// For hosts in C and Rust: the rows of each literal as an index, the number of unsatisfied rows, and the step and the budgeted run that go by them.
+// For hosts in C and Rust: the rows of each literal as an index, the number of unsatisfied rows, and the step and the budgeted run that go
+// by them.
 // Each function is a thin call of a proved entry. A slice passes as a pointer and then a length, an array as a pointer.
 // It returns 0 where the call is taken, else the refusal's number, and then all lent memory is as it was.
 use indexed::Counted;
@@ -28,8 +29,12 @@ pub extern "C" fn forkhemit_index(
     public: &[u32],
     index: &mut [u64; 384],
 ) -> u8
-    ensures { λ r. ⌜ r ≡ codeOf (outcome (tableChecks (dimensions n «left_rows» «right_rows» «public_rows») (allTables (now (left .entry)) (now (right .entry)) (now (public .entry))))) ⌝ }
-    ensures { λ _. ⌜ now (index .exit) ≡ indexAfter (dimensions n «left_rows» «right_rows» «public_rows») (allTables (now (left .entry)) (now (right .entry)) (now (public .entry))) (now (index .entry)) ⌝ }
+    ensures { λ r.
+        ⌜ r ≡ codeOf (outcome (tableChecks (dimensions n «left_rows» «right_rows» «public_rows»)
+        (allTables (now (left .entry)) (now (right .entry)) (now (public .entry))))) ⌝ }
+    ensures { λ _.
+        ⌜ now (index .exit) ≡ indexAfter (dimensions n «left_rows» «right_rows» «public_rows»)
+        (allTables (now (left .entry)) (now (right .entry)) (now (public .entry))) (now (index .entry)) ⌝ }
 {
     let d = codes::dimensions(n, left_rows, right_rows, public_rows);
     codes::code(indexed::index(d, left, right, public, index))
@@ -48,8 +53,13 @@ pub extern "C" fn forkhemit_unsatisfied(
     run: &[u32; 101],
     number: &mut [u64; 1],
 ) -> u8
-    ensures { λ r. ⌜ r ≡ countedCode (counted (dimensions n «left_rows» «right_rows» «public_rows») (allTables (now (left .entry)) (now (right .entry)) (now (public .entry))) (runIn (now (run .entry)))) ⌝ }
-    ensures { λ _. ⌜ now (number .exit) ≡ numbersOr (countedNumbers (counted (dimensions n «left_rows» «right_rows» «public_rows») (allTables (now (left .entry)) (now (right .entry)) (now (public .entry))) (runIn (now (run .entry))))) (now (number .entry)) ⌝ }
+    ensures { λ r.
+        ⌜ r ≡ countedCode (counted (dimensions n «left_rows» «right_rows» «public_rows»)
+        (allTables (now (left .entry)) (now (right .entry)) (now (public .entry))) (runIn (now (run .entry)))) ⌝ }
+    ensures { λ _.
+        ⌜ now (number .exit) ≡ numbersOr
+        (countedNumbers (counted (dimensions n «left_rows» «right_rows» «public_rows»)
+        (allTables (now (left .entry)) (now (right .entry)) (now (public .entry))) (runIn (now (run .entry))))) (now (number .entry)) ⌝ }
 {
     let d = codes::dimensions(n, left_rows, right_rows, public_rows);
     match indexed::unsatisfied(d, left, right, public, stored::load(*run)) {
@@ -61,7 +71,8 @@ pub extern "C" fn forkhemit_unsatisfied(
     }
 }
 
-// One giant step of the run in the lent words, with its number of unsatisfied rows; 1, 2, 4, 3, 12 or 13 where it is turned back: then the step's number is the one that was lent.
+// One giant step of the run in the lent words, with its number of unsatisfied rows; 1, 2, 4, 3, 12 or 13 where it is turned back: then the
+// step's number is the one that was lent.
 #[no_mangle]
 pub extern "C" fn forkhemit_step_indexed(
     n: u64,
@@ -75,9 +86,21 @@ pub extern "C" fn forkhemit_step_indexed(
     run: &mut [u32; 101],
     number: &mut [u64; 1],
 ) -> u8
-    ensures { λ r. ⌜ r ≡ codeOf (stepIn (dimensions n «left_rows» «right_rows» «public_rows») (allTables (now (left .entry)) (now (right .entry)) (now (public .entry))) (now (index .entry)) (now (run .entry)) (now (number .entry)) .outcome) ⌝ }
-    ensures { λ _. ⌜ now (run .exit) ≡ storedIf (stepIn (dimensions n «left_rows» «right_rows» «public_rows») (allTables (now (left .entry)) (now (right .entry)) (now (public .entry))) (now (index .entry)) (now (run .entry)) (now (number .entry)) .outcome) (stepIn (dimensions n «left_rows» «right_rows» «public_rows») (allTables (now (left .entry)) (now (right .entry)) (now (public .entry))) (now (index .entry)) (now (run .entry)) (now (number .entry)) .run) (now (run .entry)) ⌝ }
-    ensures { λ _. ⌜ now (number .exit) ≡ stepIn (dimensions n «left_rows» «right_rows» «public_rows») (allTables (now (left .entry)) (now (right .entry)) (now (public .entry))) (now (index .entry)) (now (run .entry)) (now (number .entry)) .number ∷ [] ⌝ }
+    ensures { λ r.
+        ⌜ r ≡ codeOf (stepIn (dimensions n «left_rows» «right_rows» «public_rows»)
+        (allTables (now (left .entry)) (now (right .entry)) (now (public .entry))) (now (index .entry)) (now (run .entry))
+        (now (number .entry)) .outcome) ⌝ }
+    ensures { λ _.
+        ⌜ now (run .exit) ≡ storedIf (stepIn (dimensions n «left_rows» «right_rows» «public_rows»)
+        (allTables (now (left .entry)) (now (right .entry)) (now (public .entry))) (now (index .entry)) (now (run .entry))
+        (now (number .entry)) .outcome)
+        (stepIn (dimensions n «left_rows» «right_rows» «public_rows»)
+        (allTables (now (left .entry)) (now (right .entry)) (now (public .entry))) (now (index .entry)) (now (run .entry))
+        (now (number .entry)) .run) (now (run .entry)) ⌝ }
+    ensures { λ _.
+        ⌜ now (number .exit) ≡ stepIn (dimensions n «left_rows» «right_rows» «public_rows»)
+        (allTables (now (left .entry)) (now (right .entry)) (now (public .entry))) (now (index .entry)) (now (run .entry))
+        (now (number .entry)) .number ∷ [] ⌝ }
 {
     let d = codes::dimensions(n, left_rows, right_rows, public_rows);
     let held = stored::load(*run);
@@ -103,8 +126,13 @@ pub extern "C" fn forkhemit_solve_indexed(
     budget: u64,
     answer: &mut [u64; 3],
 ) -> u8
-    ensures { λ r. ⌜ r ≡ solvedCode (solved (dimensions n «left_rows» «right_rows» «public_rows») (allTables (now (left .entry)) (now (right .entry)) (now (public .entry))) budget) ⌝ }
-    ensures { λ _. ⌜ now (answer .exit) ≡ numbersOr (solvedNumbers (solved (dimensions n «left_rows» «right_rows» «public_rows») (allTables (now (left .entry)) (now (right .entry)) (now (public .entry))) budget)) (now (answer .entry)) ⌝ }
+    ensures { λ r.
+        ⌜ r ≡ solvedCode (solved (dimensions n «left_rows» «right_rows» «public_rows»)
+        (allTables (now (left .entry)) (now (right .entry)) (now (public .entry))) budget) ⌝ }
+    ensures { λ _.
+        ⌜ now (answer .exit) ≡ numbersOr
+        (solvedNumbers (solved (dimensions n «left_rows» «right_rows» «public_rows»)
+        (allTables (now (left .entry)) (now (right .entry)) (now (public .entry))) budget)) (now (answer .entry)) ⌝ }
 {
     let d = codes::dimensions(n, left_rows, right_rows, public_rows);
     match indexed::solve_indexed(d, left, right, public, budget) {

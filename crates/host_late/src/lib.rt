@@ -1,4 +1,5 @@
-// For hosts in C and Rust: a late condition, that is a row in the place of a station's own padding row while the run is open, without and with an index.
+// For hosts in C and Rust: a late condition, that is a row in the place of a station's own padding row while the run is open, without and
+// with an index.
 // Each function is a thin call of a proved entry. A slice passes as a pointer and then a length, an array as a pointer.
 // It returns 0 where the call is taken, else the refusal's number, and then all lent memory is as it was.
 use late::Condition;
@@ -47,9 +48,18 @@ pub extern "C" fn forkhemit_replace(
     positive: u32,
     negative: u32,
 ) -> u8
-    ensures { λ r. ⌜ r ≡ codeOf (outcome (lateChecks (dimensions n «left_rows» «right_rows» «public_rows») (allTables (now (left .entry)) (now (right .entry)) (now (public .entry))) (runIn (now (run .entry))) (conditionOf station row positive negative))) ⌝ }
-    ensures { λ _. ⌜ now (left .exit) ≡ tablesAfter (dimensions n «left_rows» «right_rows» «public_rows») (allTables (now (left .entry)) (now (right .entry)) (now (public .entry))) (runIn (now (run .entry))) (conditionOf station row positive negative) .left ⌝ }
-    ensures { λ _. ⌜ now (right .exit) ≡ tablesAfter (dimensions n «left_rows» «right_rows» «public_rows») (allTables (now (left .entry)) (now (right .entry)) (now (public .entry))) (runIn (now (run .entry))) (conditionOf station row positive negative) .right ⌝ }
+    ensures { λ r.
+        ⌜ r ≡ codeOf (outcome (lateChecks (dimensions n «left_rows» «right_rows» «public_rows»)
+        (allTables (now (left .entry)) (now (right .entry)) (now (public .entry))) (runIn (now (run .entry)))
+        (conditionOf station row positive negative))) ⌝ }
+    ensures { λ _.
+        ⌜ now (left .exit) ≡ tablesAfter (dimensions n «left_rows» «right_rows» «public_rows»)
+        (allTables (now (left .entry)) (now (right .entry)) (now (public .entry))) (runIn (now (run .entry)))
+        (conditionOf station row positive negative) .left ⌝ }
+    ensures { λ _.
+        ⌜ now (right .exit) ≡ tablesAfter (dimensions n «left_rows» «right_rows» «public_rows»)
+        (allTables (now (left .entry)) (now (right .entry)) (now (public .entry))) (runIn (now (run .entry)))
+        (conditionOf station row positive negative) .right ⌝ }
 {
     let d = codes::dimensions(n, left_rows, right_rows, public_rows);
     let held = stored::load(*run);
@@ -57,7 +67,8 @@ pub extern "C" fn forkhemit_replace(
     codes::code(late::replace(d, left, right, public, held, wanted))
 }
 
-// The same with a lent index and a lent number of unsatisfied rows, which are then those of the tables as they stand; 12 too where they were not right.
+// The same with a lent index and a lent number of unsatisfied rows, which are then those of the tables as they stand; 12 too where they
+// were not right.
 // Turned back, the number is the one that was lent.
 #[no_mangle]
 pub extern "C" fn forkhemit_replace_indexed(
@@ -76,11 +87,26 @@ pub extern "C" fn forkhemit_replace_indexed(
     index: &mut [u64; 384],
     number: &mut [u64; 1],
 ) -> u8
-    ensures { λ r. ⌜ r ≡ codeOf (outcome (replaceChecks (dimensions n «left_rows» «right_rows» «public_rows») (allTables (now (left .entry)) (now (right .entry)) (now (public .entry))) (now (index .entry)) (runIn (now (run .entry))) (getD (now (number .entry)) 0 0) (conditionOf station row positive negative))) ⌝ }
-    ensures { λ _. ⌜ now (left .exit) ≡ tablesThen (dimensions n «left_rows» «right_rows» «public_rows») (allTables (now (left .entry)) (now (right .entry)) (now (public .entry))) (now (index .entry)) (runIn (now (run .entry))) (getD (now (number .entry)) 0 0) (conditionOf station row positive negative) .left ⌝ }
-    ensures { λ _. ⌜ now (right .exit) ≡ tablesThen (dimensions n «left_rows» «right_rows» «public_rows») (allTables (now (left .entry)) (now (right .entry)) (now (public .entry))) (now (index .entry)) (runIn (now (run .entry))) (getD (now (number .entry)) 0 0) (conditionOf station row positive negative) .right ⌝ }
-    ensures { λ _. ⌜ now (index .exit) ≡ indexThen (dimensions n «left_rows» «right_rows» «public_rows») (allTables (now (left .entry)) (now (right .entry)) (now (public .entry))) (now (index .entry)) (runIn (now (run .entry))) (getD (now (number .entry)) 0 0) (conditionOf station row positive negative) ⌝ }
-    ensures { λ _. ⌜ now (number .exit) ≡ numberThen (dimensions n «left_rows» «right_rows» «public_rows») (allTables (now (left .entry)) (now (right .entry)) (now (public .entry))) (now (index .entry)) (runIn (now (run .entry))) (getD (now (number .entry)) 0 0) (conditionOf station row positive negative) ∷ [] ⌝ }
+    ensures { λ r.
+        ⌜ r ≡ codeOf (outcome (replaceChecks (dimensions n «left_rows» «right_rows» «public_rows»)
+        (allTables (now (left .entry)) (now (right .entry)) (now (public .entry))) (now (index .entry)) (runIn (now (run .entry)))
+        (getD (now (number .entry)) 0 0) (conditionOf station row positive negative))) ⌝ }
+    ensures { λ _.
+        ⌜ now (left .exit) ≡ tablesThen (dimensions n «left_rows» «right_rows» «public_rows»)
+        (allTables (now (left .entry)) (now (right .entry)) (now (public .entry))) (now (index .entry)) (runIn (now (run .entry)))
+        (getD (now (number .entry)) 0 0) (conditionOf station row positive negative) .left ⌝ }
+    ensures { λ _.
+        ⌜ now (right .exit) ≡ tablesThen (dimensions n «left_rows» «right_rows» «public_rows»)
+        (allTables (now (left .entry)) (now (right .entry)) (now (public .entry))) (now (index .entry)) (runIn (now (run .entry)))
+        (getD (now (number .entry)) 0 0) (conditionOf station row positive negative) .right ⌝ }
+    ensures { λ _.
+        ⌜ now (index .exit) ≡ indexThen (dimensions n «left_rows» «right_rows» «public_rows»)
+        (allTables (now (left .entry)) (now (right .entry)) (now (public .entry))) (now (index .entry)) (runIn (now (run .entry)))
+        (getD (now (number .entry)) 0 0) (conditionOf station row positive negative) ⌝ }
+    ensures { λ _.
+        ⌜ now (number .exit) ≡ numberThen (dimensions n «left_rows» «right_rows» «public_rows»)
+        (allTables (now (left .entry)) (now (right .entry)) (now (public .entry))) (now (index .entry)) (runIn (now (run .entry)))
+        (getD (now (number .entry)) 0 0) (conditionOf station row positive negative) ∷ [] ⌝ }
 {
     let d = codes::dimensions(n, left_rows, right_rows, public_rows);
     let held = stored::load(*run);

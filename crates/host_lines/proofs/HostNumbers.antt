@@ -1,5 +1,4 @@
 -- What the line writers give on a host's numbers as bytes is what they give on the numbers: refused sizes are refused alike, since the checks begin with those.
--- Assumes nothing.
 use mathlib.Core.Path.{_≡_}
 use mathlib.Core.List.{List, [], _∷_}
 use mathlib.Core.Bool.{not}

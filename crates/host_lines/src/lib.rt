@@ -33,7 +33,8 @@ pub extern "C" fn forkhemit_read_budget(line: &[u8], budget: &mut [u64; 1]) -> u
     }
 }
 
-// Writes the line of a number, from 0, over the front of the bytes, and its length, 0 past the last line; 1, 2, 9 or 11 where it is turned back.
+// Writes the line of a number, from 0, over the front of the bytes, and its length, 0 past the last line; 1, 2, 9 or 11 where it is turned
+// back.
 #[no_mangle]
 pub extern "C" fn forkhemit_write_line(
     n: u64,
@@ -45,9 +46,15 @@ pub extern "C" fn forkhemit_write_line(
     bytes: &mut [u8],
     length: &mut [u64; 1],
 ) -> u8
-    ensures { λ r. ⌜ r ≡ lineCode (Writing.written (dimensions n «left_rows» «right_rows» «public_rows») (now (gates .entry)) line (now (bytes .entry))) ⌝ }
-    ensures { λ _. ⌜ now (bytes .exit) ≡ Writing.filled (dimensions n «left_rows» «right_rows» «public_rows») (now (gates .entry)) line (now (bytes .entry)) ⌝ }
-    ensures { λ _. ⌜ now (length .exit) ≡ numbersOr (lineNumbers (Writing.written (dimensions n «left_rows» «right_rows» «public_rows») (now (gates .entry)) line (now (bytes .entry)))) (now (length .entry)) ⌝ }
+    ensures { λ r.
+        ⌜ r ≡ lineCode (Writing.written (dimensions n «left_rows» «right_rows» «public_rows»)
+        (now (gates .entry)) line (now (bytes .entry))) ⌝ }
+    ensures { λ _.
+        ⌜ now (bytes .exit) ≡ Writing.filled (dimensions n «left_rows» «right_rows» «public_rows»)
+        (now (gates .entry)) line (now (bytes .entry)) ⌝ }
+    ensures { λ _.
+        ⌜ now (length .exit) ≡ numbersOr (lineNumbers (Writing.written (dimensions n «left_rows» «right_rows» «public_rows»)
+        (now (gates .entry)) line (now (bytes .entry)))) (now (length .entry)) ⌝ }
 {
     let d = codes::dimensions(n, left_rows, right_rows, public_rows);
     match bristol::write_line(d, gates, line as usize, bytes) {
@@ -63,7 +70,8 @@ pub extern "C" fn forkhemit_write_line(
     }
 }
 
-// Writes the lines from a number on, as many as fit, over the front of the bytes, and how many lines and bytes they are; 1, 2, 9 or 11 where it is turned back.
+// Writes the lines from a number on, as many as fit, over the front of the bytes, and how many lines and bytes they are; 1, 2, 9 or 11
+// where it is turned back.
 #[no_mangle]
 pub extern "C" fn forkhemit_write_lines(
     n: u64,
@@ -75,9 +83,15 @@ pub extern "C" fn forkhemit_write_lines(
     bytes: &mut [u8],
     written: &mut [u64; 2],
 ) -> u8
-    ensures { λ r. ⌜ r ≡ linesCode (Writing.writtenLines (dimensions n «left_rows» «right_rows» «public_rows») (now (gates .entry)) line (now (bytes .entry))) ⌝ }
-    ensures { λ _. ⌜ now (bytes .exit) ≡ Writing.filledLines (dimensions n «left_rows» «right_rows» «public_rows») (now (gates .entry)) line (now (bytes .entry)) ⌝ }
-    ensures { λ _. ⌜ now (written .exit) ≡ numbersOr (linesNumbers (Writing.writtenLines (dimensions n «left_rows» «right_rows» «public_rows») (now (gates .entry)) line (now (bytes .entry)))) (now (written .entry)) ⌝ }
+    ensures { λ r.
+        ⌜ r ≡ linesCode (Writing.writtenLines (dimensions n «left_rows» «right_rows» «public_rows»)
+        (now (gates .entry)) line (now (bytes .entry))) ⌝ }
+    ensures { λ _.
+        ⌜ now (bytes .exit) ≡ Writing.filledLines (dimensions n «left_rows» «right_rows» «public_rows»)
+        (now (gates .entry)) line (now (bytes .entry)) ⌝ }
+    ensures { λ _.
+        ⌜ now (written .exit) ≡ numbersOr (linesNumbers (Writing.writtenLines (dimensions n «left_rows» «right_rows» «public_rows»)
+        (now (gates .entry)) line (now (bytes .entry)))) (now (written .entry)) ⌝ }
 {
     let d = codes::dimensions(n, left_rows, right_rows, public_rows);
     match bristol::write_lines(d, gates, line as usize, bytes) {
@@ -89,7 +103,8 @@ pub extern "C" fn forkhemit_write_lines(
     }
 }
 
-// Writes the answer as the pair program prints it over the front of the text, and its length; 1 where it is turned back, and then nothing is written.
+// Writes the answer as the pair program prints it over the front of the text, and its length; 1 where it is turned back, and then nothing
+// is written.
 #[no_mangle]
 pub extern "C" fn forkhemit_answer(
     n: u64,

@@ -1,4 +1,5 @@
-// For hosts in C and Rust: the circuit generated and repeated on a run. The function is a thin call of a proved entry. A slice passes as a pointer and then
+// For hosts in C and Rust: the circuit generated and repeated on a run. The function is a thin call of a proved entry. A slice passes as a
+// pointer and then
 // a length, an array as a pointer. It returns 0 where the call is taken, else the refusal's number, and then it writes nothing.
 use refusals::Outcome;
 ghost use mathlib.Core.Path.{_≡_};
@@ -28,12 +29,30 @@ pub extern "C" fn forkhemit_repeat(
     run: &mut [u32; 101],
     repeated: &mut [u64; 2],
 ) -> u8
-    ensures { λ r. ⌜ r ≡ codeOf (repeatIn (dimensions n «left_rows» «right_rows» «public_rows») (allTables (now (left .entry)) (now (right .entry)) (now (public .entry))) times (now (gates .entry)) (now (bytes .entry)) (now (wires .entry)) (now (run .entry)) .outcome) ⌝ }
-    ensures { λ _. ⌜ now (gates .exit) ≡ gatesAfter (dimensions n «left_rows» «right_rows» «public_rows») (allTables (now (left .entry)) (now (right .entry)) (now (public .entry))) times (now (gates .entry)) (now (bytes .entry)) (now (wires .entry)) (runIn (now (run .entry))) ⌝ }
-    ensures { λ _. ⌜ now (bytes .exit) ≡ bytesAfter (dimensions n «left_rows» «right_rows» «public_rows») (allTables (now (left .entry)) (now (right .entry)) (now (public .entry))) times (now (gates .entry)) (now (bytes .entry)) (now (wires .entry)) (runIn (now (run .entry))) ⌝ }
-    ensures { λ _. ⌜ now (wires .exit) ≡ wiresAfter (dimensions n «left_rows» «right_rows» «public_rows») (allTables (now (left .entry)) (now (right .entry)) (now (public .entry))) times (now (gates .entry)) (now (bytes .entry)) (now (wires .entry)) (runIn (now (run .entry))) ⌝ }
-    ensures { λ _. ⌜ now (run .exit) ≡ repeatStored (repeatIn (dimensions n «left_rows» «right_rows» «public_rows») (allTables (now (left .entry)) (now (right .entry)) (now (public .entry))) times (now (gates .entry)) (now (bytes .entry)) (now (wires .entry)) (now (run .entry))) (now (run .entry)) ⌝ }
-    ensures { λ _. ⌜ now (repeated .exit) ≡ repeatNumbers (repeatIn (dimensions n «left_rows» «right_rows» «public_rows») (allTables (now (left .entry)) (now (right .entry)) (now (public .entry))) times (now (gates .entry)) (now (bytes .entry)) (now (wires .entry)) (now (run .entry))) (now (repeated .entry)) ⌝ }
+    ensures { λ r.
+        ⌜ r ≡ codeOf (repeatIn (dimensions n «left_rows» «right_rows» «public_rows»)
+        (allTables (now (left .entry)) (now (right .entry)) (now (public .entry))) times (now (gates .entry)) (now (bytes .entry))
+        (now (wires .entry)) (now (run .entry)) .outcome) ⌝ }
+    ensures { λ _.
+        ⌜ now (gates .exit) ≡ gatesAfter (dimensions n «left_rows» «right_rows» «public_rows»)
+        (allTables (now (left .entry)) (now (right .entry)) (now (public .entry))) times (now (gates .entry)) (now (bytes .entry))
+        (now (wires .entry)) (runIn (now (run .entry))) ⌝ }
+    ensures { λ _.
+        ⌜ now (bytes .exit) ≡ bytesAfter (dimensions n «left_rows» «right_rows» «public_rows»)
+        (allTables (now (left .entry)) (now (right .entry)) (now (public .entry))) times (now (gates .entry)) (now (bytes .entry))
+        (now (wires .entry)) (runIn (now (run .entry))) ⌝ }
+    ensures { λ _.
+        ⌜ now (wires .exit) ≡ wiresAfter (dimensions n «left_rows» «right_rows» «public_rows»)
+        (allTables (now (left .entry)) (now (right .entry)) (now (public .entry))) times (now (gates .entry)) (now (bytes .entry))
+        (now (wires .entry)) (runIn (now (run .entry))) ⌝ }
+    ensures { λ _.
+        ⌜ now (run .exit) ≡ repeatStored (repeatIn (dimensions n «left_rows» «right_rows» «public_rows»)
+        (allTables (now (left .entry)) (now (right .entry)) (now (public .entry))) times (now (gates .entry)) (now (bytes .entry))
+        (now (wires .entry)) (now (run .entry))) (now (run .entry)) ⌝ }
+    ensures { λ _.
+        ⌜ now (repeated .exit) ≡ repeatNumbers (repeatIn (dimensions n «left_rows» «right_rows» «public_rows»)
+        (allTables (now (left .entry)) (now (right .entry)) (now (public .entry))) times (now (gates .entry)) (now (bytes .entry))
+        (now (wires .entry)) (now (run .entry))) (now (repeated .entry)) ⌝ }
 {
     let d = codes::dimensions(n, left_rows, right_rows, public_rows);
     let start = stored::load(*run);

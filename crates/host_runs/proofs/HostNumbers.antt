@@ -1,6 +1,5 @@
 -- What acceptance, counts of rows, the fresh run, step and budgeted run give on a host's numbers as bytes is what they give on the numbers: refused sizes are
 -- refused alike, since the checks begin with those.
--- Assumes nothing.
 use mathlib.Core.Path.{_≡_, ap, _∙_}
 use mathlib.Core.List.{List, _∷_}
 use Prim.Native.Nat.{ℕ, min}

@@ -35,7 +35,9 @@ pub extern "C" fn forkhemit_accept(
     right: &[u32],
     public: &[u32],
 ) -> u8
-    ensures { λ r. ⌜ r ≡ codeOf (outcome (tableChecks (dimensions n «left_rows» «right_rows» «public_rows») (allTables (now (left .entry)) (now (right .entry)) (now (public .entry))))) ⌝ }
+    ensures { λ r.
+        ⌜ r ≡ codeOf (outcome (tableChecks (dimensions n «left_rows» «right_rows» «public_rows»)
+        (allTables (now (left .entry)) (now (right .entry)) (now (public .entry))))) ⌝ }
 {
     let d = codes::dimensions(n, left_rows, right_rows, public_rows);
     codes::code(tables::accept(d, left, right, public))
@@ -89,8 +91,13 @@ pub extern "C" fn forkhemit_count_free(
     run: &[u32; 101],
     counts: &mut [u8],
 ) -> u8
-    ensures { λ r. ⌜ r ≡ codeOf (outcome (countChecks (dimensions n «left_rows» «right_rows» «public_rows») (allTables (now (left .entry)) (now (right .entry)) (now (public .entry))) (runIn (now (run .entry))) (length (now (counts .entry))))) ⌝ }
-    ensures { λ _. ⌜ now (counts .exit) ≡ countsAfter (dimensions n «left_rows» «right_rows» «public_rows») (allTables (now (left .entry)) (now (right .entry)) (now (public .entry))) (runIn (now (run .entry))) (now (counts .entry)) ⌝ }
+    ensures { λ r.
+        ⌜ r ≡ codeOf (outcome (countChecks (dimensions n «left_rows» «right_rows» «public_rows»)
+        (allTables (now (left .entry)) (now (right .entry)) (now (public .entry))) (runIn (now (run .entry)))
+        (length (now (counts .entry))))) ⌝ }
+    ensures { λ _.
+        ⌜ now (counts .exit) ≡ countsAfter (dimensions n «left_rows» «right_rows» «public_rows»)
+        (allTables (now (left .entry)) (now (right .entry)) (now (public .entry))) (runIn (now (run .entry))) (now (counts .entry)) ⌝ }
 {
     let d = codes::dimensions(n, left_rows, right_rows, public_rows);
     let run = stored::load(*run);
@@ -109,7 +116,8 @@ pub extern "C" fn forkhemit_fresh(n: u64, run: &mut [u32; 101]) -> u8
     codes::code(outcome)
 }
 
-// One giant step of the run in the lent words, which is lent to the in-place entry; 1, 2, 4, 3, 12 or 13 where it is turned back, and then no word changes.
+// One giant step of the run in the lent words, which is lent to the in-place entry; 1, 2, 4, 3, 12 or 13 where it is turned back, and then
+// no word changes.
 #[no_mangle]
 pub extern "C" fn forkhemit_step(
     n: u64,
@@ -121,8 +129,12 @@ pub extern "C" fn forkhemit_step(
     public: &[u32],
     run: &mut [u32; 101],
 ) -> u8
-    ensures { λ r. ⌜ r ≡ codeOf (stepIn (dimensions n «left_rows» «right_rows» «public_rows») (allTables (now (left .entry)) (now (right .entry)) (now (public .entry))) (now (run .entry)) .outcome) ⌝ }
-    ensures { λ _. ⌜ now (run .exit) ≡ stepStored (stepIn (dimensions n «left_rows» «right_rows» «public_rows») (allTables (now (left .entry)) (now (right .entry)) (now (public .entry))) (now (run .entry))) (now (run .entry)) ⌝ }
+    ensures { λ r.
+        ⌜ r ≡ codeOf (stepIn (dimensions n «left_rows» «right_rows» «public_rows»)
+        (allTables (now (left .entry)) (now (right .entry)) (now (public .entry))) (now (run .entry)) .outcome) ⌝ }
+    ensures { λ _.
+        ⌜ now (run .exit) ≡ stepStored (stepIn (dimensions n «left_rows» «right_rows» «public_rows»)
+        (allTables (now (left .entry)) (now (right .entry)) (now (public .entry))) (now (run .entry))) (now (run .entry)) ⌝ }
 {
     let d = codes::dimensions(n, left_rows, right_rows, public_rows);
     let stepped = solver::step_lent(d, left, right, public, stored::load(*run));
@@ -145,8 +157,13 @@ pub extern "C" fn forkhemit_solve(
     budget: u64,
     answer: &mut [u64; 3],
 ) -> u8
-    ensures { λ r. ⌜ r ≡ solvedCode (solved (dimensions n «left_rows» «right_rows» «public_rows») (allTables (now (left .entry)) (now (right .entry)) (now (public .entry))) budget) ⌝ }
-    ensures { λ _. ⌜ now (answer .exit) ≡ numbersOr (solvedNumbers (solved (dimensions n «left_rows» «right_rows» «public_rows») (allTables (now (left .entry)) (now (right .entry)) (now (public .entry))) budget)) (now (answer .entry)) ⌝ }
+    ensures { λ r.
+        ⌜ r ≡ solvedCode (solved (dimensions n «left_rows» «right_rows» «public_rows»)
+        (allTables (now (left .entry)) (now (right .entry)) (now (public .entry))) budget) ⌝ }
+    ensures { λ _.
+        ⌜ now (answer .exit) ≡ numbersOr
+        (solvedNumbers (solved (dimensions n «left_rows» «right_rows» «public_rows»)
+        (allTables (now (left .entry)) (now (right .entry)) (now (public .entry))) budget)) (now (answer .entry)) ⌝ }
 {
     let d = codes::dimensions(n, left_rows, right_rows, public_rows);
     match solver::solve(d, left, right, public, budget) {

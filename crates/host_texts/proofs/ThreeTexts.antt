@@ -1,5 +1,4 @@
 -- What refuses three texts and the room for their rows: the first test that fails decides, since the definition computes by the tests.
--- Assumes nothing.
 use mathlib.Core.Path.{_≡_}
 use mathlib.Core.Bool.{true, false, not, _||_}
 use Prim.Native.Nat.{ℕ}

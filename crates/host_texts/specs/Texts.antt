@@ -39,7 +39,8 @@ roomOutcome t left right public = cond (noRoom t left right public) (Refused Row
 -- what refuses the left text, then the right one, then the public one, then 4 and 6
 abbrev pub lentOutcome : Texts → ℕ → ℕ → ℕ → Outcome
 lentOutcome t left right public =
-    given (t .left .outcome) (given (t .right .outcome) (given (t .public .outcome) (roomOutcome t left right public) Refused) Refused) Refused
+    given (t .left .outcome) (given (t .right .outcome)
+    (given (t .public .outcome) (roomOutcome t left right public) Refused) Refused) Refused
 
 -- the same with the lent tables
 abbrev pub readOutcome : Texts → Tables → Outcome

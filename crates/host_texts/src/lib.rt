@@ -1,4 +1,5 @@
-// For hosts in C and Rust: three texts are read into tables. The function is a thin call of a proved entry. A slice passes as a pointer and then a length,
+// For hosts in C and Rust: three texts are read into tables. The function is a thin call of a proved entry. A slice passes as a pointer and
+// then a length,
 // an array as a pointer. It returns 0 where the call is taken, else the refusal's number, and then it writes nothing.
 use dimacs::Table;
 use refusals::Outcome;
@@ -43,7 +44,8 @@ fn judge(
     Outcome::Taken
 }
 
-// Reads three texts into tables, with n and the row counts; the left text's 1, 2 or 5, the right text's, the public one's, then 4 or 6 where it is turned back.
+// Reads three texts into tables, with n and the row counts; the left text's 1, 2 or 5, the right text's, the public one's, then 4 or 6
+// where it is turned back.
 #[no_mangle]
 pub extern "C" fn forkhemit_read_tables(
     left_text: &[u8],
@@ -54,11 +56,21 @@ pub extern "C" fn forkhemit_read_tables(
     public: &mut [u32],
     sizes: &mut [u64; 4],
 ) -> u8
-    ensures { λ r. ⌜ r ≡ codeOf (readOutcome (textsOf (now («left_text» .entry)) (now («right_text» .entry)) (now («public_text» .entry))) (allTables (now (left .entry)) (now (right .entry)) (now (public .entry)))) ⌝ }
-    ensures { λ _. ⌜ now (left .exit) ≡ tablesRead (textsOf (now («left_text» .entry)) (now («right_text» .entry)) (now («public_text» .entry))) (allTables (now (left .entry)) (now (right .entry)) (now (public .entry))) .left ⌝ }
-    ensures { λ _. ⌜ now (right .exit) ≡ tablesRead (textsOf (now («left_text» .entry)) (now («right_text» .entry)) (now («public_text» .entry))) (allTables (now (left .entry)) (now (right .entry)) (now (public .entry))) .right ⌝ }
-    ensures { λ _. ⌜ now (public .exit) ≡ tablesRead (textsOf (now («left_text» .entry)) (now («right_text» .entry)) (now («public_text» .entry))) (allTables (now (left .entry)) (now (right .entry)) (now (public .entry))) .public ⌝ }
-    ensures { λ _. ⌜ now (sizes .exit) ≡ sizesRead (textsOf (now («left_text» .entry)) (now («right_text» .entry)) (now («public_text» .entry))) (allTables (now (left .entry)) (now (right .entry)) (now (public .entry))) (now (sizes .entry)) ⌝ }
+    ensures { λ r.
+        ⌜ r ≡ codeOf (readOutcome (textsOf (now («left_text» .entry)) (now («right_text» .entry)) (now («public_text» .entry)))
+        (allTables (now (left .entry)) (now (right .entry)) (now (public .entry)))) ⌝ }
+    ensures { λ _.
+        ⌜ now (left .exit) ≡ tablesRead (textsOf (now («left_text» .entry)) (now («right_text» .entry)) (now («public_text» .entry)))
+        (allTables (now (left .entry)) (now (right .entry)) (now (public .entry))) .left ⌝ }
+    ensures { λ _.
+        ⌜ now (right .exit) ≡ tablesRead (textsOf (now («left_text» .entry)) (now («right_text» .entry)) (now («public_text» .entry)))
+        (allTables (now (left .entry)) (now (right .entry)) (now (public .entry))) .right ⌝ }
+    ensures { λ _.
+        ⌜ now (public .exit) ≡ tablesRead (textsOf (now («left_text» .entry)) (now («right_text» .entry)) (now («public_text» .entry)))
+        (allTables (now (left .entry)) (now (right .entry)) (now (public .entry))) .public ⌝ }
+    ensures { λ _.
+        ⌜ now (sizes .exit) ≡ sizesRead (textsOf (now («left_text» .entry)) (now («right_text» .entry)) (now («public_text» .entry)))
+        (allTables (now (left .entry)) (now (right .entry)) (now (public .entry))) (now (sizes .entry)) ⌝ }
 {
     let l = dimacs::read(left_text, 1);
     let r = dimacs::read(right_text, 1);

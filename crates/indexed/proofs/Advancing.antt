@@ -1,5 +1,4 @@
 -- A step with its tally: the run is that of the state's step, and the tally exactly its T's and F's.
--- Assumes nothing.
 use mathlib.Core.Path.{_≡_, refl, sym, ap, ap₂, _∙_}
 use mathlib.Core.List.{List}
 use Prim.Native.Nat.{ℕ}

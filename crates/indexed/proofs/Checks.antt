@@ -1,5 +1,4 @@
 -- The checks of run, index and number: the first that fails decides, and what passes them is exact.
--- Assumes nothing.
 use mathlib.Core.Path.{_≡_, sym, ap, ap₂, _∙_}
 use mathlib.Core.Bool.{Bool, true, false, not}
 use mathlib.Core.List.{List}

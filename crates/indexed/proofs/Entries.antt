@@ -1,5 +1,4 @@
 -- What the entries give: each computes from the outcome of its checks, which decide in order.
--- Assumes nothing.
 use mathlib.Core.Path.{_≡_, refl, sym, ap, ap₂, _∙_}
 use mathlib.Core.Bool.{true}
 use mathlib.Core.List.{List, [], _∷_, _++_}
@@ -27,7 +26,8 @@ use Rattle.indexed.specs.declared.Counted.the-variants as counted′
 use Rattle.indexed.specs.declared.SteppedIndexed.{SteppedIndexed}
 use Rattle.indexed.specs.declared.beside.Held.{Held}
 use Rattle.indexed.specs.Held.{heldOf, steppedOver}
-use Rattle.indexed.specs.Entries.{indexAfter, counted, countedCode, countedNumbers, indexedChecks, numberAfter, steppedBy, steppedIndexed, steppedSaid, saidOr}
+use Rattle.indexed.specs.Entries.{indexAfter, counted, countedCode, countedNumbers, indexedChecks, numberAfter, steppedBy, steppedIndexed, steppedSaid}
+use Rattle.indexed.specs.Entries.{saidOr}
 use Rattle.indexed.proofs.Numbers.{tally-number}
 
 -- ---- the index

@@ -1,5 +1,4 @@
 -- The words and the index of accepted tables: exactly their rows, each word below 2 ^ n.
--- Assumes nothing.
 use mathlib.Core.Path.{_≡_, sym, ap, ap₂, _∙_}
 use mathlib.Core.List.{List}
 use Prim.Native.Nat.{ℕ, min, _^_, _<_}

@@ -1,5 +1,4 @@
 -- Rows whose words are below 2 ^ n are counted alike at 32 and at n variables. Row by row.
--- Assumes nothing.
 use mathlib.Core.Path.{_≡_, refl, ap, ap₂}
 use mathlib.Core.Bool.{Bool, true, not}
 use mathlib.Core.List.{List, [], _∷_}

@@ -1,5 +1,4 @@
 -- Where a rule sets a variable, no row is in conflict: rules 1 and 2 come first.
--- Assumes nothing.
 use mathlib.Core.Path.{_≡_}
 use mathlib.Core.Bool.{Bool, true, false}
 use mathlib.Core.List.{List}

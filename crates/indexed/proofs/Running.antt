@@ -1,5 +1,4 @@
 -- The budgeted run with its tally: what the loop knows of them is what the plain run's loop knows, and that the tally is exact.
--- Assumes nothing.
 use mathlib.Core.Path.{_≡_, sym, ap, _∙_, subst⁻¹}
 use mathlib.Core.Bool.{true, false}
 use mathlib.Core.List.{List}

@@ -1,5 +1,4 @@
 -- A step that is taken gives the plain step's run and that run's number, and so is taken again with both: from the checks that it passed.
--- Assumes nothing.
 use mathlib.Core.Path.{_≡_, refl, sym, ap, _∙_}
 use mathlib.Core.Bool.{Bool, true}
 use mathlib.Core.List.{List, _++_}
@@ -65,7 +64,8 @@ module _ (d : Dimensions) (tables : Tables) (index : List ℕ) (run : Run) (numb
     plain =
         let e : Taken ≡ outcome (tableChecks d tables ++ stateChecks d run) =
         take-state d run (keeps .formed) (keeps .same-n) ∙ sym (outcome-taken (tableChecks d tables) (stateChecks d run) accepts) in
-        ap (λ (s : SteppedIndexed). s .run) is ∙ ap (λ (s : Stepped). s .run) (step-taken d tables run Taken e refl (runOf (d .n) (step (d .n) rows (stateOf run))) refl)
+        ap (λ (s : SteppedIndexed). s .run) is
+        ∙ ap (λ (s : Stepped). s .run) (step-taken d tables run Taken e refl (runOf (d .n) (step (d .n) rows (stateOf run))) refl)
 
     right : next .number ≡ unsatisfiedRows (d .n) rows (next .run .t) (next .run .f)
     unfolding runOf

@@ -1,5 +1,4 @@
 -- The tally after the rule that applies is exactly that of T and F then: by cases on the rule.
--- Assumes nothing.
 use mathlib.Core.Path.{_≡_, _∙_, subst}
 use mathlib.Core.Bool.{Bool, true, false}
 use mathlib.Core.List.{List}

@@ -37,7 +37,8 @@ indexAfter d tables index = given (outcome (tableChecks d tables)) (indexOf (row
 -- the rows unsatisfied under the run's T and F, whatever its standing: 1, 2, 4, 3, 12, 13
 unfoldable pub counted : Dimensions → Tables → Run → Counted
 counted d tables run =
-    given (outcome (tableChecks d tables ++ stateChecks d run)) (counted′.Of (unsatisfiedRows (d .n) (rowsOf d tables) (run .t) (run .f))) counted′.Refused
+    given (outcome (tableChecks d tables ++ stateChecks d run))
+    (counted′.Of (unsatisfiedRows (d .n) (rowsOf d tables) (run .t) (run .f))) counted′.Refused
 
 -- what counting returns: 0, or the refusal's number
 abbrev pub countedCode : Counted → ℕ

@@ -41,11 +41,14 @@ fn tally_after(
     }
 }
 
-// One giant step: the rule is read off the tally, and a newly set variable leads to its own rows only. After a removed level all sets are made anew.
+// One giant step: the rule is read off the tally, and a newly set variable leads to its own rows only. After a removed level all sets are
+// made anew.
 pub(crate) fn advance(words: &[u32; 768], rows: usize, index: &[u64; 384], held: Held) -> Held
     requires { ⌜ Indexed (held .run .n) (now words) rows (now index) ⌝ }
     requires { ⌜ Exact (rowsFrom (now words) 0 rows) held ⌝ }
-    ensures { λ r. ⌜ r ≡ heldOf (held .run .n) (rowsFrom (now (words .entry)) 0 rows) (step (held .run .n) (rowsFrom (now (words .entry)) 0 rows) (stateOf (held .run))) ⌝ }
+    ensures { λ r.
+        ⌜ r ≡ heldOf (held .run .n) (rowsFrom (now (words .entry)) 0 rows)
+        (step (held .run .n) (rowsFrom (now (words .entry)) 0 rows) (stateOf (held .run))) ⌝ }
 {
     let run = held.run;
     let tally = held.tally;

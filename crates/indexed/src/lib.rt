@@ -1,4 +1,5 @@
-// The giant step and the budgeted run with an index and a tally beside them (document 02, "Which rows does a variable touch"): the same states as the plain scan gives.
+// The giant step and the budgeted run with an index and a tally beside them (document 02, "Which rows does a variable touch"): the same
+// states as the plain scan gives.
 mod beside;
 
 use beside::Held;
@@ -24,7 +25,8 @@ ghost use Rattle.solver.specs.Step.{always};
 ghost use Rattle.solver.specs.Entries.{answerOf, answerNumbers, solved, solvedCode, solvedNumbers};
 ghost use Rattle.occurrences.specs.Index.{indexOf};
 ghost use Rattle.tally.specs.Tallies.{unsatisfiedRows};
-ghost use Rattle.indexed.specs.Entries.{indexAfter, counted, countedCode, countedNumbers, indexedChecks, numberAfter, steppedIndexed, steppedSaid, saidOr};
+ghost use Rattle.indexed.specs.Entries.{indexAfter, counted, countedCode, countedNumbers, indexedChecks, numberAfter, steppedIndexed};
+ghost use Rattle.indexed.specs.Entries.{steppedSaid, saidOr};
 ghost use Rattle.indexed.specs.Held.{Indexed, keptChecks, steppedOver};
 
 // How many rows are unsatisfied, or why it is not said.
@@ -68,7 +70,9 @@ pub fn index(
     index: &mut [u64; 384],
 ) -> Outcome
     ensures { λ r. ⌜ r ≡ outcome (tableChecks d (allTables (now (left .entry)) (now (right .entry)) (now (public .entry)))) ⌝ }
-    ensures { λ _. ⌜ now (index .exit) ≡ indexAfter d (allTables (now (left .entry)) (now (right .entry)) (now (public .entry))) (now (index .entry)) ⌝ }
+    ensures { λ _.
+        ⌜ now (index .exit) ≡ indexAfter d
+        (allTables (now (left .entry)) (now (right .entry)) (now (public .entry))) (now (index .entry)) ⌝ }
 {
     let checked = tables::accept(d, left, right, public);
     match checked {
@@ -85,14 +89,16 @@ pub fn index(
 // The answer of a fresh run over accepted tables: their index is made once.
 fn run_indexed(d: Dimensions, left: &[u32], right: &[u32], public: &[u32], budget: u64) -> Answer
     requires { ⌜ outcome (tableChecks d (allTables (now left) (now right) (now public))) ≡ Taken ⌝ }
-    ensures { λ r. ⌜ r ≡ answerOf (d .n) (always (rowsOf d (allTables (now (left .entry)) (now (right .entry)) (now (public .entry))))) budget ⌝ }
+    ensures { λ r.
+        ⌜ r ≡ answerOf (d .n) (always (rowsOf d (allTables (now (left .entry)) (now (right .entry)) (now (public .entry))))) budget ⌝ }
 {
     let mut index = [0u64; 384];
     let words = make_index(d, left, right, public, &mut index);
     beside::run_to_close(d.n, &words, d.rows(), &index, budget)
 }
 
-// The answer of a fresh run that stops when it is closed or the budget is spent, as `solver::solve` gives it; 1, 2, 4 or 3 if the tables are not accepted.
+// The answer of a fresh run that stops when it is closed or the budget is spent, as `solver::solve` gives it; 1, 2, 4 or 3 if the tables
+// are not accepted.
 pub fn solve_indexed(
     d: Dimensions,
     left: &[u32],
@@ -101,7 +107,11 @@ pub fn solve_indexed(
     budget: u64,
 ) -> Solved
     ensures { λ r. ⌜ r ≡ solved d (allTables (now (left .entry)) (now (right .entry)) (now (public .entry))) budget ⌝ }
-    ensures { λ r. ⌜ solvedCode r ∷ solvedNumbers r ≡ said (outcome (tableChecks d (allTables (now (left .entry)) (now (right .entry)) (now (public .entry))))) (answerNumbers (answerOf (d .n) (always (rowsOf d (allTables (now (left .entry)) (now (right .entry)) (now (public .entry))))) budget)) ⌝ }
+    ensures { λ r.
+        ⌜ solvedCode r ∷ solvedNumbers r
+        ≡ said (outcome (tableChecks d (allTables (now (left .entry)) (now (right .entry)) (now (public .entry)))))
+        (answerNumbers (answerOf (d .n)
+        (always (rowsOf d (allTables (now (left .entry)) (now (right .entry)) (now (public .entry))))) budget)) ⌝ }
 {
     let checked = tables::accept(d, left, right, public);
     match checked {
@@ -122,7 +132,8 @@ fn count_unsatisfied(
     f: u32,
 ) -> u32
     requires { ⌜ outcome (tableChecks d (allTables (now left) (now right) (now public))) ≡ Taken ⌝ }
-    ensures { λ r. ⌜ r ≡ unsatisfiedRows (d .n) (rowsOf d (allTables (now (left .entry)) (now (right .entry)) (now (public .entry)))) t f ⌝ }
+    ensures { λ r.
+        ⌜ r ≡ unsatisfiedRows (d .n) (rowsOf d (allTables (now (left .entry)) (now (right .entry)) (now (public .entry)))) t f ⌝ }
 {
     let mut index = [0u64; 384];
     let words = make_index(d, left, right, public, &mut index);
@@ -133,7 +144,11 @@ fn count_unsatisfied(
 // How many rows are unsatisfied under the run's T and F, whatever its standing; 1, 2, 4, 3, 12 or 13 if the call is turned back.
 pub fn unsatisfied(d: Dimensions, left: &[u32], right: &[u32], public: &[u32], run: Run) -> Counted
     ensures { λ r. ⌜ r ≡ counted d (allTables (now (left .entry)) (now (right .entry)) (now (public .entry))) run ⌝ }
-    ensures { λ r. ⌜ countedCode r ∷ countedNumbers r ≡ said (outcome (tableChecks d (allTables (now (left .entry)) (now (right .entry)) (now (public .entry))) ++ stateChecks d run)) (unsatisfiedRows (d .n) (rowsOf d (allTables (now (left .entry)) (now (right .entry)) (now (public .entry)))) (run .t) (run .f) ∷ []) ⌝ }
+    ensures { λ r.
+        ⌜ countedCode r ∷ countedNumbers r
+        ≡ said (outcome (tableChecks d (allTables (now (left .entry)) (now (right .entry)) (now (public .entry))) ++ stateChecks d run))
+        (unsatisfiedRows (d .n) (rowsOf d
+        (allTables (now (left .entry)) (now (right .entry)) (now (public .entry)))) (run .t) (run .f) ∷ []) ⌝ }
 {
     match tables::accept(d, left, right, public) {
         Outcome::Taken => {}
@@ -147,7 +162,8 @@ pub fn unsatisfied(d: Dimensions, left: &[u32], right: &[u32], public: &[u32], r
 
 // ---- index, run and number together
 
-// Whether run, index and number go together with rows of which `sets` are the sets and `unsatisfied` is the number under the run's T and F: 12 for each of the three, then 13.
+// Whether run, index and number go together with rows of which `sets` are the sets and `unsatisfied` is the number under the run's T and F:
+// 12 for each of the three, then 13.
 fn check_kept(
     n: u8,
     sets: &[u64; 384],
@@ -184,7 +200,9 @@ fn check_accepted(
     number: u64,
 ) -> Outcome
     requires { ⌜ outcome (tableChecks d (allTables (now left) (now right) (now public))) ≡ Taken ⌝ }
-    ensures { λ r. ⌜ r ≡ outcome (indexedChecks (d .n) (rowsOf d (allTables (now (left .entry)) (now (right .entry)) (now (public .entry)))) (now (index .entry)) run number) ⌝ }
+    ensures { λ r.
+        ⌜ r ≡ outcome (indexedChecks (d .n) (rowsOf d (allTables (now (left .entry)) (now (right .entry)) (now (public .entry))))
+        (now (index .entry)) run number) ⌝ }
 {
     let mut sets = [0u64; 384];
     let words = make_index(d, left, right, public, &mut sets);
@@ -202,7 +220,10 @@ pub fn check_indexed(
     run: Run,
     number: u64,
 ) -> Outcome
-    ensures { λ r. ⌜ r ≡ outcome (tableChecks d (allTables (now (left .entry)) (now (right .entry)) (now (public .entry))) ++ indexedChecks (d .n) (rowsOf d (allTables (now (left .entry)) (now (right .entry)) (now (public .entry)))) (now (index .entry)) run number) ⌝ }
+    ensures { λ r.
+        ⌜ r ≡ outcome (tableChecks d (allTables (now (left .entry)) (now (right .entry)) (now (public .entry)))
+        ++ indexedChecks (d .n) (rowsOf d (allTables (now (left .entry)) (now (right .entry)) (now (public .entry))))
+        (now (index .entry)) run number) ⌝ }
 {
     let checked = tables::accept(d, left, right, public);
     match checked {
@@ -258,7 +279,9 @@ fn step_accepted(
     number: u64,
 ) -> SteppedIndexed
     requires { ⌜ outcome (tableChecks d (allTables (now left) (now right) (now public))) ≡ Taken ⌝ }
-    ensures { λ r. ⌜ r ≡ steppedOver (d .n) (rowsOf d (allTables (now (left .entry)) (now (right .entry)) (now (public .entry)))) (now (index .entry)) run number ⌝ }
+    ensures { λ r.
+        ⌜ r ≡ steppedOver (d .n) (rowsOf d (allTables (now (left .entry)) (now (right .entry)) (now (public .entry))))
+        (now (index .entry)) run number ⌝ }
 {
     let mut sets = [0u64; 384];
     let words = make_index(d, left, right, public, &mut sets);
@@ -275,8 +298,14 @@ pub fn step_indexed(
     run: Run,
     number: u64,
 ) -> SteppedIndexed
-    ensures { λ r. ⌜ r ≡ steppedIndexed d (allTables (now (left .entry)) (now (right .entry)) (now (public .entry))) (now (index .entry)) run number ⌝ }
-    ensures { λ r. ⌜ steppedSaid r ≡ saidOr (outcome (tableChecks d (allTables (now (left .entry)) (now (right .entry)) (now (public .entry))) ++ indexedChecks (d .n) (rowsOf d (allTables (now (left .entry)) (now (right .entry)) (now (public .entry)))) (now (index .entry)) run number)) (numberAfter (d .n) (rowsOf d (allTables (now (left .entry)) (now (right .entry)) (now (public .entry)))) run) number ⌝ }
+    ensures { λ r.
+        ⌜ r ≡ steppedIndexed d (allTables (now (left .entry)) (now (right .entry)) (now (public .entry)))
+        (now (index .entry)) run number ⌝ }
+    ensures { λ r.
+        ⌜ steppedSaid r ≡ saidOr (outcome (tableChecks d (allTables (now (left .entry)) (now (right .entry)) (now (public .entry)))
+        ++ indexedChecks (d .n) (rowsOf d (allTables (now (left .entry)) (now (right .entry)) (now (public .entry))))
+        (now (index .entry)) run number))
+        (numberAfter (d .n) (rowsOf d (allTables (now (left .entry)) (now (right .entry)) (now (public .entry)))) run) number ⌝ }
 {
     let outcome = tables::accept(d, left, right, public);
     match outcome {

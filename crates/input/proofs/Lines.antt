@@ -1,5 +1,4 @@
 -- Bytes without an LF are the start of their line: by the definition of a line, a byte more at a time.
--- Assumes nothing.
 use Prim.Native.Nat.{ℕ, _+_, _<_}
 use mathlib.Core.Path.{_≡_, refl, sym, _∙_, ap}
 use mathlib.Core.Bool.{Bool, true, false, cond}
@@ -41,7 +40,8 @@ stored xs i b h = ap (λ (j : ℕ). take j (set xs i b)) (add-one i) ∙ take-su
 
 -- a byte that is no LF
 pub goes-on : (xs : List ℕ) (i b : ℕ) → i < length xs → eqb b 10 ≡ false → Unended (take i xs) → Unended (take (i + 1) (set xs i b))
-goes-on xs i b h e u ys = ap (λ (l : List ℕ). lineOf (l ++ ys)) (stored xs i b h) ∙ one-more (take i xs) b e u ys ∙ ap (λ (l : List ℕ). l ++ lineOf ys) (sym (stored xs i b h))
+goes-on xs i b h e u ys = ap (λ (l : List ℕ). lineOf (l ++ ys)) (stored xs i b h) ∙ one-more (take i xs) b e u ys
+    ∙ ap (λ (l : List ℕ). l ++ lineOf ys) (sym (stored xs i b h))
 
 -- whatever byte comes last
 pub ends : (xs : List ℕ) (i b : ℕ) → i < length xs → Unended (take i xs) → lineOf (take (i + 1) (set xs i b)) ≡ take (i + 1) (set xs i b)

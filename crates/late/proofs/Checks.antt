@@ -123,7 +123,8 @@ module _ (d : Dimensions) (tables : Tables) (run : Run) (c : Condition) where
           ≡ outcome (check (not p) NotPadding ∷ check (ifOpen (run .standing) false true) Closed ∷ check (not (lowRow (d .n) (c .row))) RowBit ∷ [])
       decided p e =
           condition-decides (stateChecks d run) formed
-          ∙ ap (λ (b : Bool). outcome (check (not b) NotPadding ∷ check (ifOpen (run .standing) false true) Closed ∷ check (not (lowRow (d .n) (c .row))) RowBit ∷ []))
+          ∙ ap (λ (b : Bool). outcome
+          (check (not b) NotPadding ∷ check (ifOpen (run .standing) false true) Closed ∷ check (not (lowRow (d .n) (c .row))) RowBit ∷ []))
           (sym (e ∙ read-padding d tables acc (c .station) (c .number)))
 
       module _ (p : Bool) (read : p ≡ owns d (c .station) (c .number) && readPadding d (tables .left) (tables .right) (c .number)) where

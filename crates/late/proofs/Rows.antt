@@ -1,4 +1,5 @@
--- A row stored in a table's words is the row of that place and the others stay, so the rows of all tables are those with one replaced; lengths stay, and words stay below
+-- A row stored in a table's words is the row of that place and the others stay, so the rows of all tables are those with one replaced; lengths stay, and words
+-- stay below
 -- 2 ^ n. By induction on the rows and on the words.
 use mathlib.Core.Path.{_≡_, refl, sym, ap, ap₂, _∙_}
 use mathlib.Core.Bool.{Bool, true, false, not, _&&_, _||_}
@@ -56,7 +57,8 @@ module _ (words : List ℕ) (i : ℕ) (r : Row) (h : 2 * i + 1 < length words) w
   here : rowAt (putRow words i r) i ≡ r
   here =
       ap₂ (λ (p q : ℕ). record { positive = p; negative = q })
-      (getD-set-other (set words (2 * i) (r .positive)) (2 * i + 1) (2 * i) (r .negative) 0 (λ e. omega arith) ∙ getD-set-same words (2 * i) (r .positive) 0 (omega arith))
+      (getD-set-other (set words (2 * i) (r .positive)) (2 * i + 1) (2 * i) (r .negative) 0 (λ e. omega arith)
+      ∙ getD-set-same words (2 * i) (r .positive) 0 (omega arith))
       (getD-set-same (set words (2 * i) (r .positive)) (2 * i + 1) (r .negative) 0 (omega (arith, length-set words (2 * i) (r .positive))))
 
   elsewhere : (j : ℕ) → (j ≡ i → ⊥) → rowAt (putRow words i r) j ≡ rowAt words j
@@ -120,7 +122,8 @@ module _ (d : Dimensions) (tables : Tables) (c : Condition) where
       let k : length leftRows + i ≡ c .number - 1 = omega (arith, table-length (tables .left) 0 (d .left), leb-false (c .number) (d .left) e) in
       rw e
       (ap (λ (l : List Row). leftRows ++ (l ++ publicRows d tables)) (table-put (tables .right) (c .row) (d .right) i (place .1 e) (a .right-length))
-      ∙ ap (λ (l : List Row). leftRows ++ l) (sym (set-append-left rightRows (publicRows d tables) i (c .row) (omega (arith, place .1 e, table-length (tables .right) 0 (d .right)))))
+      ∙ ap (λ (l : List Row). leftRows
+      ++ l) (sym (set-append-left rightRows (publicRows d tables) i (c .row) (omega (arith, place .1 e, table-length (tables .right) 0 (d .right)))))
       ∙ sym (set-append-right leftRows (rightRows ++ publicRows d tables) i (c .row))
       ∙ ap (λ (x : ℕ). set (rowsOf d tables) x (c .row)) k))
 
@@ -141,7 +144,8 @@ below-set n (w ∷ ws) (suc k) (suc i) x h e = and-i (and-l (ltb w (2 ^ n)) _ e)
 
 module _ (n rows : ℕ) (words : List ℕ) (i : ℕ) (r : Row) where
   still-long : short rows (putRow words i r) ≡ short rows words
-  still-long = ap (λ (k : ℕ). ltb k (2 * rows)) (length-set (set words (2 * i) (r .positive)) (2 * i + 1) (r .negative) ∙ length-set words (2 * i) (r .positive))
+  still-long = ap (λ (k : ℕ). ltb k (2 * rows)) (length-set (set words (2 * i) (r .positive)) (2 * i + 1) (r .negative)
+      ∙ length-set words (2 * i) (r .positive))
 
   still-low : lowRow n r ≡ true → high n rows words ≡ false → high n rows (putRow words i r) ≡ false
   still-low h e =
@@ -163,10 +167,12 @@ module _ (d : Dimensions) (tables : Tables) (c : Condition) where
       on (leb (c .number) (d .left))
       (λ e. rw e (same
       (ap (λ (b : Bool). b || short (d .right) right || short (d .public) (tables .public)) (still-long (d .n) (d .left) left i (c .row)))
-      (ap (λ (b : Bool). b || high (d .n) (d .right) right || high (d .n) (d .public) (tables .public)) (still-low (d .n) (d .left) left i (c .row) low (none .0) ∙ sym (none .0)))))
+      (ap (λ (b : Bool). b || high (d .n) (d .right) right || high (d .n) (d .public) (tables .public))
+      (still-low (d .n) (d .left) left i (c .row) low (none .0) ∙ sym (none .0)))))
       (λ e. rw e (same
       (ap (λ (b : Bool). short (d .left) left || b || short (d .public) (tables .public)) (still-long (d .n) (d .right) right j (c .row)))
-      (ap (λ (b : Bool). high (d .n) (d .left) left || b || high (d .n) (d .public) (tables .public)) (still-low (d .n) (d .right) right j (c .row) low (none .1) ∙ sym (none .1)))))
+      (ap (λ (b : Bool). high (d .n) (d .left) left || b || high (d .n) (d .public) (tables .public))
+      (still-low (d .n) (d .right) right j (c .row) low (none .1) ∙ sym (none .1)))))
     where
       same : {b b′ : Bool} → b ≡ anyShort d tables → b′ ≡ anyHigh d tables → outcome (sizeChecks d ++ (check b RowBuffer ∷ check b′ RowBit ∷ [])) ≡ Taken
       same e e′ = ap₂ (λ (x y : Bool). outcome (sizeChecks d ++ (check x RowBuffer ∷ check y RowBit ∷ []))) e e′ ∙ acc

@@ -51,7 +51,9 @@ fn is_padding(words: &[u32], i: usize) -> bool
 fn replaceable(d: Dimensions, left: &[u32], right: &[u32], station: u64, number: u64) -> bool
     requires { ⌜ 2 * d .left ≤ length (now left) ⌝ }
     requires { ⌜ 2 * d .right ≤ length (now right) ⌝ }
-    ensures { λ r. ⌜ r ≡ Replacement.owns d station number && cond (leb number (d .left)) (padding 32 (rowAt (now (left .entry)) (number - 1))) (padding 32 (rowAt (now (right .entry)) (number - 1 - d .left))) ⌝ }
+    ensures { λ r.
+        ⌜ r ≡ Replacement.owns d station number && cond (leb number (d .left)) (padding 32 (rowAt (now (left .entry)) (number - 1)))
+        (padding 32 (rowAt (now (right .entry)) (number - 1 - d .left))) ⌝ }
 {
     if !owns(d, station, number) {
         return false;
@@ -122,7 +124,8 @@ fn put(words: &mut [u32], i: usize, row: Row)
     words[2 * i + 1] = row.negative;
 }
 
-// Puts a row in the place of a padding row of the station. Refused, by 1, 2, 4, 3, 12, 13, 15, 16, or 3 for the new row, it changes no word.
+// Puts a row in the place of a padding row of the station. Refused, by 1, 2, 4, 3, 12, 13, 15, 16, or 3 for the new row, it changes no
+// word.
 pub fn replace(
     d: Dimensions,
     left: &mut [u32],
@@ -132,8 +135,12 @@ pub fn replace(
     condition: Condition,
 ) -> Outcome
     ensures { λ r. ⌜ r ≡ outcome (lateChecks d (allTables (now (left .entry)) (now (right .entry)) (now (public .entry))) run condition) ⌝ }
-    ensures { λ _. ⌜ now (left .exit) ≡ tablesAfter d (allTables (now (left .entry)) (now (right .entry)) (now (public .entry))) run condition .left ⌝ }
-    ensures { λ _. ⌜ now (right .exit) ≡ tablesAfter d (allTables (now (left .entry)) (now (right .entry)) (now (public .entry))) run condition .right ⌝ }
+    ensures { λ _.
+        ⌜ now (left .exit) ≡ tablesAfter d
+        (allTables (now (left .entry)) (now (right .entry)) (now (public .entry))) run condition .left ⌝ }
+    ensures { λ _.
+        ⌜ now (right .exit) ≡ tablesAfter d
+        (allTables (now (left .entry)) (now (right .entry)) (now (public .entry))) run condition .right ⌝ }
 {
     match check(d, left, right, public, run, condition) {
         Outcome::Taken => {}

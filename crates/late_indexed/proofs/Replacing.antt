@@ -1,4 +1,5 @@
--- Index and number from the old and the new row: exactly those of the rows as they stand then, since the old row was padding and so satisfied. By induction on the rows, and by
+-- Index and number from the old and the new row: exactly those of the rows as they stand then, since the old row was padding and so satisfied. By induction on
+-- the rows, and by
 -- the checks in order.
 use mathlib.Core.Path.{_≡_, sym, ap, ap₂, _∙_}
 use mathlib.Core.Bool.{Bool, true, false, not, _&&_}
@@ -192,7 +193,8 @@ module _ (d : Dimensions) (tables : Tables) (index : List ℕ) (run : Run) (numb
       number-then =
           let n = d .n in
           ap₂ (λ (k : ℕ) (b : Bool). k + digit (not b)) number-is
-          (satisfied-width n 32 (c .row) (run .t) (run .f) (accepted d tables tables-taken .size .n-most) (low-positive n (c .row) (fitting .low)) (low-negative n (c .row) (fitting .low)))
+          (satisfied-width n 32 (c .row) (run .t) (run .f) (accepted d tables tables-taken .size .n-most) (low-positive n (c .row) (fitting .low))
+          (low-negative n (c .row) (fitting .low)))
           ∙ sym (number-set n rows (c .number - 1) (c .row) (run .t) (run .f) place (fitting .padded))
           ∙ ap (λ (rs : List Row). unsatisfiedRows n rs (run .t) (run .f)) rows-then ∙ rw (sym decided-alike ∙ taken)
 

@@ -1,4 +1,5 @@
--- A late condition with an index and a number of unsatisfied rows beside the run (document 02, Req 06): both are those of the tables as they stand afterwards.
+-- A late condition with an index and a number of unsatisfied rows beside the run (document 02, Req 06): both are those of the tables as
+-- they stand afterwards.
 use Prim.Native.Nat.{ℕ}
 use mathlib.Core.List.{List, _++_}
 use Rattle.refusals.specs.Checks.{Check, outcome, given}

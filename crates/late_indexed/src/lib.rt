@@ -1,4 +1,5 @@
-// A late condition (document 02, Req 06) with an index and a number of unsatisfied rows beside the run: both are brought up to date from the old and the new row alone.
+// A late condition (document 02, Req 06) with an index and a number of unsatisfied rows beside the run: both are brought up to date from
+// the old and the new row alone.
 use dimensions::Dimensions;
 use late::Condition;
 use refusals::Outcome;
@@ -67,7 +68,8 @@ fn count_row(number: u64, row: Row, t: u32, f: u32) -> u64
     number + 1
 }
 
-// Puts a row in the place of a padding row of the station, and brings index and number up to date. Padding is satisfied, so the new row alone can raise the number.
+// Puts a row in the place of a padding row of the station, and brings index and number up to date. Padding is satisfied, so the new row
+// alone can raise the number.
 // Refused, by 1, 2, 4, 3, 12, 13, 15, 16, or 3 for the new row, it changes nothing.
 pub fn replace_indexed(
     d: Dimensions,
@@ -79,10 +81,18 @@ pub fn replace_indexed(
     number: u64,
     condition: Condition,
 ) -> ReplacedIndexed
-    ensures { λ r. ⌜ r ≡ replacedIndexed d (allTables (now (left .entry)) (now (right .entry)) (now (public .entry))) (now (index .entry)) run number condition ⌝ }
-    ensures { λ _. ⌜ now (left .exit) ≡ tablesThen d (allTables (now (left .entry)) (now (right .entry)) (now (public .entry))) (now (index .entry)) run number condition .left ⌝ }
-    ensures { λ _. ⌜ now (right .exit) ≡ tablesThen d (allTables (now (left .entry)) (now (right .entry)) (now (public .entry))) (now (index .entry)) run number condition .right ⌝ }
-    ensures { λ _. ⌜ now (index .exit) ≡ indexThen d (allTables (now (left .entry)) (now (right .entry)) (now (public .entry))) (now (index .entry)) run number condition ⌝ }
+    ensures { λ r.
+        ⌜ r ≡ replacedIndexed d (allTables (now (left .entry)) (now (right .entry)) (now (public .entry)))
+        (now (index .entry)) run number condition ⌝ }
+    ensures { λ _.
+        ⌜ now (left .exit) ≡ tablesThen d (allTables (now (left .entry)) (now (right .entry)) (now (public .entry)))
+        (now (index .entry)) run number condition .left ⌝ }
+    ensures { λ _.
+        ⌜ now (right .exit) ≡ tablesThen d (allTables (now (left .entry)) (now (right .entry)) (now (public .entry)))
+        (now (index .entry)) run number condition .right ⌝ }
+    ensures { λ _.
+        ⌜ now (index .exit) ≡ indexThen d (allTables (now (left .entry)) (now (right .entry)) (now (public .entry)))
+        (now (index .entry)) run number condition ⌝ }
 {
     let checked = indexed::check_indexed(d, left, right, public, index, run, number);
     match checked {

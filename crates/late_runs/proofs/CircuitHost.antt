@@ -1,4 +1,5 @@
--- A host that mixes attempts with late conditions has the repeats of demand 3 over the tables as the conditions leave them, each after as many repeats: an attempt that is turned
+-- A host that mixes attempts with late conditions has the repeats of demand 3 over the tables as the conditions leave them, each after as many repeats: an
+-- attempt that is turned
 -- back goes on with the run and the tables that it met. By induction on the turns.
 use mathlib.Core.Path.{_≡_, refl, sym, ap, ap₂, _∙_, fun-ext, subst}
 use mathlib.Core.Bool.{Bool, true, false, cond}
@@ -27,7 +28,8 @@ use Rattle.late_runs.proofs.Host.{open-replaces, at-once}
 -- an attempt that is turned back gives the same, whichever accepted tables it read
 pub turned-alike : (d : Dimensions) (t t′ : Tables) → Accepts d t → Accepts d t′ → (s : State) → wellFormedState (d .n) s ≡ true
     → (a : Attempt) → longEnough d a ≡ false → attempted d t (runOf (d .n) s) a ≡ attempted d t′ (runOf (d .n) s) a
-turned-alike d t t′ acc acc′ s w (Lent bytes wires handed) e = short-turned d t acc s w bytes wires handed e ∙ sym (short-turned d t′ acc′ s w bytes wires handed e)
+turned-alike d t t′ acc acc′ s w (Lent bytes wires handed) e = short-turned d t acc s w bytes wires handed e
+    ∙ sym (short-turned d t′ acc′ s w bytes wires handed e)
 turned-alike d t t′ acc acc′ s w (Otherwise refusal) e = refl
 
 module _ (d : Dimensions) where
@@ -69,7 +71,8 @@ module _ (d : Dimensions) where
     dating long = repeats d (tablesAt d t (conditionsIn d (cond long 1 0) more)) (suc rest) run (a ∷ attemptsIn more)
 
     -- the host's
-    host-goes : repeatsBy d t (suc rest) run (Try a ∷ more) ≡ goes (repeatsBy d t (suc rest) run more) (repeatsBy d t rest (runOf (d .n) next) more) (longEnough d a)
+    host-goes : repeatsBy d t (suc rest) run (Try a ∷ more) ≡ goes (repeatsBy d t (suc rest) run more)
+        (repeatsBy d t rest (runOf (d .n) next) more) (longEnough d a)
     unfolding repeatsBy
     host-goes = attempt-is d t acc s formed (λ r. repeatsBy d t (suc rest) r more) (λ r. repeatsBy d t rest r more) a
 
@@ -80,7 +83,8 @@ module _ (d : Dimensions) where
         ap dating e
         ∙ ap (λ (x : Tables). comesOf (attempted d x run a) again further) (not-yet more 0 1 (omega arith) t)
         ∙ attempt-is d t acc s formed again further a
-        ∙ ap₂ (λ (b : Bool) (at : ℕ → Tables). cond b (returned (d .n) next ∷ cond (closed next) [] (repeats d at rest (runOf (d .n) next) (attemptsIn more))) (again run))
+        ∙ ap₂ (λ (b : Bool) (at : ℕ → Tables). cond b
+        (returned (d .n) next ∷ cond (closed next) [] (repeats d at rest (runOf (d .n) next) (attemptsIn more))) (again run))
         e (fun-ext (λ k. shifted more 0 k t))
       where
         again : Run → List Repeat
@@ -123,7 +127,8 @@ module _ (d : Dimensions) where
   repeats-follow (Try a ∷ more) t acc zero s w o = refl
   repeats-follow (Try a ∷ more) t acc (suc rest) s w o =
       host-goes t acc s w rest a more
-      ∙ ap (λ (l : List Repeat). goes t acc s w rest a more l (repeatsBy d t rest (runOf (d .n) next′) more) (longEnough d a)) (repeats-follow more t acc (suc rest) s w o)
+      ∙ ap (λ (l : List Repeat). goes t acc s w rest a more l (repeatsBy d t rest (runOf (d .n) next′) more) (longEnough d a))
+      (repeats-follow more t acc (suc rest) s w o)
       ∙ on (closed next′)
       (λ e. rw e)
       (λ e. ap (λ (l : List Repeat). goes t acc s w rest a more (mixed t (suc rest) s more) l (longEnough d a))

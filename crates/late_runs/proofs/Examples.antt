@@ -1,4 +1,5 @@
--- One variable, the left row (1) and a padding row on the right: (−1) in its place after one step makes the run unsatisfiable, after the close it changes nothing, and rows that are
+-- One variable, the left row (1) and a padding row on the right: (−1) in its place after one step makes the run unsatisfiable, after the close it changes
+-- nothing, and rows that are
 -- no padding row of the station stay. Computed; then two pairs that are seen alike though only one of them was changed, from what secrecy says.
 use mathlib.Core.Path.{_≡_, refl, sym, ap, _∙_}
 use mathlib.Core.List.{List, [], _∷_}
@@ -74,7 +75,8 @@ pub other-row-stays : tablesAt small tables (dated 1 (ill 0 2) ∷ []) 1 ≡ tab
 unfolding tablesAt padding bit any
 other-row-stays = refl
 
-pub once-there-stays : tablesAt small tables (dated 1 (ill 1 2) ∷ dated 1 (record { station = 1; number = 2; row = record { positive = 1; negative = 0 } }) ∷ []) 1 ≡ replaced
+pub once-there-stays : tablesAt small tables
+    (dated 1 (ill 1 2) ∷ dated 1 (record { station = 1; number = 2; row = record { positive = 1; negative = 0 } }) ∷ []) 1 ≡ replaced
 unfolding tablesAt padding bit any
 once-there-stays = refl
 

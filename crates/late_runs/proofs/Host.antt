@@ -1,4 +1,5 @@
--- A host's run is the run over its late conditions: while the run is open each call of `replace` leaves the tables with its condition, and once it is closed neither tables nor
+-- A host's run is the run over its late conditions: while the run is open each call of `replace` leaves the tables with its condition, and once it is closed
+-- neither tables nor
 -- run change. By induction on the calls.
 use mathlib.Core.Path.{_≡_, refl, sym, ap, ap₂, _∙_, fun-ext}
 use mathlib.Core.Bool.{Bool, true, false, not, _&&_, cond, true≢false}
@@ -71,7 +72,8 @@ module _ (d : Dimensions) (tables : Tables) (acc : Accepts d tables) (s : State)
     -- what 15, 16 and 3 lead to
     abbrev judged : Bool → Bool → Bool → Tables
     judged padding closing low =
-        given (cond (not padding) (Refused NotPadding) (cond closing (Refused Closed) (cond (not low) (Refused RowBit) Taken))) (replacedIn d tables c) (λ r. tables)
+        given (cond (not padding) (Refused NotPadding) (cond closing (Refused Closed) (cond (not low) (Refused RowBit) Taken)))
+        (replacedIn d tables c) (λ r. tables)
 
     at-open : (padding low : Bool) → judged padding false low ≡ cond (padding && low) (replacedIn d tables c) tables
     at-open true true = refl
@@ -255,7 +257,8 @@ module _ (d : Dimensions) where
       ∙ on (closed next)
       (λ h.
       ap (λ (x : Host). x .tables) (host-stays t acc next formed h more)
-      ∙ sym (ap (λ (k : ℕ). tablesAt d t (conditionsOf 1 more) (k - 1)) (countNext t more s o ∙ ap suc (steps-closed (d .n) (rowsAt d t (conditions more)) (stepsOf more) next h))
+      ∙ sym (ap (λ (k : ℕ). tablesAt d t (conditionsOf 1 more) (k - 1))
+      (countNext t more s o ∙ ap suc (steps-closed (d .n) (rowsAt d t (conditions more)) (stepsOf more) next h))
       ∙ not-yet more 0 1 (omega arith) t))
       (λ h.
       closed-tables more t acc next formed h closes
@@ -323,7 +326,8 @@ module _ (d : Dimensions) (tables : Tables) (acc : Accepts d tables) (actions : 
   unfolding runOf
   host-satisfied e =
       let now : hostState .standing ≡ Satisfied = ap (λ (r : Run). r .standing) (sym host-run) ∙ e in
-      ap₂ (λ (t : ℕ) (x : Tables). allTrue (bit t) (rowsOf d x)) (ap (λ (r : Run). r .t) host-run) (host-closed (ap (λ (st : Standing). ifOpen st false true) now))
+      ap₂ (λ (t : ℕ) (x : Tables). allTrue (bit t) (rowsOf d x)) (ap (λ (r : Run). r .t) host-run)
+      (host-closed (ap (λ (st : Standing). ifOpen st false true) now))
       ∙ demand2-late d tables acc fallen (stepsOf actions) .satisfiable (hostState .t)
       (verdict-is ∙ ap (λ (st : Standing). verdictOf st (hostState .t)) now)
 

@@ -79,12 +79,14 @@ module _ (d : Dimensions) where
   tables-accepted (c ∷ more) tables acc k =
       on (due k c) (λ e. rw e (tables-accepted more (tablesWith d tables (c .condition)) (with-accepted tables acc (c .condition)) k)) (λ e. rw e acc)
 
-  pub public-stays : (conditions : List Dated) (tables : Tables) → Accepts d tables → (k : ℕ) → publicRows d (tablesAt d tables conditions k) ≡ publicRows d tables
+  pub public-stays : (conditions : List Dated) (tables : Tables) → Accepts d tables → (k : ℕ)
+      → publicRows d (tablesAt d tables conditions k) ≡ publicRows d tables
   unfolding tablesAt
   public-stays [] tables acc k = refl
   public-stays (c ∷ more) tables acc k =
       on (due k c)
-      (λ e. rw e (public-stays more (tablesWith d tables (c .condition)) (with-accepted tables acc (c .condition)) k ∙ with-next tables acc (c .condition) .same))
+      (λ e. rw e (public-stays more (tablesWith d tables (c .condition)) (with-accepted tables acc (c .condition)) k
+      ∙ with-next tables acc (c .condition) .same))
       (λ e. rw e)
 
   -- with conditions one after the other
@@ -121,7 +123,8 @@ module _ (d : Dimensions) where
       (λ e. rw e (grows-same (d .n) (rowsOf d tables)))
 
   -- from any step to a later one
-  pub rows-grow : (conditions : List Dated) (tables : Tables) → Accepts d tables → (j k : ℕ) → j ≤ k → Grows (d .n) (rowsAt d tables conditions j) (rowsAt d tables conditions k)
+  pub rows-grow : (conditions : List Dated) (tables : Tables) → Accepts d tables → (j k : ℕ) → j ≤ k → Grows (d .n) (rowsAt d tables conditions j)
+      (rowsAt d tables conditions k)
   unfolding tablesAt
   rows-grow [] tables acc j k b = grows-same (d .n) (rowsOf d tables)
   rows-grow (c ∷ more) tables acc j k b =

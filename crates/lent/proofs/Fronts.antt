@@ -1,5 +1,4 @@
 -- Values written over the front of a buffer one by one: what is left to write gives what the whole gives. Past the buffer's end a store changes nothing.
--- Assumes nothing.
 use mathlib.Core.Path.{_≡_, refl, sym, ap, _∙_}
 use mathlib.Core.List.{List, [], _∷_, _++_}
 use Prim.Native.Nat.{ℕ, suc, _+_, _≤_, _<_, min}

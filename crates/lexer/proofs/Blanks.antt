@@ -1,5 +1,4 @@
 -- Remarks passed by: behind separators stands a token, or a remark whose bytes are separators too up to its LF. A byte at a time.
--- Assumes nothing.
 use mathlib.Core.Path.{_≡_, refl, sym, ap, _∙_}
 use mathlib.Core.Bool.{Bool, true, false, not, _&&_, cond}
 use mathlib.Core.List.{List, [], _∷_}
@@ -46,7 +45,8 @@ behind-more t b bs zero = refl
 behind-more t b bs (suc j) = refl
 
 separators-stay : (t : Bool) (bs : List ℕ)
-    → run isSeparator (blanked (opens t) bs) ≡ run isSeparator bs + run isSeparator (blanked (opens (behind t bs (run isSeparator bs))) (drop (run isSeparator bs) bs))
+    → run isSeparator (blanked (opens t) bs) ≡ run isSeparator bs + run isSeparator
+    (blanked (opens (behind t bs (run isSeparator bs))) (drop (run isSeparator bs) bs))
 unfolding run blanked
 separators-stay t [] = refl
 separators-stay t (b ∷ bs) =
@@ -54,7 +54,8 @@ separators-stay t (b ∷ bs) =
     (λ e. ap (run isSeparator) (separator-stays t b bs e) ∙ rw e
     (ap suc (separators-stay (isLineFeed b) bs)
     ∙ sym (suc-add (run isSeparator bs) _)
-    ∙ ap (λ (x : Bool). suc (run isSeparator bs) + run isSeparator (blanked (opens x) (drop (run isSeparator bs) bs))) (behind-more t b bs (run isSeparator bs))))
+    ∙ ap (λ (x : Bool). suc (run isSeparator bs) + run isSeparator (blanked (opens x) (drop (run isSeparator bs) bs)))
+    (behind-more t b bs (run isSeparator bs))))
     (λ e. rw e (sym (zero-add _)))
 
 -- ---- a token or a remark behind them
@@ -94,7 +95,8 @@ module _ (text : List ℕ) (at from : ℕ) (e : from ≡ runEnd isSeparator text
   unfolding tokenStart runEnd
   front =
       let k = run isSeparator (drop at text) in
-      let a : run isSeparator (blanked line (drop at text)) ≡ k + run isSeparator (blanked (opens (ltb at (at + k) && isLineFeed (getD text (at + k - 1) 0))) (drop (at + k) text))
+      let a : run isSeparator (blanked line (drop at text))
+      ≡ k + run isSeparator (blanked (opens (ltb at (at + k) && isLineFeed (getD text (at + k - 1) 0))) (drop (at + k) text))
       = separators-stay false (drop at text)
       ∙ ap (λ (x : Bool). k + run isSeparator (blanked (opens x) (drop k (drop at text)))) (behind-is text at k)
       ∙ ap (λ (l : List ℕ). k + run isSeparator (blanked (opens (ltb at (at + k) && isLineFeed (getD text (at + k - 1) 0))) l)) (drop-drop k at text) in

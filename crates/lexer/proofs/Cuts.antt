@@ -1,5 +1,4 @@
 -- The next piece of a text, by runs of bytes: what is cut off in front leaves the pieces of the rest.
--- Assumes nothing.
 use mathlib.Core.Path.{_≡_, refl, sym, ap, ap₂, _∙_}
 use mathlib.Core.Bool.{Bool, false, not, true≢false}
 use mathlib.Core.List.{List, [], _∷_}
@@ -66,7 +65,8 @@ pub one-piece : (p : ℕ → Bool) (at b : ℕ) (bs : List ℕ) → p b ≡ fals
 unfolding filled run
 one-piece p at b bs e =
     let o = run-over (λ b. not (p b)) (b ∷ bs) in
-    rw (cut-first p at (b ∷ bs), e) (ap (λ (l : List Piece). record { at = at; bytes = b ∷ take (run (λ b. not (p b)) bs) bs } ∷ l) (filled-later p _ _ (rw e at o)))
+    rw (cut-first p at (b ∷ bs), e) (ap (λ (l : List Piece). record { at = at; bytes = b ∷ take (run (λ b. not (p b)) bs) bs } ∷ l)
+    (filled-later p _ _ (rw e at o)))
 
 -- the place behind a piece
 pub behind-part : (text : List ℕ) (s e : ℕ) → s ≤ e → e ≤ length text → s + length (part s e text) ≡ e

@@ -1,5 +1,4 @@
 -- A text without its remarks, a byte at a time: it begins where the text does, and has the words that the text with remarks as spaces has.
--- Assumes nothing.
 use mathlib.Core.Path.{_≡_, refl, sym, ap, ap₂, _∙_}
 use mathlib.Core.Bool.{Bool, true, false, not, cond}
 use mathlib.Core.List.{List, [], _∷_, _++_}

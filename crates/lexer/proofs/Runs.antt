@@ -1,5 +1,4 @@
 -- Where a run of bytes ends. From whether the first of the bytes that are left passes.
--- Assumes nothing.
 use mathlib.Core.Path.{_≡_}
 use mathlib.Core.Bool.{Bool, true, false, cond}
 use mathlib.Core.List.{List, [], _∷_}

@@ -1,5 +1,4 @@
 -- The next token of a text past its remarks: in the text with remarks as spaces the pieces between separators, with the bytes that stand in the text itself.
--- Assumes nothing.
 use mathlib.Core.Path.{_≡_, refl, sym, ap, ap₂, _∙_}
 use mathlib.Core.Bool.{Bool, false, not}
 use mathlib.Core.List.{List, [], _∷_}
@@ -100,7 +99,8 @@ module _ (text : List ℕ) (at : ℕ) where
         ∙ ap (token b) (word-run (drop s text))
         ∙ ap₂ (λ (w : List ℕ) (l : List Piece). record { at = s; bytes = w } ∷ l)
         (word-take (drop s text) ∙ ap (λ (i : ℕ). take i (drop s text)) width)
-        (ap (λ (l : List ℕ). filled (cut isSeparator (s + k) l)) (word-drop (drop s text) ∙ ap (blanked line) (drop-drop k s text)) ∙ ap (tokensPast text) (sym he))
+        (ap (λ (l : List ℕ). filled (cut isSeparator (s + k) l)) (word-drop (drop s text) ∙ ap (blanked line) (drop-drop k s text))
+        ∙ ap (tokensPast text) (sym he))
 
     within : e ≤ length text
     within = omega (arith, he, end-le inWord text s (omega arith))

@@ -1,5 +1,4 @@
 -- A text without the bytes at its end that pass, a byte at a time from the back: the text turned round has them in front.
--- Assumes nothing.
 use mathlib.Core.Path.{_≡_, refl, sym, ap, _∙_}
 use mathlib.Core.Bool.{Bool, true, false}
 use mathlib.Core.List.{List, [], _∷_, _++_, reverse, reverse-append, reverse-cons, reverse-reverse}

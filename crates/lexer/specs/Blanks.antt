@@ -1,4 +1,5 @@
--- Remarks as code passes them by: each of their bytes a space, so that every other byte keeps its place. Of the entries only those that give a clause's place rest on this file.
+-- Remarks as code passes them by: each of their bytes a space, so that every other byte keeps its place. Of the entries only those that
+-- give a clause's place rest on this file.
 use Prim.Native.Nat.{ℕ, _+_, _-_}
 use mathlib.Core.Bool.{Bool, false, not, _&&_, cond}
 use mathlib.Core.List.{List, [], _∷_}

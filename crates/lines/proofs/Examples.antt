@@ -1,5 +1,4 @@
 -- Lines of document 01 and what stands just beside them, computed.
--- Assumes nothing.
 use mathlib.Core.Path.{_≡_, refl}
 use Prim.Native.Nat.{_-_, _^_}
 use Prim.Native.String.{String}

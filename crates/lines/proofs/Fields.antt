@@ -1,5 +1,4 @@
 -- A field read digit by digit: `fieldAfter` is a field whose first digits gave v already, and one digit more changes v alone.
--- Assumes nothing.
 use mathlib.Core.Path.{_≡_, refl, sym, ap, _∙_}
 use mathlib.Core.Bool.{Bool, true, false, _&&_, cond}
 use mathlib.Core.List.{List, [], _∷_}
@@ -102,7 +101,8 @@ module _ (line : List ℕ) (at closing i v : ℕ) (low : i < length line)
       go true k =
           on (eqb (getD line i 0) closing)
           (λ q.
-          let taken : cond (eqb (getD line i 0) closing) (bounded (some v) (drop (i + 1) line)) malformed ≡ field v (drop (i + 1) line) = rw q (rw (lt-ltb v (2 ^ 64) h)) in
+          let taken : cond (eqb (getD line i 0) closing) (bounded (some v) (drop (i + 1) line)) malformed ≡ field v (drop (i + 1) line) =
+          rw q (rw (lt-ltb v (2 ^ 64) h)) in
           rw q (sym (place-behind line v i low) ∙ ap (placeOf line) (sym (field-closed v closing (getD line i 0) (drop (i + 1) line) e ∙ taken) ∙ k)))
           (λ q.
           let spoilt : cond (eqb (getD line i 0) closing) (bounded (some v) (drop (i + 1) line)) malformed ≡ malformed = rw q in

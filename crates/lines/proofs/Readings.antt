@@ -1,5 +1,4 @@
 -- What a place found says of the text: the field there, and that what is left of the line starts at the place behind it.
--- Assumes nothing.
 use mathlib.Core.Path.{_≡_, refl, sym, ap, _∙_}
 use mathlib.Core.Bool.{cond}
 use mathlib.Core.List.{List, [], _∷_}
@@ -104,7 +103,8 @@ lost line at closing p = go (fieldOf closing (drop at line)) p
 pub no-budget : (input : List ℕ) → placeAt input 0 10 ≡ Malformed → budgetOf input ≡ budget.Refused NumberLine
 no-budget input p = ap (budgetFrom input) (lost input 0 10 p)
 
-pub one-budget : (input : List ℕ) (v end : ℕ) → placeAt input 0 10 ≡ Behind v end → budgetOf input ≡ cond (leb end 100) (budget.Of v) (budget.Refused NumberLine)
+pub one-budget : (input : List ℕ) (v end : ℕ) → placeAt input 0 10 ≡ Behind v end → budgetOf input
+    ≡ cond (leb end 100) (budget.Of v) (budget.Refused NumberLine)
 one-budget input v end p =
     let f = found input 0 10 v end p in
     ap (budgetFrom input) (f .reads) ∙ ap (λ (k : ℕ). cond (leb k 100) (budget.Of v) (budget.Refused NumberLine)) (f .behind)

@@ -1,5 +1,4 @@
 -- What the readers of lines say, as number and values: by the fields of the line, each found or not, and by its length.
--- Assumes nothing.
 use mathlib.Core.Path.{_≡_, refl, ap, _∙_}
 use mathlib.Core.Bool.{Bool, true, false, cond}
 use mathlib.Core.List.{List, [], _∷_}

@@ -81,7 +81,8 @@ pub fn read_budget(input: &[u8]) -> Budget
 // The four numbers of a dimension line: single spaces and LF, at most 100 bytes; bytes after the LF are not looked at.
 pub fn read_size(input: &[u8]) -> Size
     ensures { λ r. ⌜ r ≡ sizeOf (now (input .entry)) ⌝ }
-    ensures { λ r. ⌜ sizeSaid r ≡ onSize (now (input .entry)) (8 ∷ []) (λ n left right public. 0 ∷ (n ∷ (left ∷ (right ∷ (public ∷ []))))) ⌝ }
+    ensures { λ r.
+        ⌜ sizeSaid r ≡ onSize (now (input .entry)) (8 ∷ []) (λ n left right public. 0 ∷ (n ∷ (left ∷ (right ∷ (public ∷ []))))) ⌝ }
 {
     let Place::Behind(n, second) = field(input, 0, b' ') else {
         return Size::Refused(Refusal::NumberLine);

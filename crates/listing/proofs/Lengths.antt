@@ -1,6 +1,5 @@
 -- How long a text that is served can be: the circuit's wires have at most four digits, so that no line of a gate has more than 23 bytes. By induction on
 -- the gates, from what a gate reads.
--- Assumes nothing.
 use mathlib.Core.Path.{_≡_}
 use mathlib.Core.Bool.{true}
 use mathlib.Core.List.{List, [], _∷_, flatten}
@@ -67,7 +66,8 @@ gates-short wire (g ∷ gs) h e =
       gates-short (suc wire) gs (omega arith) (and-r (reads wire g) (ordered (suc wire) gs) e),
     )
 
-text-short : (d : Dimensions) (gs : List Gate) → inputWires d + length gs ≤ 10000 → ordered (inputWires d) gs ≡ true → length (circuitText d gs) ≤ 382 + 23 * length gs
+text-short : (d : Dimensions) (gs : List Gate) → inputWires d + length gs ≤ 10000 → ordered (inputWires d) gs
+    ≡ true → length (circuitText d gs) ≤ 382 + 23 * length gs
 unfolding circuitText linesOf flatten
 text-short d gs h e =
     omega (
@@ -86,5 +86,6 @@ few-inputs : (d : Dimensions) → ceiling d ≤ 5461 → inputWires d ≤ 255
 few-inputs d h = omega arith
 
 -- a circuit of no more gates than are served fits
-pub served-short : (d : Dimensions) (gs : List Gate) → ceiling d ≤ 5461 → length gs ≤ 5461 → ordered (inputWires d) gs ≡ true → length (circuitText d gs) ≤ 131072
+pub served-short : (d : Dimensions) (gs : List Gate) → ceiling d ≤ 5461 → length gs ≤ 5461 → ordered (inputWires d) gs
+    ≡ true → length (circuitText d gs) ≤ 131072
 served-short d gs h k e = omega (arith, text-short d gs (omega (arith, few-inputs d h)) e)

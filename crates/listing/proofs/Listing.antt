@@ -1,6 +1,5 @@
 -- What the definition comes to, case by case: whether the generator takes the dimensions and whether four numbers are dimensions decide. The words
 -- lent to the generator are three for each gate of the greatest ceiling that is served, so that its 7 is the program's.
--- Assumes nothing.
 use mathlib.Core.Path.{_≡_, refl, sym, ap, _∙_, subst}
 use mathlib.Core.Bool.{Bool, not}
 use mathlib.Core.List.{List, [], _∷_, _++_}
@@ -57,9 +56,13 @@ line-short r = simp length-append (omega (arith, decimal-length (numberOf r)))
 pub text-held : (t : Text) (xs : List ℕ) → t ≡ textOf xs → take (t .length) (t .bytes) ≡ xs
 text-held t xs e = ap (λ (x : Text). take (x .length) (x .bytes)) e ∙ text-back xs
 
-pub line-copied : (text front lent out : List ℕ) (k : ℕ) → front ≡ text → k ≡ length front → out ≡ take (length front) front ++ drop (length front) lent → Put text lent k out
-line-copied text front lent out k e h o =
-    (h ∙ ap length e, o ∙ ap (λ (l : List ℕ). take (length l) l ++ drop (length l) lent) e ∙ ap (λ (l : List ℕ). l ++ drop (length text) lent) (take-length text))
+pub line-copied : (text front lent out : List ℕ) (k : ℕ) → front ≡ text → k ≡ length front → out ≡ take (length front) front
+    ++ drop (length front) lent → Put text lent k out
+line-copied text front lent out k e h o = (
+  h ∙ ap length e,
+  o ∙ ap (λ (l : List ℕ). take (length l) l ++ drop (length l) lent) e
+      ∙ ap (λ (l : List ℕ). l ++ drop (length text) lent) (take-length text),
+)
 
 -- ---- a circuit's text
 
@@ -68,8 +71,10 @@ sizeIn : WrittenLines → ℕ
 sizeIn (lines.Lines k n) = suc n
 sizeIn (lines.Refused r) = zero
 
-module _ (d : Dimensions) (ws : List ℕ) (e : outcome (circuitChecks d ws) ≡ Taken) (lent : List ℕ) (room : length (circuitText d (gatesOf ws)) ≤ length lent) where
-  pub text-put : (k n : ℕ) (out : List ℕ) → writtenLines d ws 0 lent ≡ lines.Lines k n → out ≡ filledLines d ws 0 lent → Put (circuitText d (gatesOf ws)) lent n out
+module _ (d : Dimensions) (ws : List ℕ) (e : outcome (circuitChecks d ws) ≡ Taken) (lent : List ℕ)
+    (room : length (circuitText d (gatesOf ws)) ≤ length lent) where
+  pub text-put : (k n : ℕ) (out : List ℕ) → writtenLines d ws 0 lent ≡ lines.Lines k n → out ≡ filledLines d ws 0 lent
+      → Put (circuitText d (gatesOf ws)) lent n out
   unfolding sizeIn
   text-put k n out w o =
       let p = lines-whole d ws e lent room in
@@ -97,7 +102,8 @@ module _ (d : Dimensions) (words : List ℕ) (h : length words ≡ 16383) where
   pub circuit-refused : (r : Refusal) → generated d words ≡ generated′.Refused r → refusedLine r ≡ textFor d
   circuit-refused r g = go (outcome (generatorChecks d words)) refl g
     where
-      go : (o : Outcome) → outcome (generatorChecks d words) ≡ o → given o (generated′.Of (length (gatesOn d))) generated′.Refused ≡ generated′.Refused r → refusedLine r ≡ textFor d
+      go : (o : Outcome) → outcome (generatorChecks d words) ≡ o → given o (generated′.Of (length (gatesOn d))) generated′.Refused
+          ≡ generated′.Refused r → refusedLine r ≡ textFor d
       go Taken e f = absurd (let z : _≡_ {A = ℕ} 0 1 = cc in omega arith)
       go (Refused q) e f =
           let same : r ≡ q = cc in
@@ -134,7 +140,8 @@ pub record Served (d : Dimensions) (k : ℕ) (words : List ℕ) : Type 0 where
   pub text : circuitText d (gatesOf (take (3 * k) words)) ≡ textFor d
   pub short : length (circuitText d (gatesOf (take (3 * k) words))) ≤ 131072
 
-pub served : (d : Dimensions) (words left : List ℕ) (k : ℕ) → length words ≡ 16383 → generated d words ≡ generated′.Of k → left ≡ written d words → Served d k left
+pub served : (d : Dimensions) (words left : List ℕ) (k : ℕ) → length words ≡ 16383 → generated d words ≡ generated′.Of k
+    → left ≡ written d words → Served d k left
 served d words left k h g l = go (outcome (generatorChecks d words)) refl g l
   where
     go : (o : Outcome) → outcome (generatorChecks d words) ≡ o → given o (generated′.Of (length (gatesOn d))) generated′.Refused ≡ generated′.Of k
@@ -149,7 +156,8 @@ served d words left k h g l = go (outcome (generatorChecks d words)) refl g l
           circuit = ap (λ (x : List ℕ). outcome (circuitChecks d x)) front ∙ circuit-taken d words h t;
           text = ap (λ (x : List ℕ). circuitText d (gatesOf x)) front ∙ circuit-text d words h t;
           short =
-              subst (λ (x : List ℕ). length x ≤ 131072) (sym (ap (λ (x : List ℕ). circuitText d (gatesOf x)) front ∙ ap (circuitText d) (gates-words (gatesOn d))))
+              subst (λ (x : List ℕ). length x ≤ 131072)
+              (sym (ap (λ (x : List ℕ). circuitText d (gatesOf x)) front ∙ ap (circuitText d) (gates-words (gatesOn d))))
               (circuit-short d words h t);
         }
 
@@ -184,7 +192,8 @@ module _ (n left right public : ℕ) where
 pub put-same : (text same lent : List ℕ) (k : ℕ) (out : List ℕ) → text ≡ same → Put text lent k out → Put same lent k out
 put-same text same lent k out e p = subst (λ (x : List ℕ). Put x lent k out) e p
 
-pub put-within : (text same lent : List ℕ) (k : ℕ) (out : List ℕ) → text ≡ same → Put text lent k out → (k ≡ length same) × ((out ≡ over same lent) × Counts k out)
+pub put-within : (text same lent : List ℕ) (k : ℕ) (out : List ℕ) → text ≡ same → Put text lent k out → (k ≡ length same)
+    × ((out ≡ over same lent) × Counts k out)
 put-within text same lent k out e p =
     let q = put-same text same lent k out e p in
     let within : k ≤ length out = omega (arith, p .0, ap length (p .1), length-append text (drop (length text) lent)) in

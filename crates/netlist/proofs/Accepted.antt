@@ -16,9 +16,15 @@ use Rattle.sections.specs.declared.Addresses.{Addresses}
 use Rattle.sections.specs.Addressing.{thresholds, digitsTo, lineOf, addressesOf}
 use Rattle.sections.specs.Sections as Sections
 use Rattle.sections.specs.Sections.{digitAt}
-use Rattle.netlist.specs.Netlist.{zeroGate, literals, counts, ranks, digit, keySign, keyDigit, keyLow, keyHigh, bye, pairs, nodes, greatest, rule, root, split, targets, guards, selectLine, selectEnd, levels, levelsT, levelsF, levelsV, assignT, assignF, depths, nextAssignment, nextDepth, nextLevel, nextStanding, judging, weighing, choosing, holding, changing, outputs, circuit}
+use Rattle.netlist.specs.Netlist.{zeroGate, literals, counts, ranks, digit, keySign, keyDigit, keyLow, keyHigh, bye, pairs, nodes, greatest, rule, root}
+use Rattle.netlist.specs.Netlist.{split, targets, guards, selectLine, selectEnd, levels, levelsT, levelsF, levelsV, assignT, assignF, depths}
+use Rattle.netlist.specs.Netlist.{nextAssignment, nextDepth, nextLevel, nextStanding, judging, weighing, choosing, holding, changing, outputs, circuit}
 use Rattle.netlist.proofs.Families.{family-ordered}
-use Rattle.netlist.proofs.Counts.{literals-length, counts-length, digit-next, digits-length, keySign-length, keyDigit-next, keyDigits-length, keyLow-length, bye-length, pairs-length, nodes-length, greatest-length, split-next, targets-length, guards-length, select-line-length, levelsT-length, levelsF-length, levelsV-length, assignT-length, assignF-length, next-assignment-length, next-depth-length, next-level-length, next-levels-length, judging-length, weighing-length, choosing-length, holding-length, changing-length}
+use Rattle.netlist.proofs.Counts.{literals-length, counts-length, digit-next, digits-length, keySign-length, keyDigit-next, keyDigits-length}
+use Rattle.netlist.proofs.Counts.{keyLow-length, bye-length, pairs-length, nodes-length, greatest-length, split-next, targets-length, guards-length}
+use Rattle.netlist.proofs.Counts.{select-line-length, levelsT-length, levelsF-length, levelsV-length, assignT-length, assignF-length}
+use Rattle.netlist.proofs.Counts.{next-assignment-length, next-depth-length, next-level-length, next-levels-length, judging-length, weighing-length}
+use Rattle.netlist.proofs.Counts.{choosing-length, holding-length, changing-length}
 
 -- gates from wire x on, and behind them gates from wire y on
 followed : (x y : ℕ) (xs ys : List Gate) → x + length xs ≡ y → ordered x xs ≡ true → ordered y ys ≡ true → ordered x (xs ++ ys) ≡ true

@@ -1,5 +1,4 @@
 -- What the wires of arrays of cells hold, and that a circuit of them is accepted: an array is split into lines, a line into cells.
--- Assumes nothing.
 use mathlib.Core.Path.{_≡_, refl, ap, ap₂, sym, _∙_, subst}
 use mathlib.Core.Bool.{Bool, true, false}
 use mathlib.Core.List.{List, [], _∷_, _++_, map}

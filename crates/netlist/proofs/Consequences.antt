@@ -1,6 +1,5 @@
 -- What it comes to that gate words carry out the giant step, in a reader's words. From the fields of the record alone, each of which is used:
 -- one that said less would be refused here.
--- Assumes nothing.
 use mathlib.Core.Path.{_≡_, refl, ap, _∙_, subst}
 use mathlib.Core.Bool.{Bool, true, false, not, false≢true}
 use mathlib.Core.List.{List, [], _∷_, _++_}

@@ -18,7 +18,9 @@ use Rattle.sections.specs.Sections as Sections
 use Rattle.sections.specs.Sections.{digitAt}
 use Rattle.netlist.specs.Templates as Templates
 use Rattle.netlist.specs.Arrays.{none, rows, cells}
-use Rattle.netlist.specs.Netlist.{zeroGate, literals, counts, ranks, digit, keySign, keyDigit, keyLow, bye, pairs, nodes, greatest, rule, root, split, targets, guards, selectLine, selectEnd, levelsT, levelsF, levelsV, assignT, assignF, nextAssignment, nextDepth, nextLevel, nextStanding, judging, weighing, choosing, holding, changing, outputs, circuit, gatesFor}
+use Rattle.netlist.specs.Netlist.{zeroGate, literals, counts, ranks, digit, keySign, keyDigit, keyLow, bye, pairs, nodes, greatest, rule, root, split}
+use Rattle.netlist.specs.Netlist.{targets, guards, selectLine, selectEnd, levelsT, levelsF, levelsV, assignT, assignF, nextAssignment, nextDepth}
+use Rattle.netlist.specs.Netlist.{nextLevel, nextStanding, judging, weighing, choosing, holding, changing, outputs, circuit, gatesFor}
 use Rattle.netlist.proofs.Sizes.{Count, allGates, ands, ands-append, andGates, rows-count, cells-count, line-count, array-count}
 use Rattle.netlist.proofs.Families.{family-end}
 

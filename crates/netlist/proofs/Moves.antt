@@ -76,7 +76,8 @@ module _ (n t f : ℕ) (ls : List Level) (variable : ℕ → Bool) where
   level-kept : (from to : Standing) (d r sf st : Bool) (t′ f′ : ℕ)
       → ((i : ℕ) → i < n → bit t i ⊕ (st && variable i) ≡ bit t′ i) → ((i : ℕ) → i < n → bit f i ⊕ (sf && variable i) ≡ bit f′ i)
       → isSatisfied from ⊕ d ≡ isSatisfied to → isRefuted from ⊕ r ≡ isRefuted to
-      → Same n (moved n (record { done = d; refute = r; pop = false; push = false; setF = sf; setT = st }) variable (state from t f ls)) (bitsIn (state to t′ f′ ls))
+      → Same n (moved n (record { done = d; refute = r; pop = false; push = false; setF = sf; setT = st }) variable (state from t f ls))
+      (bitsIn (state to t′ f′ ls))
   level-kept from to d r sf st t′ f′ ht hf hs hr = record {
     same-T = λ i b. kept (bit t i) (st && variable i) n ∙ ht i b;
     same-F = λ i b. kept (bit f i) (sf && variable i) n ∙ hf i b;
@@ -90,7 +91,8 @@ module _ (n t f : ℕ) (ls : List Level) (variable : ℕ → Bool) where
 
   -- nothing changes but the closing bits
   pub moved-closing : (from to : Standing) (d r : Bool) → isSatisfied from ⊕ d ≡ isSatisfied to → isRefuted from ⊕ r ≡ isRefuted to
-      → Same n (moved n (record { done = d; refute = r; pop = false; push = false; setF = false; setT = false }) variable (state from t f ls)) (bitsIn (state to t f ls))
+      → Same n (moved n (record { done = d; refute = r; pop = false; push = false; setF = false; setT = false }) variable
+      (state from t f ls)) (bitsIn (state to t f ls))
   moved-closing from to d r = level-kept from to d r false false t f (λ i b. xor-false (bit t i)) (λ i b. xor-false (bit f i))
 
   module _ (v : ℕ) (picks : (i : ℕ) → i < n → variable i ≡ eqb i v) where

@@ -10,10 +10,16 @@ use Rattle.sections.specs.declared.Addresses.{Addresses}
 use Rattle.sections.specs.Addressing.{digitsTo, lineOf, addressesOf}
 use Rattle.sections.specs.Sections.{digitAt}
 use Rattle.netlist.specs.Arrays.{rows}
-use Rattle.netlist.specs.Netlist.{zeroGate, literals, counts, ranks, digit, keySign, keyDigit, keyLow, keyHigh, bye, pairs, nodes, greatest, rule, root, split, targets, guards, selectLine, selectEnd, levelsT, levelsF, levelsV, assignT, assignF, depths, nextAssignment, nextDepth, nextLevel, nextStanding, judging, weighing, choosing, holding, changing, outputs, circuit}
+use Rattle.netlist.specs.Netlist.{zeroGate, literals, counts, ranks, digit, keySign, keyDigit, keyLow, keyHigh, bye, pairs, nodes, greatest, rule, root}
+use Rattle.netlist.specs.Netlist.{split, targets, guards, selectLine, selectEnd, levelsT, levelsF, levelsV, assignT, assignF, depths, nextAssignment}
+use Rattle.netlist.specs.Netlist.{nextDepth, nextLevel, nextStanding, judging, weighing, choosing, holding, changing, outputs, circuit}
 use Rattle.netlist.proofs.Values.{Holds, holds-left, holds-right, holds-rows}
 use Rattle.netlist.proofs.Families.{family-holds}
-use Rattle.netlist.proofs.Counts.{literals-length, counts-length, digit-next, digits-length, keySign-length, keyDigit-next, keyDigits-length, keyLow-length, bye-length, pairs-length, nodes-length, greatest-length, split-next, targets-length, guards-length, select-line-length, levelsT-length, levelsF-length, levelsV-length, assignT-length, assignF-length, next-assignment-length, next-depth-length, next-level-length, next-levels-length, judging-length, weighing-length, choosing-length, holding-length, changing-length}
+use Rattle.netlist.proofs.Counts.{literals-length, counts-length, digit-next, digits-length, keySign-length, keyDigit-next, keyDigits-length}
+use Rattle.netlist.proofs.Counts.{keyLow-length, bye-length, pairs-length, nodes-length, greatest-length, split-next, targets-length, guards-length}
+use Rattle.netlist.proofs.Counts.{select-line-length, levelsT-length, levelsF-length, levelsV-length, assignT-length, assignF-length}
+use Rattle.netlist.proofs.Counts.{next-assignment-length, next-depth-length, next-level-length, next-levels-length, judging-length, weighing-length}
+use Rattle.netlist.proofs.Counts.{choosing-length, holding-length, changing-length}
 
 -- each section's gates hold of the wires
 pub record Sections (W : ℕ → Bool) (a : Addresses) : Type 0 where

@@ -1,6 +1,5 @@
 -- How many gates, and how many AND gates, cells and arrays of cells have. Both counts add up over circuits and do not change where a cell is placed,
 -- so that one induction on the number of copies serves both.
--- Assumes nothing.
 use mathlib.Core.Path.{_≡_, refl, ap, _∙_}
 use mathlib.Core.List.{List, [], _∷_, _++_}
 use Prim.Native.Nat.{ℕ, zero, suc, _+_, _*_}

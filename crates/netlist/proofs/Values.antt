@@ -1,5 +1,5 @@
--- What a placed cell's wires hold: on the final wires each gate's equation holds, so a cell's wires are its template's on the slots' wires, by induction on the gates.
--- Assumes nothing.
+-- What a placed cell's wires hold: on the final wires each gate's equation holds, so a cell's wires are its template's on the slots' wires, by induction on the
+-- gates.
 use mathlib.Core.Path.{_≡_, refl, ap, ap₂, sym, _∙_, subst}
 use mathlib.Core.Bool.{Bool, true, false, not, _&&_}
 use mathlib.Core.List.{List, [], _∷_, _++_, map, append-assoc, append-nil}

@@ -31,8 +31,10 @@ outputBits n rows s = stateBits n (step n rows s) ++ (closed (step n rows s) ∷
 abbrev pub outputsIn : Dimensions → List ℕ → List ℕ → List ℕ
 outputsIn d gates wires = take (stateWires (d .n) + 1) (drop (inputWires d + length gates / 3 - (stateWires (d .n) + 1)) wires)
 
--- gate words that carry out the giant step: no more than the ceiling, accepted by the evaluator, and on the packed bytes of any tables of these dimensions
--- and any well-formed state, in lent wires that are long enough, its last wires are the packed bytes of the next state, then whether that is closed
+-- gate words that carry out the giant step: no more than the ceiling, accepted by the evaluator, and on the packed bytes of any tables of
+-- these dimensions
+-- and any well-formed state, in lent wires that are long enough, its last wires are the packed bytes of the next state, then whether that
+-- is closed
 pub record CarriesOut (d : Dimensions) (gates : List ℕ) : Type 0 where
   pub few : length gates ≤ 3 * ceiling d
   pub taken : accepted (inputWires d) gates ≡ true

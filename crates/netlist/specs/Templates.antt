@@ -1,4 +1,5 @@
--- The templates of the circuit's cells. An operand below 8 is a slot, 8 + k the cell's own gate k. What a chain hands on stands last, in the order of the slots that take it.
+-- The templates of the circuit's cells. An operand below 8 is a slot, 8 + k the cell's own gate k. What a chain hands on stands last, in
+-- the order of the slots that take it.
 use mathlib.Core.List.{List, [], _∷_}
 use Rattle.gates.specs.Gates.{Gate}
 use Rattle.gates.specs.Gates.Gate.{XOR, AND, INV}
@@ -7,7 +8,8 @@ use Rattle.gates.specs.Gates.Gate.{XOR, AND, INV}
 abbrev pub sum : List Gate
 sum = XOR 0 1 ∷ []
 
--- slots p, q, T, F; satisfied, sign. Where the row is not satisfied, gates 2 and 5 are a free positive and a free negative literal, gate 8 a free literal
+-- slots p, q, T, F; satisfied, sign. Where the row is not satisfied, gates 2 and 5 are a free positive and a free negative literal, gate 8
+-- a free literal
 abbrev pub literal : List Gate
 literal =
     XOR 4 0 ∷ XOR 0 3 ∷ AND 8 9 ∷ XOR 4 1 ∷ XOR 1 2 ∷ AND 11 12 ∷ XOR 3 10 ∷ XOR 2 13 ∷ XOR 10 13 ∷ AND 14 15 ∷ XOR 4 17 ∷ XOR 5 10 ∷ []

@@ -1,5 +1,4 @@
 -- Digits one at a time, with values held up to 1000: two values that are held alike go on alike.
--- Assumes nothing.
 use mathlib.Core.Path.{_≡_, refl, sym, ap, _∙_}
 use mathlib.Core.Bool.{Bool, true, false, true≢false}
 use mathlib.Core.List.{List, [], _∷_}

@@ -1,5 +1,4 @@
 -- The gathered words of accepted tables hold exactly their rows, in order. By induction on the rows of one table, one table after the other.
--- Assumes nothing.
 use mathlib.Core.Path.{_≡_, refl, sym, ap, ap₂, _∙_}
 use mathlib.Core.List.{List, _∷_, _++_, append-nil, append-assoc}
 use Prim.Native.Nat.{ℕ, zero, suc, _+_, _*_, _≤_, _<_, min}

@@ -62,7 +62,8 @@ number-bit r j =
     (λ e. let z = eqb-true j (r % 64) e in eq-eqb (64 * (r / 64) + j) r (omega arith) ∙ sym e)
     (λ e. ne-eqb (64 * (r / 64) + j) r (λ z. eqb-false j (r % 64) e (omega arith)) ∙ sym e)
 
-module _ (rows later : List Row) (r : ℕ) (p : ℕ → Bool) (h : (l : ℕ) → l < 64 → (i : ℕ) → at (numbered l) later i ≡ at (numbered l) rows i ⊕ (eqb i r && p l)) where
+module _ (rows later : List Row) (r : ℕ) (p : ℕ → Bool) (h : (l : ℕ) → l < 64 → (i : ℕ) → at (numbered l) later i
+    ≡ at (numbered l) rows i ⊕ (eqb i r && p l)) where
   -- the row's word in the set of a literal that passes
   word-turned : (l : ℕ) → l < 64 → p l ≡ true → bitXor (wordAt (numbered l) rows (r / 64)) (2 ^ (r % 64)) ≡ wordAt (numbered l) later (r / 64)
   word-turned l b e =
@@ -128,7 +129,8 @@ row-added words r left index e q =
     let z : 0 + r ≡ r = omega arith in
     ap₂ (λ (x : ℕ) (y : List ℕ). turned (bit x) r y) e q
     ∙ turned-index rows (rows ++ (row ∷ [])) r (bit (literalsOf row))
-    (λ l b i. last-at (numbered l) rows row i ∙ ap₂ (λ (k : ℕ) (x : Bool). at (numbered l) rows i ⊕ (eqb i k && x)) (table-length words 0 r) (sym (literals-bit row l b)))
+    (λ l b i. last-at (numbered l) rows row i ∙ ap₂ (λ (k : ℕ) (x : Bool). at (numbered l) rows i ⊕ (eqb i k && x)) (table-length words 0 r)
+    (sym (literals-bit row l b)))
     ∙ sym (ap (λ (k : ℕ). indexOf (rowsFrom words 0 k)) (add-one r) ∙ ap indexOf (rows-last words 0 r ∙ ap (λ (k : ℕ). rows ++ (rowAt words k ∷ [])) z))
 
 -- ---- one row in the place of another

@@ -1,5 +1,4 @@
 -- Sets of rows by number: tests row by row, the rows of a table's words, one more row, and what a word of a set has. By induction on the list.
--- Assumes nothing.
 use mathlib.Core.Path.{_≡_, refl, sym, ap, _∙_}
 use mathlib.Core.Bool.{Bool, true, false, _&&_, _||_}
 use mathlib.Core.List.{List, [], _∷_, _++_}

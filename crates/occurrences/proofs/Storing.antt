@@ -1,5 +1,4 @@
 -- The words of tables stored one after the other, cut where there is no place left. By the laws of stores.
--- Assumes nothing.
 use mathlib.Core.Path.{_≡_, refl, sym, ap, ap₂, _∙_}
 use mathlib.Core.Bool.{true, false, _&&_}
 use mathlib.Core.List.{List, [], _∷_, _++_}

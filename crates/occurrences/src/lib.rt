@@ -1,4 +1,5 @@
-// For each literal the set of rows that hold it: an index of 384 words, six of 64 rows for each of 64 literals (document 02, "Which rows does a variable
+// For each literal the set of rows that hold it: an index of 384 words, six of 64 rows for each of 64 literals (document 02, "Which rows
+// does a variable
 // touch"). Nothing here is turned back: each public function is total.
 use dimensions::Dimensions;
 use tables::Row;

@@ -1,4 +1,5 @@
-// The pair program: reads left.cnf, right.cnf, public.cnf and the budget on standard input, each whole before the next, and prints the reply.
+// The pair program: reads left.cnf, right.cnf, public.cnf and the budget on standard input, each whole before the next, and prints the
+// reply.
 use libc::STDIN_FILENO;
 use libc::STDOUT_FILENO;
 ghost use Prim.Native.Nat.{_≤_};

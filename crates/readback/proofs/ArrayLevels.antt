@@ -1,5 +1,4 @@
 -- Levels read into a run's array: storing one more at its place reads one more. By induction on the depth.
--- Assumes nothing.
 use mathlib.Core.Path.{_≡_, refl, sym, ap, ap₂, _∙_}
 use mathlib.Core.List.{List, _++_, reverse, reverse-cons}
 use Prim.Native.Nat.{ℕ, zero, suc, _+_, _-_, _<_}

@@ -1,5 +1,4 @@
 -- What the checks of reading back lead to, each by its condition. From the order of the checks.
--- Assumes nothing.
 use mathlib.Core.Path.{_≡_, sym, ap, _∙_, subst}
 use mathlib.Core.Bool.{Bool, true, false, _&&_}
 use mathlib.Core.List.{List}

@@ -1,5 +1,4 @@
 -- Bytes read back for n = 1, and what they are refused with, computed.
--- Assumes nothing.
 use mathlib.Core.Path.{_≡_, refl}
 use mathlib.Core.List.{List, [], _∷_}
 use Prim.Native.Nat.{ℕ}

@@ -1,6 +1,5 @@
 -- Reading back what was packed gives the run, and packing what was read back gives the bytes, for every n from 1 to 32. By the wires' addresses there,
 -- and by the comparison that reading back makes here.
--- Assumes nothing.
 use mathlib.Core.Path.{_≡_, refl, sym, ap, ap₂, _∙_, fun-ext}
 use mathlib.Core.Bool.{Bool, true, false, not, _&&_}
 use mathlib.Core.List.{List, _++_, map-append, append-assoc}
@@ -118,7 +117,9 @@ module _ (n : ℕ) (bytes : List ℕ) where
       let t₂ = checks-taken (ltb (length bytes) (stateWires n)) Wires _ t₁ in
       let k : holdsState n bytes ≡ true = not-false (holdsState n bytes) (check-passed (not (holdsState n bytes)) refusal.State _ t₂) in
       let q : readBack n bytes .run ≡ runIn n bytes =
-      ap (λ (r : Read). r .run) (sym (read-taken n bytes (check-passed (outside 32 n) Variables _ t) (ltb-false (length bytes) (stateWires n) (check-passed (ltb (length bytes) (stateWires n)) Wires _ t₁)) k)) in
+      ap (λ (r : Read). r .run)
+      (sym (read-taken n bytes (check-passed (outside 32 n) Variables _ t)
+      (ltb-false (length bytes) (stateWires n) (check-passed (ltb (length bytes) (stateWires n)) Wires _ t₁)) k)) in
       held q k
 
 -- ---- by the entries
@@ -145,8 +146,10 @@ module _ (d : Dimensions) (tables : Tables) (run : Run) (bytes : List ℕ) (e : 
       let o = passed d tables run (length bytes) e in
       let f = formed-run-e run (o .formed) in
       ap (readBack (d .n)) (ap (drop (2 * d .n * rowCount d)) split ∙ drop-at rowBytes _ (2 * d .n * rowCount d) rows-wide)
-      ∙ read-packed (d .n) (stateOf run) _ (ap (λ (k : ℕ). wellFormedState k (stateOf run)) (sym (o .same)) ∙ f .state) (o .allowed .size .n-least) (o .allowed .size .n-most)
-      ∙ ap (λ (r : Run). record { outcome = Taken; run = r }) (ap (λ (k : ℕ). runOf k (stateOf run)) (sym (o .same)) ∙ sym (run-back run (formed-tidy run room f)))
+      ∙ read-packed (d .n) (stateOf run) _ (ap (λ (k : ℕ). wellFormedState k (stateOf run)) (sym (o .same)) ∙ f .state)
+      (o .allowed .size .n-least) (o .allowed .size .n-most)
+      ∙ ap (λ (r : Run). record { outcome = Taken; run = r }) (ap (λ (k : ℕ). runOf k (stateOf run)) (sym (o .same))
+      ∙ sym (run-back run (formed-tidy run room f)))
     where
       rows-wide : length rowBytes ≡ 2 * d .n * rowCount d
       rows-wide =

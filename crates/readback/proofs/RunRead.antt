@@ -1,5 +1,4 @@
 -- The run that the code reads is the one that the definition has: the same wires under the definition's addresses.
--- Assumes nothing.
 use mathlib.Core.Path.{_≡_, sym, ap, ap₂, _∙_, fun-ext}
 use mathlib.Core.List.{List, _++_, reverse}
 use Prim.Native.Nat.{ℕ, suc, _+_, _-_, _*_, _≤_}
@@ -62,5 +61,6 @@ module _ (n : ℕ) (bytes : List ℕ) where
         t = (et ∙ wordOf-cong _ _ n (λ j h. ap (wireIn bytes) (zero-add j))) i;
         f = ef i;
         depth = (e ∙ sym (length-last d (levelOf n b))) i;
-        levels = (el ∙ ap₂ arrayOf (fun-ext level-from) e ∙ ap (λ (k : ℕ). reverse (lastFirst d (levelOf n b)) ++ replicate (32 - k) none) (sym (length-last d (levelOf n b)))) i;
+        levels = (el ∙ ap₂ arrayOf (fun-ext level-from) e ∙ ap (λ (k : ℕ). reverse (lastFirst d (levelOf n b)) ++ replicate (32 - k) none)
+            (sym (length-last d (levelOf n b)))) i;
       }

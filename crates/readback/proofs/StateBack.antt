@@ -1,5 +1,4 @@
 -- What has the bits of a well-formed state is unpacked as that state: its words from their bits, its levels by induction from the last.
--- Assumes nothing.
 use mathlib.Core.Path.{_≡_, refl, ap, ap₂, _∙_}
 use mathlib.Core.Bool.{Bool, true}
 use mathlib.Core.List.{List, [], _∷_}
@@ -45,7 +44,8 @@ record Agree (n : ℕ) (b : Bits) (xs : List Level) (l : ℕ) : Type 0 where
   agree-f : (i : ℕ) → i < n → b .levelF l i ≡ onLevel (λ x. bit (x .f) i) xs l
   agree-v : (i : ℕ) → i < n → b .chosen l i ≡ onLevel (λ x. eqb i (x .chosen)) xs l
 
-levels-back : (n t f : ℕ) (b : Bits) (xs : List Level) → chain n t f xs ≡ true → ((l : ℕ) → l < length xs → Agree n b xs l) → lastFirst (length xs) (levelOf n b) ≡ xs
+levels-back : (n t f : ℕ) (b : Bits) (xs : List Level) → chain n t f xs ≡ true → ((l : ℕ) → l < length xs → Agree n b xs l)
+    → lastFirst (length xs) (levelOf n b) ≡ xs
 unfolding lastFirst
 levels-back n t f b [] c h = refl
 levels-back n t f b (x ∷ xs) c h =

@@ -1,5 +1,4 @@
 -- Turns of the loops that read wires: the word of the wires from `i` on, from one more wire in front, and the lowest wire that is set, from the wires below it.
--- Assumes nothing.
 use mathlib.Core.Path.{_≡_, sym, ap, ap₂, _∙_}
 use mathlib.Core.Bool.{Bool, true, false}
 use Prim.Native.Nat.{ℕ, suc, _+_, _-_, _*_, _^_, _≤_, _<_}

@@ -16,9 +16,11 @@ use Rattle.readback.specs.Unpacking.{runIn, holdsState}
 -- 12: the first bytes are not the packed ones of any well-formed state of n
 abbrev pub readChecks : ℕ → List ℕ → List Check
 readChecks n bytes =
-    check (outside mostVariables n) Variables ∷ check (ltb (length bytes) (stateWires n)) Wires ∷ check (not (holdsState n bytes)) refusal.State ∷ []
+    check (outside mostVariables n) Variables ∷ check (ltb (length bytes) (stateWires n)) Wires
+    ∷ check (not (holdsState n bytes)) refusal.State ∷ []
 
 -- the run of the state whose packed bytes these are; refused, the fresh one of n
 unfoldable pub readBack : ℕ → List ℕ → Read
 readBack n bytes =
-    given (outcome (readChecks n bytes)) (record { outcome = Taken; run = runIn n bytes }) (λ r. record { outcome = Refused r; run = runOf n fresh })
+    given (outcome (readChecks n bytes)) (record { outcome = Taken; run = runIn n bytes })
+    (λ r. record { outcome = Refused r; run = runOf n fresh })

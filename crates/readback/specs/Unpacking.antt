@@ -1,4 +1,5 @@
--- How bytes are unpacked into a run of n. What reading back gives is known by packing alone (`read-front`, `read-held`), so this need not be believed.
+-- How bytes are unpacked into a run of n. What reading back gives is known by packing alone (`read-front`, `read-held`), so this need not
+-- be believed.
 use Prim.Native.Nat.{ℕ, zero, suc}
 use mathlib.Core.Bool.{Bool, true, false, _&&_}
 use mathlib.Core.List.{List, [], _∷_}

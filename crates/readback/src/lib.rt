@@ -32,7 +32,8 @@ fn gives(d: Dimensions, run: Run, bytes: &[u8]) -> bool
     requires { ⌜ d .n ≤ 32 ⌝ }
     requires { ⌜ run .n ≡ d .n ⌝ }
     requires { ⌜ stateWires (d .n) ≤ length (now bytes) ⌝ }
-    ensures { λ r. ⌜ r ≡ wellFormed run && same (bytesOf (stateBits (d .n) (stateOf run))) (take (stateWires (d .n)) (now (bytes .entry))) ⌝ }
+    ensures { λ r.
+        ⌜ r ≡ wellFormed run && same (bytesOf (stateBits (d .n) (stateOf run))) (take (stateWires (d .n)) (now (bytes .entry))) ⌝ }
 {
     let mut again = [0u8; STATE_WIRES];
     if !wires::pack_state(run, &mut again) {

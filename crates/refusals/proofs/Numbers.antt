@@ -1,5 +1,4 @@
 -- No two refusals have one number: a number has the refusal back that it stands for. By computation, refusal by refusal.
--- Assumes nothing.
 use mathlib.Core.Path.{_≡_, refl, sym, ap, _∙_}
 use mathlib.Core.List.{List, [], _∷_}
 use Prim.Native.Nat.{ℕ, _<_}
@@ -7,11 +6,13 @@ use lib.Dec.{lit<}
 use lib.ListN.{getD}
 use Rattle.refusals.specs.Numbers.{numberOf}
 use Rattle.refusals.specs.declared.Refusal.{Refusal}
-use Rattle.refusals.specs.declared.Refusal.the-variants.{Variables, RowCount, RowBit, RowBuffer, Text, TextsDiffer, GateBuffer, NumberLine, Gates, Wires, LineBuffer, State, OtherVariables, NoModel, NotPadding, Closed, NoClause}
+use Rattle.refusals.specs.declared.Refusal.the-variants.{Variables, RowCount, RowBit, RowBuffer, Text, TextsDiffer, GateBuffer, NumberLine, Gates, Wires}
+use Rattle.refusals.specs.declared.Refusal.the-variants.{LineBuffer, State, OtherVariables, NoModel, NotPadding, Closed, NoClause}
 
 -- the refusal of a number; no refusal has 0
 refusalOf : ℕ → Refusal
-refusalOf k = getD (NoClause ∷ Variables ∷ RowCount ∷ RowBit ∷ RowBuffer ∷ Text ∷ TextsDiffer ∷ GateBuffer ∷ NumberLine ∷ Gates ∷ Wires ∷ LineBuffer ∷ State ∷ OtherVariables ∷ NoModel ∷ NotPadding ∷ Closed ∷ []) k NoClause
+refusalOf k = getD (NoClause ∷ Variables ∷ RowCount ∷ RowBit ∷ RowBuffer ∷ Text ∷ TextsDiffer ∷ GateBuffer ∷ NumberLine ∷ Gates ∷ Wires ∷ LineBuffer ∷ State
+    ∷ OtherVariables ∷ NoModel ∷ NotPadding ∷ Closed ∷ []) k NoClause
 
 refusal-back : (r : Refusal) → refusalOf (numberOf r) ≡ r
 unfolding refusalOf

@@ -1,8 +1,11 @@
--- The numbers of documents 01 and 02: what a refusal is called outside; document 01, "Turned back because of the input" and "because of the state".
+-- The numbers of documents 01 and 02: what a refusal is called outside; document 01, "Turned back because of the input" and "because of the
+-- state".
 use Prim.Native.Nat.{ℕ}
 use mathlib.Core.List.{List, [], _∷_}
 use Rattle.refusals.specs.declared.Refusal.{Refusal}
-use Rattle.refusals.specs.declared.Refusal.the-variants.{Variables, RowCount, RowBit, RowBuffer, Text, TextsDiffer, GateBuffer, NumberLine, Gates, Wires, LineBuffer, State, OtherVariables, NoModel, NotPadding, Closed, NoClause}
+use Rattle.refusals.specs.declared.Refusal.the-variants.{Variables, RowCount, RowBit, RowBuffer, Text, TextsDiffer, GateBuffer}
+use Rattle.refusals.specs.declared.Refusal.the-variants.{NumberLine, Gates, Wires, LineBuffer, State, OtherVariables, NoModel}
+use Rattle.refusals.specs.declared.Refusal.the-variants.{NotPadding, Closed, NoClause}
 use Rattle.refusals.specs.declared.Outcome.{Outcome}
 use Rattle.refusals.specs.declared.Outcome.the-variants.{Taken, Refused}
 

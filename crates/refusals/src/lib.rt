@@ -2,7 +2,8 @@
 ghost use mathlib.Core.Path.{_≡_};
 ghost use Rattle.refusals.specs.Numbers.{numberOf};
 
-// Why a call is turned back: 1 to 11 because of the input, 12 to 14 because of the state, 15 and 16 because of a late condition, 17 because of texts that are not the tables'.
+// Why a call is turned back: 1 to 11 because of the input, 12 to 14 because of the state, 15 and 16 because of a late condition, 17 because
+// of texts that are not the tables'.
 pub enum Refusal {
     // 1: n outside 1 to 32.
     Variables,

@@ -1,6 +1,5 @@
 -- One attempt at a well-formed state with the generated circuit: where it is long enough it gives the giant step and its mark, else it is turned back.
 -- The packed bytes are evaluated, the last wires are the outputs, and what is handed of these is read back.
--- Assumes nothing.
 use mathlib.Core.Path.{_≡_, refl, sym, ap, ap₂, _∙_}
 use mathlib.Core.Bool.{Bool, true, false, _&&_, cond}
 use mathlib.Core.List.{List, [], _∷_, _++_, map-append}
@@ -125,7 +124,8 @@ module _ (d : Dimensions) (tables : Tables) (acc : Accepts d tables) (run : Run)
       by-reading : (handed : ℕ) → applied d tables (circuitWords d) run bytes wires handed ≡ nextRun (d .n) run handed outputs
       unfolding applied outputBits
       by-reading handed =
-          ap (λ (o : Outcome). given o (nextRun (d .n) run handed (outputsIn d (circuitWords d) (wiresAfter d tables (circuitWords d) run bytes wires))) (turnedBack run)) all-taken
+          ap (λ (o : Outcome). given o
+          (nextRun (d .n) run handed (outputsIn d (circuitWords d) (wiresAfter d tables (circuitWords d) run bytes wires))) (turnedBack run)) all-taken
           ∙ ap (nextRun (d .n) run handed) (outputs-are ∙ map-append digit (stateBits (d .n) next) (closed next ∷ []))
 
       -- too few of them are handed to it
@@ -149,7 +149,8 @@ module _ (d : Dimensions) (tables : Tables) (acc : Accepts d tables) (run : Run)
           let r =
           read-front (d .n) next (take handed outputs) (step-well-formed (d .n) (rowsOf d tables) (stateOf run) formed) (z .n-least) (z .n-most) whole in
           let m : eqb (getD outputs (stateWires (d .n)) 0) 1 ≡ closed next =
-          ap (λ (x : ℕ). eqb x 1) (getD-at (bytesOf (stateBits (d .n) next)) (digit (closed next)) [] 0 (stateWires (d .n)) front-length) ∙ digit-bit (closed next) in
+          ap (λ (x : ℕ). eqb x 1) (getD-at (bytesOf (stateBits (d .n) next)) (digit (closed next)) [] 0 (stateWires (d .n)) front-length)
+          ∙ digit-bit (closed next) in
           by-reading handed
           ∙ ap₂ (λ (x : Read) (b : Bool). given (x .outcome) (record { outcome = Taken; run = x .run; mark = b }) (turnedBack run)) r m
 
@@ -174,7 +175,8 @@ module _ (d : Dimensions) (tables : Tables) (acc : Accepts d tables) (s : State)
     abbrev enoughWires : Bool
     enoughWires = leb (inputWires d + length (gatesOn d)) (length wires)
 
-    judged-back : judged d tables (circuitWords d) run bytes wires ≡ Refused Wires → applied d tables (circuitWords d) run bytes wires handed ≡ turnedBack run Wires
+    judged-back : judged d tables (circuitWords d) run bytes wires ≡ Refused Wires
+        → applied d tables (circuitWords d) run bytes wires handed ≡ turnedBack run Wires
     judged-back e = refused d tables (circuitWords d) run bytes wires handed Wires e
 
     -- not long enough: 10, whatever the tables are
@@ -205,7 +207,8 @@ module _ (d : Dimensions) (tables : Tables) (acc : Accepts d tables) (s : State)
     abbrev pub comes : Bool → List Repeat
     comes long = cond long (returned (d .n) stepped ∷ cond (closed stepped) [] (further (runOf (d .n) stepped))) (again run)
 
-    lent-is : (bytes wires : List ℕ) (handed : ℕ) → comesOf (attempted d tables run (Lent bytes wires handed)) again further ≡ comes (longEnough d (Lent bytes wires handed))
+    lent-is : (bytes wires : List ℕ) (handed : ℕ) → comesOf (attempted d tables run (Lent bytes wires handed)) again further
+        ≡ comes (longEnough d (Lent bytes wires handed))
     lent-is bytes wires handed =
         on (longEnough d (Lent bytes wires handed))
         (λ e. to (long-steps bytes wires handed e) ∙ ap comes (sym e))

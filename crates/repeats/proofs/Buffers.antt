@@ -1,5 +1,5 @@
 -- Buffers that are used again: the front that one repeat writes, the next one writes over, so only lengths and what stands behind the front matter.
--- From what packing and evaluation leave. Assumes nothing.
+-- From what packing and evaluation leave.
 use mathlib.Core.Path.{_≡_, refl, sym, ap, _∙_}
 use mathlib.Core.Bool.{Bool}
 use mathlib.Core.List.{List, _++_}
@@ -84,11 +84,13 @@ module _ (d : Dimensions) (tables : Tables) (bytes wires : List ℕ) (y : Ready 
   abbrev pub next : State
   next = step (d .n) (rowsOf d tables) (stateOf run)
 
-  pub applied-is : applied d tables (circuitWords d) run bytes wires (stateWires (d .n) + 1) ≡ record { outcome = Taken; run = runOf (d .n) next; mark = closed next }
+  pub applied-is : applied d tables (circuitWords d) run bytes wires
+      (stateWires (d .n) + 1) ≡ record { outcome = Taken; run = runOf (d .n) next; mark = closed next }
   applied-is = next-is d tables (y .accepts) run ok bytes wires (y .room) (y .space) (stateWires (d .n) + 1) (omega arith)
 
   pub next-fine : outcome (stateChecks d (runOf (d .n) next)) ≡ Taken
-  next-fine = fine d tables (y .accepts) next (step-well-formed (d .n) (rowsOf d tables) (stateOf run) (formed d tables (y .accepts) run ok bytes wires (y .room)))
+  next-fine = fine d tables (y .accepts) next
+      (step-well-formed (d .n) (rowsOf d tables) (stateOf run) (formed d tables (y .accepts) run ok bytes wires (y .room)))
 
 -- ---- other buffers in their place
 
@@ -107,5 +109,6 @@ module _ (d : Dimensions) (tables : Tables) (bytes wires bytes′ wires′ : Lis
     pub filled-same : wiresAfter d tables (circuitWords d) run bytes′ wires′ ≡ wiresAfter d tables (circuitWords d) run bytes wires
     filled-same =
         filled-is d tables bytes′ wires′ ready-same run ok
-        ∙ over-same (inputWires d + length (gatesOn d)) (bytesOf (values d tables bytes wires y run ok)) (values-length d tables bytes wires y run ok) wires′ wires w
+        ∙ over-same (inputWires d + length (gatesOn d)) (bytesOf (values d tables bytes wires y run ok))
+        (values-length d tables bytes wires y run ok) wires′ wires w
         ∙ sym (filled-is d tables bytes wires y run ok)

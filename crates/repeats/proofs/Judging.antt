@@ -1,5 +1,5 @@
--- What an application gives by what packing and evaluation say: each from the order of the checks. What was packed is bits, so only gates and room are left to judge.
--- Assumes nothing.
+-- What an application gives by what packing and evaluation say: each from the order of the checks. What was packed is bits, so only gates and room are left to
+-- judge.
 use mathlib.Core.Path.{_≡_, refl, sym, ap, ap₂, _∙_}
 use mathlib.Core.Bool.{Bool, true, not}
 use mathlib.Core.List.{List}
@@ -45,7 +45,8 @@ outputs-fit d tables a =
 module _ (d : Dimensions) (tables : Tables) (gates : List ℕ) (run : Run) (bytes wires : List ℕ) where
   -- ---- refused
 
-  pub refused : (handed : ℕ) (r : Refusal) → judged d tables gates run bytes wires ≡ Refused r → applied d tables gates run bytes wires handed ≡ turnedBack run r
+  pub refused : (handed : ℕ) (r : Refusal) → judged d tables gates run bytes wires ≡ Refused r
+      → applied d tables gates run bytes wires handed ≡ turnedBack run r
   unfolding applied
   refused handed r e = rw e
 
@@ -97,7 +98,8 @@ module _ (d : Dimensions) (tables : Tables) (gates : List ℕ) (run : Run) (byte
 pub record Taking (d : Dimensions) (tables : Tables) (gates : List ℕ) (run : Run) (bytes wires : List ℕ) (handed : ℕ) : Type 0 where
   pub packs : Passed d tables run (length bytes)
   pub room : inputWires d + length gates / 3 ≤ length wires
-  pub run-is : readBack (d .n) (take handed (outputsIn d gates (wiresAfter d tables gates run bytes wires))) .run ≡ applied d tables gates run bytes wires handed .run
+  pub run-is : readBack (d .n) (take handed (outputsIn d gates (wiresAfter d tables gates run bytes wires))) .run
+      ≡ applied d tables gates run bytes wires handed .run
 
 -- what is taken at the end was not refused on the way
 not-refused : (o : Outcome) (x : Applied) (run : Run) → given o x (turnedBack run) .outcome ≡ Taken → x .run ≡ given o x (turnedBack run) .run
@@ -116,7 +118,8 @@ module _ (d : Dimensions) (tables : Tables) (gates : List ℕ) (run : Run) (byte
   unfolding applied
   evaluated-next q = ap (λ (o : Outcome). given o (nextRun (d .n) run handed outputs) (turnedBack run)) q
 
-  wires-room : outcome (packChecks d tables run (length bytes)) ≡ Taken → judged d tables gates run bytes wires ≡ Taken → inputWires d + length gates / 3 ≤ length wires
+  wires-room : outcome (packChecks d tables run (length bytes)) ≡ Taken → judged d tables gates run bytes wires
+      ≡ Taken → inputWires d + length gates / 3 ≤ length wires
   wires-room p t =
       let i = inputs d tables run bytes in
       let few = ltb (length wires) (length i + length gates / 3) in
@@ -137,7 +140,8 @@ module _ (d : Dimensions) (tables : Tables) (gates : List ℕ) (run : Run) (byte
       }
 
 -- the part of the wires that is read
-module _ (d : Dimensions) (gates : List ℕ) (i k : ℕ) (p : i ≡ inputWires d) (q : k ≡ stateWires (d .n)) (fit : stateWires (d .n) + 4 ≤ inputWires d) (w : List ℕ) where
+module _ (d : Dimensions) (gates : List ℕ) (i k : ℕ) (p : i ≡ inputWires d) (q : k ≡ stateWires (d .n))
+    (fit : stateWires (d .n) + 4 ≤ inputWires d) (w : List ℕ) where
   pub outputs-part : take (i + length gates / 3 - (i + length gates / 3 - (k + 1))) (drop (i + length gates / 3 - (k + 1)) w) ≡ outputsIn d gates w
   outputs-part =
       let many : i + length gates / 3 - (i + length gates / 3 - (k + 1)) ≡ stateWires (d .n) + 1 = omega arith in
@@ -145,4 +149,5 @@ module _ (d : Dimensions) (gates : List ℕ) (i k : ℕ) (p : i ≡ inputWires d
 
 -- all outputs are handed to the read-back
 pub all-handed : (d : Dimensions) (gates w : List ℕ) → take (stateWires (d .n) + 1) (outputsIn d gates w) ≡ outputsIn d gates w
-all-handed d gates w = take-take (stateWires (d .n) + 1) (stateWires (d .n) + 1) (drop (inputWires d + length gates / 3 - (stateWires (d .n) + 1)) w) (omega arith)
+all-handed d gates w = take-take (stateWires (d .n) + 1) (stateWires (d .n) + 1)
+    (drop (inputWires d + length gates / 3 - (stateWires (d .n) + 1)) w) (omega arith)

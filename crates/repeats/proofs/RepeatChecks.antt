@@ -1,6 +1,5 @@
 -- What the checks of a call of `repeat` lead to, each by its condition, what a call that passes them may take for granted, and what the call gives then.
 -- From the order of the checks.
--- Assumes nothing.
 use mathlib.Core.Path.{_≡_, refl, sym, ap, _∙_}
 use mathlib.Core.Bool.{true, false, _||_}
 use mathlib.Core.List.{List, [], _∷_}
@@ -34,7 +33,8 @@ use Rattle.generator.specs.Generation.{generatorChecks, written}
 use Rattle.generator.proofs.Room.{wires-few}
 use Rattle.repeats.specs.declared.Repeated.{Repeated}
 use Rattle.repeats.specs.Repeats.{circuitWords}
-use Rattle.repeats.specs.Repeating.{repeatChecks, made, bytesLeft, wiresLeft, repeatedBy, refusedWith, allowed, repeated, gatesAfter, bytesAfter, wiresAfter}
+use Rattle.repeats.specs.Repeating.{repeatChecks, made, bytesLeft, wiresLeft, repeatedBy, refusedWith, allowed, repeated, gatesAfter, bytesAfter}
+use Rattle.repeats.specs.Repeating.{wiresAfter}
 
 -- all wires of the circuit: its inputs and its own gates
 pub all-wires : (d : Dimensions) → addressesOn d .wires ≡ inputWires d + length (gatesOn d)
@@ -111,7 +111,8 @@ unfolding circuitWords
 words-generated d tables gates e h =
     let k = 3 * (addressesOn d .wires - addressesOn d .inputs) in
     let generates : outcome (generatorChecks d gates) ≡ Taken =
-    outcome-taken (sizeChecks d) (check (ltb (length gates) (3 * ceiling d)) GateBuffer ∷ []) (sizes-taken d tables e) ∙ rw (le-ltb (length gates) (3 * ceiling d) h) in
+    outcome-taken (sizeChecks d) (check (ltb (length gates) (3 * ceiling d)) GateBuffer ∷ []) (sizes-taken d tables e)
+    ∙ rw (le-ltb (length gates) (3 * ceiling d) h) in
     ap (λ (o : Outcome). take k (given o (over (wordsOf (gatesOn d)) gates) (λ r. gates))) generates
     ∙ take-at (wordsOf (gatesOn d)) _ k (omega (arith, words-length (gatesOn d), all-wires d))
 
@@ -122,7 +123,8 @@ module _ (d : Dimensions) (tables : Tables) (times : ℕ) (gates bytes wires : L
   abbrev Meets : Repeated → List ℕ → List ℕ → List ℕ → Type 0
   Meets x g b w =
       (x ≡ repeated d tables times gates bytes wires run)
-      × ((g ≡ gatesAfter d tables times gates bytes wires run) × ((b ≡ bytesAfter d tables times gates bytes wires run) × (w ≡ wiresAfter d tables times gates bytes wires run)))
+      × ((g ≡ gatesAfter d tables times gates bytes wires run)
+      × ((b ≡ bytesAfter d tables times gates bytes wires run) × (w ≡ wiresAfter d tables times gates bytes wires run)))
 
   pub repeat-refused : (r : Refusal) → outcome (repeatChecks d tables (length gates) (length bytes) (length wires) run) ≡ Refused r
       → Meets (refusedWith run r) gates bytes wires

@@ -1,6 +1,5 @@
 -- The repeats of a call, one at a time: an open run's are one and those of the next run, a closed run's are none. The loop's invariant is that the repeats done
 -- and those of the present run are the call's. From what an attempt gives.
--- Assumes nothing.
 use mathlib.Core.Path.{_≡_, refl, sym, ap, ap₂, _∙_}
 use mathlib.Core.Bool.{Bool, true, false, cond, true≢false}
 use mathlib.Core.List.{List, [], _∷_, _++_, append-assoc, append-nil}
@@ -28,7 +27,8 @@ use Rattle.repeats.specs.declared.Repeated.{Repeated}
 use Rattle.repeats.specs.Application.{Applied, wiresAfter, applied}
 use Rattle.repeats.specs.Repeats.{Repeat, returned, circuitWords, lastRun, comesOf, repeats}
 use Rattle.repeats.specs.Repeating.{whole, made, runBefore, bytesLeft, wiresLeft, repeatedBy}
-use Rattle.repeats.proofs.Buffers.{Agree, agree-refl, Ready, packed-agrees, filled-agrees, next, applied-is, next-fine, ready-same, packed-same, filled-same}
+use Rattle.repeats.proofs.Buffers.{Agree, agree-refl, Ready, packed-agrees, filled-agrees, next, applied-is, next-fine, ready-same, packed-same}
+use Rattle.repeats.proofs.Buffers.{filled-same}
 
 -- ---- one repeat more behind others
 
@@ -51,7 +51,8 @@ module _ (d : Dimensions) (tables : Tables) (bytes wires : List ℕ) (run : Run)
   wires-more : wiresLeft d tables bytes wires run (h ++ (r ∷ [])) ≡ wiresAfter d tables (circuitWords d) (lastRun run h) bytes wires
   wires-more = go h ∙ ap (λ (x : Run). wiresAfter d tables (circuitWords d) x bytes wires) (before-more run h r)
     where
-      go : (l : List Repeat) → wiresLeft d tables bytes wires run (l ++ (r ∷ [])) ≡ wiresAfter d tables (circuitWords d) (runBefore run (l ++ (r ∷ []))) bytes wires
+      go : (l : List Repeat) → wiresLeft d tables bytes wires run (l ++ (r ∷ [])) ≡ wiresAfter d tables (circuitWords d)
+          (runBefore run (l ++ (r ∷ []))) bytes wires
       go [] = refl
       go (q ∷ l) = refl
 
@@ -114,7 +115,8 @@ module _ (d : Dimensions) (tables : Tables) (bytes wires bytes′ wires′ : Lis
 -- ---- the loop
 
 -- what the loop knows of run, number, bytes and wires, where it began with others
-pub record Repeating (d : Dimensions) (tables : Tables) (times : ℕ) (bytes₀ wires₀ : List ℕ) (run₀ : Run) (bytes wires : List ℕ) (run : Run) (count : ℕ) : Type 0 where
+pub record Repeating (d : Dimensions) (tables : Tables) (times : ℕ) (bytes₀ wires₀ : List ℕ) (run₀ : Run) (bytes wires : List ℕ)
+    (run : Run) (count : ℕ) : Type 0 where
   -- the repeats done
   pub done : List Repeat
   pub count-is : length done ≡ count

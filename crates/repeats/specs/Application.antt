@@ -1,4 +1,5 @@
--- One application of a circuit to a run: document 01, "Circuit". Turned back by packing, 1, 2, 4, 3, 10, 12, 13, by evaluation, 9, 10, or by reading back, 10, 12.
+-- One application of a circuit to a run: document 01, "Circuit". Turned back by packing, 1, 2, 4, 3, 10, 12, 13, by evaluation, 9, 10, or
+-- by reading back, 10, 12.
 use Prim.Native.Nat.{ℕ}
 use mathlib.Core.Bool.{Bool, false}
 use mathlib.Core.List.{List, _++_}
@@ -27,7 +28,8 @@ pub record Applied : Type 0 where
 abbrev pub turnedBack : Run → Refusal → Applied
 turnedBack run r = record { outcome = Refused r; run = run; mark = false }
 
--- the next run from those of a circuit's output wires that are handed to the read-back, from the first on, and its mark, the closing wire behind the state's
+-- the next run from those of a circuit's output wires that are handed to the read-back, from the first on, and its mark, the closing wire
+-- behind the state's
 unfoldable pub nextRun : ℕ → Run → ℕ → List ℕ → Applied
 nextRun n run handed outputs =
     let read = readBack n (take handed outputs) in

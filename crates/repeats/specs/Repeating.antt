@@ -1,4 +1,5 @@
--- The circuit of some dimensions, generated and then repeated on a run: document 01, "Circuit". All that turns a call back is judged before anything is written:
+-- The circuit of some dimensions, generated and then repeated on a run: document 01, "Circuit". All that turns a call back is judged before
+-- anything is written:
 -- 1, 2, 4, 3, 7, 10, 12, 13.
 use Prim.Native.Nat.{ℕ, _+_, _*_, _-_}
 use mathlib.Core.Bool.{false, _||_}

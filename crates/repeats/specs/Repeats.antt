@@ -1,4 +1,5 @@
--- The repeats of a circuit over three tables: document 01, "Circuit", second paragraph; each reads the rows as they stand when it begins (document 02, Req 06).
+-- The repeats of a circuit over three tables: document 01, "Circuit", second paragraph; each reads the rows as they stand when it begins
+-- (document 02, Req 06).
 use Prim.Native.Nat.{ℕ, zero, suc, _+_}
 use mathlib.Core.Path.{_≡_}
 use mathlib.Core.Bool.{Bool, false, _||_, _&&_, cond}
@@ -28,7 +29,8 @@ circuitWords d = wordsOf (gatesOn d)
 abbrev pub Accepts : Dimensions → Tables → Type 0
 Accepts d tables = outcome (tableChecks d tables) ≡ Taken
 
--- an attempt to apply the circuit: with the buffers that the host lends and so many of the output wires handed to the read-back, or turned back for any other cause
+-- an attempt to apply the circuit: with the buffers that the host lends and so many of the output wires handed to the read-back, or turned
+-- back for any other cause
 pub data Attempt : Type 0 where
   Lent : (bytes wires : List ℕ) (handed : ℕ) → Attempt
   Otherwise : (cause : Refusal) → Attempt
@@ -56,7 +58,8 @@ unfoldable pub lastRun : Run → List Repeat → Run
 lastRun run [] = run
 lastRun run (r ∷ later) = lastRun (r .run) later
 
--- what comes of an attempt, where later ones go on from a run, as they would have without it or one repeat further: turned back, it is no repeat and has no mark;
+-- what comes of an attempt, where later ones go on from a run, as they would have without it or one repeat further: turned back, it is no
+-- repeat and has no mark;
 -- the first mark that is 1 is the last
 abbrev pub comesOf : Applied → (Run → List Repeat) → (Run → List Repeat) → List Repeat
 comesOf r again further =

@@ -43,7 +43,8 @@ fn check(
     wires: usize,
     run: Run,
 ) -> Outcome
-    ensures { λ r. ⌜ r ≡ outcome (repeatChecks d (allTables (now (left .entry)) (now (right .entry)) (now (public .entry))) gates bytes wires run) ⌝ }
+    ensures { λ r.
+        ⌜ r ≡ outcome (repeatChecks d (allTables (now (left .entry)) (now (right .entry)) (now (public .entry))) gates bytes wires run) ⌝ }
 {
     match tables::accept(d, left, right, public) {
         Outcome::Taken => {}
@@ -70,10 +71,17 @@ fn apply(
     wires: &mut [u8],
     run: Run,
 ) -> Run
-    requires { ⌜ applied d (allTables (now left) (now right) (now public)) (now gates) run (now bytes) (now wires) (stateWires (d .n) + 1) .outcome ≡ Taken ⌝ }
-    ensures { λ r. ⌜ r ≡ applied d (allTables (now (left .entry)) (now (right .entry)) (now (public .entry))) (now (gates .entry)) run (now (bytes .entry)) (now (wires .entry)) (stateWires (d .n) + 1) .run ⌝ }
-    ensures { λ _. ⌜ now (bytes .exit) ≡ packed d (allTables (now (left .entry)) (now (right .entry)) (now (public .entry))) run (now (bytes .entry)) ⌝ }
-    ensures { λ _. ⌜ now (wires .exit) ≡ Application.wiresAfter d (allTables (now (left .entry)) (now (right .entry)) (now (public .entry))) (now (gates .entry)) run (now (bytes .entry)) (now (wires .entry)) ⌝ }
+    requires { ⌜ applied d (allTables (now left) (now right) (now public)) (now gates) run (now bytes) (now wires)
+        (stateWires (d .n) + 1) .outcome ≡ Taken ⌝ }
+    ensures { λ r.
+        ⌜ r ≡ applied d (allTables (now (left .entry)) (now (right .entry)) (now (public .entry))) (now (gates .entry)) run
+        (now (bytes .entry)) (now (wires .entry)) (stateWires (d .n) + 1) .run ⌝ }
+    ensures { λ _.
+        ⌜ now (bytes .exit) ≡ packed d (allTables (now (left .entry)) (now (right .entry)) (now (public .entry)))
+        run (now (bytes .entry)) ⌝ }
+    ensures { λ _.
+        ⌜ now (wires .exit) ≡ Application.wiresAfter d (allTables (now (left .entry)) (now (right .entry)) (now (public .entry)))
+        (now (gates .entry)) run (now (bytes .entry)) (now (wires .entry)) ⌝ }
 {
     let inputs = d.input_wires();
     wires::pack(d, left, right, public, run, bytes);
@@ -112,9 +120,17 @@ fn repeat_circuit(
     requires { ⌜ outcome (tableChecks d (allTables (now left) (now right) (now public))) ≡ Taken ⌝ }
     requires { ⌜ (inputWires d ≤ length (now bytes)) × (inputWires d + length (gatesOn d) ≤ length (now wires)) ⌝ }
     requires { ⌜ outcome (stateChecks d run) ≡ Taken ⌝ }
-    ensures { λ r. ⌜ r ≡ repeatedBy run (made d (allTables (now (left .entry)) (now (right .entry)) (now (public .entry))) times (now (bytes .entry)) (now (wires .entry)) run) ⌝ }
-    ensures { λ _. ⌜ now (bytes .exit) ≡ bytesLeft d (allTables (now (left .entry)) (now (right .entry)) (now (public .entry))) (now (bytes .entry)) run (made d (allTables (now (left .entry)) (now (right .entry)) (now (public .entry))) times (now (bytes .entry)) (now (wires .entry)) run) ⌝ }
-    ensures { λ _. ⌜ now (wires .exit) ≡ wiresLeft d (allTables (now (left .entry)) (now (right .entry)) (now (public .entry))) (now (bytes .entry)) (now (wires .entry)) run (made d (allTables (now (left .entry)) (now (right .entry)) (now (public .entry))) times (now (bytes .entry)) (now (wires .entry)) run) ⌝ }
+    ensures { λ r.
+        ⌜ r ≡ repeatedBy run (made d (allTables (now (left .entry)) (now (right .entry)) (now (public .entry))) times (now (bytes .entry))
+        (now (wires .entry)) run) ⌝ }
+    ensures { λ _.
+        ⌜ now (bytes .exit) ≡ bytesLeft d (allTables (now (left .entry)) (now (right .entry)) (now (public .entry)))
+        (now (bytes .entry)) run (made d (allTables (now (left .entry)) (now (right .entry)) (now (public .entry))) times
+        (now (bytes .entry)) (now (wires .entry)) run) ⌝ }
+    ensures { λ _.
+        ⌜ now (wires .exit) ≡ wiresLeft d (allTables (now (left .entry)) (now (right .entry)) (now (public .entry))) (now (bytes .entry))
+        (now (wires .entry)) run (made d (allTables (now (left .entry)) (now (right .entry)) (now (public .entry))) times
+        (now (bytes .entry)) (now (wires .entry)) run) ⌝ }
 {
     let mut last = run;
     let mut repeats = 0;
@@ -143,10 +159,18 @@ pub fn repeat(
     wires: &mut [u8],
     run: Run,
 ) -> Repeated
-    ensures { λ r. ⌜ r ≡ repeated d (allTables (now (left .entry)) (now (right .entry)) (now (public .entry))) times (now (gates .entry)) (now (bytes .entry)) (now (wires .entry)) run ⌝ }
-    ensures { λ _. ⌜ now (gates .exit) ≡ gatesAfter d (allTables (now (left .entry)) (now (right .entry)) (now (public .entry))) times (now (gates .entry)) (now (bytes .entry)) (now (wires .entry)) run ⌝ }
-    ensures { λ _. ⌜ now (bytes .exit) ≡ bytesAfter d (allTables (now (left .entry)) (now (right .entry)) (now (public .entry))) times (now (gates .entry)) (now (bytes .entry)) (now (wires .entry)) run ⌝ }
-    ensures { λ _. ⌜ now (wires .exit) ≡ Repeating.wiresAfter d (allTables (now (left .entry)) (now (right .entry)) (now (public .entry))) times (now (gates .entry)) (now (bytes .entry)) (now (wires .entry)) run ⌝ }
+    ensures { λ r.
+        ⌜ r ≡ repeated d (allTables (now (left .entry)) (now (right .entry)) (now (public .entry))) times (now (gates .entry))
+        (now (bytes .entry)) (now (wires .entry)) run ⌝ }
+    ensures { λ _.
+        ⌜ now (gates .exit) ≡ gatesAfter d (allTables (now (left .entry)) (now (right .entry)) (now (public .entry))) times
+        (now (gates .entry)) (now (bytes .entry)) (now (wires .entry)) run ⌝ }
+    ensures { λ _.
+        ⌜ now (bytes .exit) ≡ bytesAfter d (allTables (now (left .entry)) (now (right .entry)) (now (public .entry))) times
+        (now (gates .entry)) (now (bytes .entry)) (now (wires .entry)) run ⌝ }
+    ensures { λ _.
+        ⌜ now (wires .exit) ≡ Repeating.wiresAfter d (allTables (now (left .entry)) (now (right .entry)) (now (public .entry))) times
+        (now (gates .entry)) (now (bytes .entry)) (now (wires .entry)) run ⌝ }
 {
     let lent = gates.len();
     match check(d, left, right, public, lent, bytes.len(), wires.len(), run) {

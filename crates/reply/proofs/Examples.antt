@@ -1,5 +1,4 @@
 -- Document 01's example, a public rule and the order of refusals, from bytes to bytes. By computation.
--- Assumes nothing.
 use mathlib.Core.Path.{_≡_, refl}
 use mathlib.Core.List.{List}
 use Prim.Native.Nat.{ℕ}
@@ -23,7 +22,8 @@ use Rattle.answers.specs.Printed.{literals, answerText, refusalText}
 use Rattle.reply.specs.Reply.{replyText}
 
 printed : String → String → String → String → List ℕ
-unfolding replyText solved answerOf tableOf withoutRemarks linesOf kept headerOf pastRemarks partsFrom cut filled trimmed same clauses numberOf decimalOf digitsAfter run fieldOf put bit any count lowest padding satisfied freeLiterals allBelow literals answerText refusalText decimal
+unfolding replyText solved answerOf tableOf withoutRemarks linesOf kept headerOf pastRemarks partsFrom cut filled trimmed same clauses numberOf decimalOf
+    digitsAfter run fieldOf put bit any count lowest padding satisfied freeLiterals allBelow literals answerText refusalText decimal
 printed left right public line = replyText (bytes left) (bytes right) (bytes public) (bytes line)
 
 -- no public rest rules

@@ -1,6 +1,5 @@
 -- What is printed gives the reply back: two replies of the same n that print the same bytes are the same. A count is at most its budget,
 -- which has 64 bits, and a model's variables are below n, so that the printed text loses nothing.
--- Assumes nothing.
 use mathlib.Core.Path.{_≡_, refl, sym, ap, _∙_, subst}
 use mathlib.Core.List.{List}
 use Prim.Native.Nat.{ℕ}

@@ -1,4 +1,5 @@
-// The pair program's one function: two stations' texts, that of the public rest rules and the line of standard input go in, what is printed comes out.
+// The pair program's one function: two stations' texts, that of the public rest rules and the line of standard input go in, what is printed
+// comes out.
 use dimacs::TextTables;
 use dimensions::Dimensions;
 use lines::Budget;

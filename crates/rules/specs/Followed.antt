@@ -1,4 +1,5 @@
--- What a rule makes of a run, field by field: how the code goes. That of a well-formed run this is the run of the state after the rule is a law of `solver`.
+-- What a rule makes of a run, field by field: how the code goes. That of a well-formed run this is the run of the state after the rule is a
+-- law of `solver`.
 use Prim.Native.Nat.{ℕ, _+_, _-_}
 use mathlib.Core.Bool.{true, false, cond}
 use lib.Dec.{eqb, ltb, leb}
@@ -22,7 +23,14 @@ keeping run standing t f = record { n = run .n; standing = standing; t = t; f = 
 
 -- the level at d removed: its T and F are restored, and its variable goes to F
 abbrev pub removed : Run → ℕ → Level → Run
-removed run d l = record { n = run .n; standing = Open; t = l .t; f = putIn (l .f) (l .chosen); depth = d; levels = set (run .levels) d none }
+removed run d l = record {
+  n = run .n;
+  standing = Open;
+  t = l .t;
+  f = putIn (l .f) (l .chosen);
+  depth = d;
+  levels = set (run .levels) d none;
+}
 
 -- T and F stored as a level, and the variable goes to T
 abbrev pub stored : Run → ℕ → Run

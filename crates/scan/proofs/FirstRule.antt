@@ -1,5 +1,4 @@
 -- The rule that applies has the number of the first that applies: by the definition's tests in order.
--- Assumes nothing.
 use mathlib.Core.Path.{_≡_, ap, _∙_}
 use mathlib.Core.Bool.{cond}
 use mathlib.Core.List.{List}

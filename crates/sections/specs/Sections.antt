@@ -65,7 +65,8 @@ module _ (a : Addresses) where
   -- whether a row has some free literal and whether it has many, a chain likewise
   abbrev pub counts : Section
   counts =
-      inLines (a .counts) 2 13 6 (a .m) (a .n) (three (a .literals + 10) (a .counts) (a .counts + 1)) (three row counted counted) (three 12 6 6)
+      inLines (a .counts) 2 13 6 (a .m) (a .n)
+      (three (a .literals + 10) (a .counts) (a .counts + 1)) (three row counted counted) (three 12 6 6)
 
   -- each row's rank
   abbrev pub ranks : Section
@@ -186,7 +187,8 @@ module _ (a : Addresses) where
 
   -- ---- what changes in levels, T and F, and depth
 
-  -- one of a level's three sets of wires, from wire x at level 0; what is pushed stands from u, s apart; a chain along the levels for each variable
+  -- one of a level's three sets of wires, from wire x at level 0; what is pushed stands from u, s apart; a chain along the levels for each
+  -- variable
   abbrev pub levels : ℕ → ℕ → ℕ → ℕ → Section
   levels b x u s =
       inLines b 1 73 3 (a .n) (a .n) (four (a .selects + 3) x u b) (four 0 1 s (1 + 3 * a .n)) (four 3 (3 * a .n) 0 3)
@@ -234,7 +236,8 @@ module _ (a : Addresses) where
   -- level l
   abbrev pub nextLevel : ℕ → Section
   nextLevel l =
-      inLines (a .outputs + 3 * a .n + 1 + 3 * a .n * l) 0 0 1 3 (a .n) (two (a .state + 3 * a .n + 1 + 3 * a .n * l) (a .levels + 2 + 3 * l))
+      inLines (a .outputs + 3 * a .n + 1 + 3 * a .n * l) 0 0 1 3 (a .n)
+      (two (a .state + 3 * a .n + 1 + 3 * a .n * l) (a .levels + 2 + 3 * l))
       (two (a .n) (a .block)) (two 1 (1 + 3 * a .n))
 
   -- the standing, and the closing wire
@@ -265,7 +268,8 @@ module _ (a : Addresses) where
       ++ (five keyDigit
       ++ ((keyLow ∷ keyHigh ∷ bye ∷ pairs ∷ nodes ∷ greatest ∷ rule ∷ root ∷ [])
       ++ (five split
-      ++ (targets ∷ guards ∷ selectLine ∷ selectEnd ∷ levelsT ∷ levelsF ∷ levelsV ∷ assignT ∷ assignF ∷ depths ∷ nextAssignment ∷ nextDepth ∷ []))))))
+      ++ (targets ∷ guards ∷ selectLine ∷ selectEnd ∷ levelsT ∷ levelsF ∷ levelsV ∷ assignT ∷ assignF ∷ depths
+      ∷ nextAssignment ∷ nextDepth ∷ []))))))
 
   -- section k
   abbrev pub sectionAt : ℕ → Section

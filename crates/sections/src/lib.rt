@@ -1,4 +1,5 @@
-// The numbers of the circuit's sections: where each begins, how many cells it has, and to which wires the slots of its cells go. `netlist` says which gates these are.
+// The numbers of the circuit's sections: where each begins, how many cells it has, and to which wires the slots of its cells go. `netlist`
+// says which gates these are.
 mod changing;
 mod choosing;
 mod digits;
@@ -15,8 +16,10 @@ ghost use lib.ListN.{getD};
 ghost use Rattle.sections.specs.Addressing.{readingOf, actingOf, addressesOf, addressesOn, Small};
 ghost use Rattle.sections.specs.Sections as Sections;
 
-// Where the state, its standing and each section begin, for n variables and m rows, and how many wires there are. A variable's number has b digits.
-// The tree has `pairs` lines of two rows and `nodes` lines of two lines, the first of which is line `skip`. A block is all cells of one of a level's three
+// Where the state, its standing and each section begin, for n variables and m rows, and how many wires there are. A variable's number has b
+// digits.
+// The tree has `pairs` lines of two rows and `nodes` lines of two lines, the first of which is line `skip`. A block is all cells of one of
+// a level's three
 // sets of wires.
 pub struct Addresses {
     pub n: u32,

@@ -1,5 +1,5 @@
--- The rule that the scan finds in the fronts of accepted buffers is the rule of the tables: a front holds the table's rows, and accepted rows are judged alike at 32 and at n variables.
--- Assumes nothing.
+-- The rule that the scan finds in the fronts of accepted buffers is the rule of the tables: a front holds the table's rows, and accepted rows are judged alike
+-- at 32 and at n variables.
 use mathlib.Core.Path.{_≡_, refl, ap, ap₂, _∙_}
 use mathlib.Core.List.{List, _∷_, _++_}
 use Prim.Native.Nat.{ℕ, zero, suc, _+_, _*_, _/_, _≤_}

@@ -1,5 +1,4 @@
 -- The budgeted run a step at a time: what is left of the budget from the present state gives what the whole gives from the fresh one.
--- Assumes nothing.
 use mathlib.Core.Path.{_≡_, refl, sym, ap, ap₂, _∙_}
 use mathlib.Core.Bool.{Bool, true, false, true≢false}
 use mathlib.Core.List.{List}
@@ -55,7 +54,8 @@ module _ (n : ℕ) (rows : List Row) where
     where
       go : (st : Standing) (t f : ℕ) (ls : List Level)
           → runFrom n (always rows) (suc k) (record { standing = st; t = t; f = f; levels = ls })
-          ≡ ifOpen st (more 1 (runFrom n (always rows) k (step n rows (record { standing = st; t = t; f = f; levels = ls })))) (record { steps = 0; final = record { standing = st; t = t; f = f; levels = ls } })
+          ≡ ifOpen st (more 1 (runFrom n (always rows) k (step n rows (record { standing = st; t = t; f = f; levels = ls }))))
+          (record { steps = 0; final = record { standing = st; t = t; f = f; levels = ls } })
       go Open t f ls =
           let r = runFrom n (always rows) k (step n rows (record { standing = Open; t = t; f = f; levels = ls })) in
           let e : suc (r .steps) ≡ 1 + r .steps = omega arith in
@@ -73,7 +73,8 @@ module _ (n : ℕ) (rows : List Row) where
   stops zero s h = refl
   stops (suc k) s h = unfold-run k s ∙ go (s .standing) (ap (λ (b : Bool). ifOpen (s .standing) b false) (sym (lt-ltb 0 (suc k) (omega arith))) ∙ h)
     where
-      go : (st : Standing) → ifOpen st true false ≡ false → ifOpen st (more 1 (runFrom n (always rows) k (step n rows s))) (record { steps = 0; final = s }) ≡ record { steps = 0; final = s }
+      go : (st : Standing) → ifOpen st true false ≡ false → ifOpen st (more 1 (runFrom n (always rows) k (step n rows s))) (record { steps = 0; final = s })
+          ≡ record { steps = 0; final = s }
       go Open e = absurd (true≢false e)
       go Satisfied e = refl
       go Refuted e = refl
@@ -99,14 +100,16 @@ module _ (n : ℕ) (rows : List Row) (budget : ℕ) where
         within = omega arith;
         same = variables-of n fresh run e;
         formed = ap (λ (r : Run). wellFormed r) e ∙ run-of-formed n fresh a b (fresh-well-formed n);
-        left = more-none (runFrom n (always rows) budget fresh) ∙ ap₂ (λ (x : ℕ) (s : State). more 0 (runFrom n (always rows) x s)) k (sym (state-of n fresh run e));
+        left = more-none (runFrom n (always rows) budget fresh) ∙ ap₂ (λ (x : ℕ) (s : State). more 0 (runFrom n (always rows) x s)) k
+            (sym (state-of n fresh run e));
       }
 
   module _ (run : Run) (count : ℕ) (o : Running n rows budget run count) where
     pub running-less : ifOpen (run .standing) (ltb count budget) false ≡ true → count < budget
     running-less h = ltb-true count budget (open-e (run .standing) (ltb count budget) h .1)
 
-    pub running-on : ifOpen (run .standing) (ltb count budget) false ≡ true → (next : Run) → next ≡ runOf n (step n rows (stateOf run)) → Running n rows budget next (count + 1)
+    pub running-on : ifOpen (run .standing) (ltb count budget) false ≡ true → (next : Run) → next ≡ runOf n (step n rows (stateOf run))
+        → Running n rows budget next (count + 1)
     running-on h next e =
         let p = open-e (run .standing) (ltb count budget) h in
         let b = ltb-true count budget (p .1) in
@@ -115,7 +118,8 @@ module _ (n : ℕ) (rows : List Row) (budget : ℕ) where
           same = variables-of n (step n rows (stateOf run)) next e;
           formed = ap (λ (r : Run). wellFormed r) e ∙ step-formed-run n rows run (o .same) (o .formed);
           left = o .left
-              ∙ ap (λ (r : Ran). more count r) (ap (λ (x : ℕ). runFrom n (always rows) x (stateOf run)) k ∙ goes n rows (budget - (count + 1)) (stateOf run) (p .0))
+              ∙ ap (λ (r : Ran). more count r) (ap (λ (x : ℕ). runFrom n (always rows) x (stateOf run)) k
+              ∙ goes n rows (budget - (count + 1)) (stateOf run) (p .0))
               ∙ more-more count 1 (runFrom n (always rows) (budget - (count + 1)) (step n rows (stateOf run)))
               ∙ ap (λ (s : State). more (count + 1) (runFrom n (always rows) (budget - (count + 1)) s)) (sym (state-of n (step n rows (stateOf run)) next e));
         }
@@ -127,4 +131,5 @@ module _ (n : ℕ) (rows : List Row) (budget : ℕ) where
         let z : count ≡ count + 0 = omega arith in
         ap₂ (λ (x : ℕ) (y : Verdict). record { count = x; verdict = y }) z e
         ∙ sym (ap (λ (r : Ran). record { count = r .steps; verdict = verdictOf (r .final .standing) (r .final .t) })
-        (o .left ∙ ap (λ (r : Ran). more count r) (stops n rows (budget - count) (stateOf run) (ap (λ (b : Bool). ifOpen (run .standing) b false) (left-over count budget) ∙ h))))
+        (o .left ∙ ap (λ (r : Ran). more count r)
+        (stops n rows (budget - count) (stateOf run) (ap (λ (b : Bool). ifOpen (run .standing) b false) (left-over count budget) ∙ h))))

@@ -1,5 +1,4 @@
 -- What the entries give: each computes from the outcome of its checks, which decide in order.
--- Assumes nothing.
 use mathlib.Core.Path.{_≡_, refl, sym, ap, ap₂, _∙_}
 use mathlib.Core.Bool.{true, not}
 use mathlib.Core.List.{List, _∷_, _++_}
@@ -64,22 +63,26 @@ module _ (d : Dimensions) (tables : Tables) (run : Run) where
       → _≡_ {A = Stepped} (record { outcome = o; run = r }) (stepped d tables run)
   unfolding stepped
   step-taken o e t r q = ap₂ (λ (x : Outcome) (y : Run). record { outcome = x; run = y }) t q
-      ∙ ap (λ (x : Outcome). given x (record { outcome = Taken; run = runOf (d .n) (step (d .n) (rowsOf d tables) (stateOf run)) }) (λ y. record { outcome = Refused y; run = run })) (sym t ∙ e)
+      ∙ ap (λ (x : Outcome). given x (record { outcome = Taken; run = runOf (d .n) (step (d .n) (rowsOf d tables) (stateOf run)) })
+      (λ y. record { outcome = Refused y; run = run })) (sym t ∙ e)
 
   pub step-refused : (o : Outcome) → o ≡ outcome (tableChecks d tables ++ stateChecks d run) → (r : Refusal) → o ≡ Refused r
       → _≡_ {A = Stepped} (record { outcome = o; run = run }) (stepped d tables run)
   unfolding stepped
   step-refused o e r t = ap (λ (x : Outcome). record { outcome = x; run = run }) t
-      ∙ ap (λ (x : Outcome). given x (record { outcome = Taken; run = runOf (d .n) (step (d .n) (rowsOf d tables) (stateOf run)) }) (λ y. record { outcome = Refused y; run = run })) (sym t ∙ e)
+      ∙ ap (λ (x : Outcome). given x (record { outcome = Taken; run = runOf (d .n) (step (d .n) (rowsOf d tables) (stateOf run)) })
+      (λ y. record { outcome = Refused y; run = run })) (sym t ∙ e)
 
 -- ---- the budgeted run's entry
 
 module _ (d : Dimensions) (tables : Tables) (budget : ℕ) where
-  solve-as : (o : Outcome) → o ≡ outcome (tableChecks d tables) → given o (solved′.Of (answerOf (d .n) (always (rowsOf d tables)) budget)) solved′.Refused ≡ solved d tables budget
+  solve-as : (o : Outcome) → o ≡ outcome (tableChecks d tables) → given o (solved′.Of (answerOf (d .n) (always (rowsOf d tables)) budget))
+      solved′.Refused ≡ solved d tables budget
   unfolding solved
   solve-as o e = ap (λ (x : Outcome). given x (solved′.Of (answerOf (d .n) (always (rowsOf d tables)) budget)) solved′.Refused) e
 
-  pub solve-taken : Taken ≡ outcome (tableChecks d tables) → (a : Answer) → a ≡ answerOf (d .n) (always (rowsOf d tables)) budget → solved′.Of a ≡ solved d tables budget
+  pub solve-taken : Taken ≡ outcome (tableChecks d tables) → (a : Answer) → a ≡ answerOf (d .n) (always (rowsOf d tables)) budget
+      → solved′.Of a ≡ solved d tables budget
   solve-taken e a q = ap solved′.Of q ∙ solve-as Taken e
 
   pub solve-refused : (r : Refusal) → Refused r ≡ outcome (tableChecks d tables) → solved′.Refused r ≡ solved d tables budget
@@ -91,5 +94,8 @@ module _ (d : Dimensions) (tables : Tables) (budget : ℕ) where
       × (solvedCode r ∷ solvedNumbers r ≡ said (outcome (tableChecks d tables)) (answerNumbers (answerOf (d .n) (always (rowsOf d tables)) budget)))
   unfolding solved
   with-said r e =
-      let says : Solved → List ℕ = λ x. solvedCode x ∷ solvedNumbers x in
-      (e, ap says e ∙ given-said says (outcome (tableChecks d tables)) (solved′.Of (answerOf (d .n) (always (rowsOf d tables)) budget)) solved′.Refused _ refl (λ q. refl))
+      let says : Solved → List ℕ = λ x. solvedCode x ∷ solvedNumbers x in (
+        e,
+        ap says e ∙ given-said says (outcome (tableChecks d tables)) (solved′.Of (answerOf (d .n) (always (rowsOf d tables)) budget))
+            solved′.Refused _ refl (λ q. refl),
+      )

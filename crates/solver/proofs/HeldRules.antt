@@ -1,5 +1,4 @@
 -- What `rules::follow` returns is the run that holds the definition's next state: its levels are kept, one more is stored, or the last is zeroed.
--- Assumes nothing.
 use mathlib.Core.Path.{_≡_, refl, sym, ap, ap₂, _∙_}
 use mathlib.Core.Bool.{Bool, true, false, cond}
 use mathlib.Core.List.{List, _∷_}

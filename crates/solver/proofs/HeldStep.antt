@@ -1,5 +1,4 @@
 -- The step of a run is the run of its state's step: `rules::follow` gives it of an open run, and a closed one stays.
--- Assumes nothing.
 use mathlib.Core.Path.{_≡_, sym, ap, ap₂, _∙_}
 use mathlib.Core.Bool.{true}
 use mathlib.Core.List.{List}

@@ -1,5 +1,4 @@
 -- Accepted tables have rows whose words are below 2 ^ n: acceptance says so of each word, and a row has two.
--- Assumes nothing.
 use mathlib.Core.Path.{_≡_, refl}
 use mathlib.Core.Bool.{Bool, true, _&&_}
 use mathlib.Core.List.{List, _++_}

@@ -1,5 +1,4 @@
 -- What holds where each rule of the giant step applies. The tests of `rule` are gone through in its order.
--- Assumes nothing.
 use mathlib.Core.Path.{_≡_, refl, sym, ap, _∙_}
 use mathlib.Core.Bool.{Bool, true, false, not, _&&_, true≢false}
 use mathlib.Core.List.{List}

@@ -1,5 +1,4 @@
 -- The budgeted run against the states after k steps: what it counts and where it ends. By induction on the steps.
--- Assumes nothing.
 use mathlib.Core.Path.{_≡_, refl, ap}
 use mathlib.Core.List.{List}
 use Prim.Native.Nat.{ℕ, zero, suc, _≤_, _<_, zero-le, suc-le-suc}

@@ -1,5 +1,5 @@
--- What setting a free variable keeps and lowers: T and F stay disjoint and below n, levels stay linked, and fewer variables are free. Each by the variable set and the others.
--- Assumes nothing.
+-- What setting a free variable keeps and lowers: T and F stay disjoint and below n, levels stay linked, and fewer variables are free. Each by the variable set
+-- and the others.
 use mathlib.Core.Path.{_≡_, refl}
 use mathlib.Core.Bool.{Bool, true, false, not, _&&_, or-false, or-true, and-false}
 use mathlib.Core.List.{List, [], _∷_}
@@ -40,7 +40,8 @@ module _ (p : ℕ → Bool) (n t f : ℕ) where
   free-le = count-mono (λ i. p i && free t f i) p n (λ i b. and-l (p i) _)
 
   -- more is set, v too, so fewer are free
-  pub free-less : (t′ f′ v : ℕ) → v < n → p v ≡ true → free t f v ≡ true → free t′ f′ v ≡ false → Within n t t′ → Within n f f′ → freeAmong p n t′ f′ < freeAmong p n t f
+  pub free-less : (t′ f′ v : ℕ) → v < n → p v ≡ true → free t f v ≡ true → free t′ f′ v ≡ false → Within n t t′ → Within n f f′
+      → freeAmong p n t′ f′ < freeAmong p n t f
   unfolding freeAmong
   free-less t′ f′ v b hp h k ht hf =
       count-lt (λ i. p i && free t′ f′ i) (λ i. p i && free t f i) n v b (rw hp k) (and-i hp h)

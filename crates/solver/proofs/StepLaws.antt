@@ -1,5 +1,4 @@
 -- A step keeps a state well-formed, and so does any number of steps; at depth n no variable is chosen. By cases on the rule.
--- Assumes nothing.
 use mathlib.Core.Path.{_≡_, refl}
 use mathlib.Core.Bool.{Bool, true, false}
 use mathlib.Core.List.{List, [], _∷_}
@@ -62,7 +61,8 @@ module _ (n : ℕ) (rows : List Row) where
       let w = chain-head n l (s .t) (s .f) ls c in record {
         own = sets-f n (l .t) (l .f) (l .chosen) (w .low) (w .was-free) (w .own);
         few = omega arith;
-        linked = chain-mono n (l .t) (l .f) (l .t) (put (l .f) (l .chosen)) ls (λ i b e. e) (λ i b. put-keeps (l .f) (l .chosen) i) (chain-tail n l (s .t) (s .f) ls c);
+        linked = chain-mono n (l .t) (l .f) (l .t) (put (l .f) (l .chosen)) ls (λ i b e. e) (λ i b. put-keeps (l .f) (l .chosen) i)
+            (chain-tail n l (s .t) (s .f) ls c);
       }
 
   assign-formed : (s : State) (v : ℕ) (positive : Bool) → Settable n rows (s .t) (s .f) v → Formed n s → Formed n (assign s v positive)

@@ -1,5 +1,4 @@
 -- Rows whose words are below 2 ^ n call for the same rule at every greater width: each row is judged alike, and the lowest variable found is below n.
--- Assumes nothing.
 use mathlib.Core.Path.{_≡_, ap, ap₂, _∙_, fun-ext}
 use mathlib.Core.Bool.{Bool, true, false, not, _&&_}
 use mathlib.Core.List.{List}
@@ -78,4 +77,5 @@ module _ (n k : ℕ) (wide : n ≤ k) (t f : ℕ) where
         (λ e. rw (all-alike ∙ e, rule) (rw (e, rule)))
         (λ e₁. rw (all-alike ∙ e₁, rule) (rw (e₁, rule) (on (anyRow (unsatisfiedWith 0 n t f) rows)
         (λ e₂. rw (conflict-alike ∙ e₂) (rw e₂))
-        (λ e₂. rw (conflict-alike ∙ e₂) (rw e₂ (forced-alike (Choice (choice k rows t f)) ∙ ap (λ (v : ℕ). unitOr n t f rows (Choice v)) (choice-alike e₁ e₂)))))))
+        (λ e₂. rw (conflict-alike ∙ e₂) (rw e₂ (forced-alike (Choice (choice k rows t f))
+        ∙ ap (λ (v : ℕ). unitOr n t f rows (Choice v)) (choice-alike e₁ e₂)))))))

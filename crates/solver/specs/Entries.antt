@@ -59,7 +59,8 @@ stepped d tables run =
 -- the budgeted run's entry: 1, 2, 4, 3
 unfoldable pub solved : Dimensions → Tables → ℕ → Solved
 unfolding answerOf
-solved d tables budget = given (outcome (tableChecks d tables)) (solved′.Of (answerOf (d .n) (always (rowsOf d tables)) budget)) solved′.Refused
+solved d tables budget = given (outcome (tableChecks d tables))
+    (solved′.Of (answerOf (d .n) (always (rowsOf d tables)) budget)) solved′.Refused
 
 -- what the budgeted run returns: 0, or 1, 2, 3 or 4 of "Turned back because of the input"
 abbrev pub solvedCode : Solved → ℕ

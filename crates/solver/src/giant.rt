@@ -43,7 +43,9 @@ pub(crate) fn giant_step(
     requires { ⌜ outcome (tableChecks d (allTables (now left) (now right) (now public))) ≡ Taken ⌝ }
     requires { ⌜ wellFormed run ≡ true ⌝ }
     requires { ⌜ run .n ≡ d .n ⌝ }
-    ensures { λ r. ⌜ r ≡ runOf (d .n) (Step.step (d .n) (rowsOf d (allTables (now (left .entry)) (now (right .entry)) (now (public .entry)))) (stateOf run)) ⌝ }
+    ensures { λ r.
+        ⌜ r ≡ runOf (d .n) (Step.step (d .n)
+        (rowsOf d (allTables (now (left .entry)) (now (right .entry)) (now (public .entry)))) (stateOf run)) ⌝ }
 {
     let standing = run.standing;
     match standing {

@@ -38,7 +38,8 @@ pub enum Solved {
 
 // Whether the tables are accepted and the run is a well-formed state of their n: 1, 2, 4, 3, 12 or 13 if not.
 fn check_all(d: Dimensions, left: &[u32], right: &[u32], public: &[u32], run: Run) -> Outcome
-    ensures { λ r. ⌜ r ≡ outcome (tableChecks d (allTables (now (left .entry)) (now (right .entry)) (now (public .entry))) ++ stateChecks d run) ⌝ }
+    ensures { λ r.
+        ⌜ r ≡ outcome (tableChecks d (allTables (now (left .entry)) (now (right .entry)) (now (public .entry))) ++ stateChecks d run) ⌝ }
 {
     let checked = tables::accept(d, left, right, public);
     match checked {
@@ -89,7 +90,8 @@ pub fn step_lent(d: Dimensions, left: &[u32], right: &[u32], public: &[u32], run
 // The answer of a fresh run over accepted tables.
 fn run_to_close(d: Dimensions, left: &[u32], right: &[u32], public: &[u32], budget: u64) -> Answer
     requires { ⌜ outcome (tableChecks d (allTables (now left) (now right) (now public))) ≡ Taken ⌝ }
-    ensures { λ r. ⌜ r ≡ answerOf (d .n) (always (rowsOf d (allTables (now (left .entry)) (now (right .entry)) (now (public .entry))))) budget ⌝ }
+    ensures { λ r.
+        ⌜ r ≡ answerOf (d .n) (always (rowsOf d (allTables (now (left .entry)) (now (right .entry)) (now (public .entry))))) budget ⌝ }
 {
     let mut run = Run::fresh(d.n);
     let mut count = 0;
@@ -106,7 +108,11 @@ fn run_to_close(d: Dimensions, left: &[u32], right: &[u32], public: &[u32], budg
 // The answer of a fresh run that stops when it is closed or the budget is spent; 1, 2, 4 or 3 if the tables are not accepted.
 pub fn solve(d: Dimensions, left: &[u32], right: &[u32], public: &[u32], budget: u64) -> Solved
     ensures { λ r. ⌜ r ≡ solved d (allTables (now (left .entry)) (now (right .entry)) (now (public .entry))) budget ⌝ }
-    ensures { λ r. ⌜ solvedCode r ∷ solvedNumbers r ≡ said (outcome (tableChecks d (allTables (now (left .entry)) (now (right .entry)) (now (public .entry))))) (answerNumbers (answerOf (d .n) (always (rowsOf d (allTables (now (left .entry)) (now (right .entry)) (now (public .entry))))) budget)) ⌝ }
+    ensures { λ r.
+        ⌜ solvedCode r ∷ solvedNumbers r
+        ≡ said (outcome (tableChecks d (allTables (now (left .entry)) (now (right .entry)) (now (public .entry)))))
+        (answerNumbers (answerOf (d .n)
+        (always (rowsOf d (allTables (now (left .entry)) (now (right .entry)) (now (public .entry))))) budget)) ⌝ }
 {
     let checked = tables::accept(d, left, right, public);
     match checked {

@@ -1,5 +1,4 @@
 -- What the checks of a run give, and what they say of a run that passes: the first that fails decides.
--- Assumes nothing.
 use mathlib.Core.Path.{_≡_}
 use mathlib.Core.Bool.{true, false, not}
 use lib.Dec.{eqb}
@@ -28,4 +27,5 @@ module _ (d : Dimensions) (run : Run) where
 
   pub state-same : outcome (stateChecks d run) ≡ Taken → run .n ≡ d .n
   state-same e =
-      eqb-true (run .n) (d .n) (not-false (eqb (run .n) (d .n)) (check-passed (not (eqb (run .n) (d .n))) OtherVariables _ (checks-taken (not (wellFormed run)) refusal.State _ e)))
+      eqb-true (run .n) (d .n) (not-false (eqb (run .n) (d .n))
+      (check-passed (not (eqb (run .n) (d .n))) OtherVariables _ (checks-taken (not (wellFormed run)) refusal.State _ e)))

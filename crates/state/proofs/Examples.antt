@@ -1,5 +1,4 @@
 -- Well-formed runs, and each clause of document 01 broken once, computed.
--- Assumes nothing.
 use mathlib.Core.Path.{_≡_, refl}
 use mathlib.Core.Bool.{Bool, true, false}
 use mathlib.Core.List.{List, [], _∷_, _++_}

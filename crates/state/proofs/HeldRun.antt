@@ -1,5 +1,4 @@
 -- A run whose unused levels are zero is the one that holds its state, so a contract can equate the whole run. By induction on the depth.
--- Assumes nothing.
 use mathlib.Core.Path.{_≡_, refl, sym, ap, ap₂, _∙_}
 use mathlib.Core.Bool.{true, not, _&&_}
 use mathlib.Core.List.{List, [], _∷_, _++_, reverse, reverse-cons, append-assoc}
@@ -110,7 +109,8 @@ held-levels [] rest = refl
 held-levels (l ∷ ls) rest =
     rw (reverse-cons l ls, append-assoc (reverse ls) (l ∷ []) rest)
     (ap₂ (λ (x : Level) (xs : List Level). x ∷ xs)
-    (ap (λ (k : ℕ). getD (reverse ls ++ (l ∷ rest)) k none) (let e : length ls ≡ length (reverse ls) + 0 = omega (arith, length-reverse ls) in e) ∙ getD-append-add (reverse ls) (l ∷ rest) 0 none)
+    (ap (λ (k : ℕ). getD (reverse ls ++ (l ∷ rest)) k none) (let e : length ls ≡ length (reverse ls) + 0 = omega (arith, length-reverse ls) in e)
+    ∙ getD-append-add (reverse ls) (l ∷ rest) 0 none)
     (held-levels ls (l ∷ rest)))
 
 pub state-back : (n : ℕ) (s : State) → stateOf (runOf n s) ≡ s
@@ -133,5 +133,6 @@ run-of-formed n s a b w = formed-run-i (runOf n s) (record {
   least = a;
   most = b;
   state = ap (λ (x : State). wellFormedState n x) (state-back n s) ∙ w;
-  rest = ap unused (drop-at (reverse (s .levels)) (replicate (32 - length (s .levels)) none) (length (s .levels)) (length-reverse (s .levels))) ∙ unused-replicate (32 - length (s .levels));
+  rest = ap unused (drop-at (reverse (s .levels)) (replicate (32 - length (s .levels)) none) (length (s .levels)) (length-reverse (s .levels)))
+      ∙ unused-replicate (32 - length (s .levels));
 })

@@ -1,5 +1,4 @@
 -- What the code's tests of words say of T, F and levels, in its order: a word is 0 where the definition's test holds of every variable.
--- Assumes nothing.
 use mathlib.Core.Path.{_≡_, refl, sym, ap, ap₂, _∙_, fun-ext}
 use mathlib.Core.Bool.{Bool, true, false, not, _&&_, _||_}
 use mathlib.Core.List.{List}
@@ -86,7 +85,8 @@ module _ (n : ℕ) (l : Level) (t f : ℕ) where
       module _ (w : bit (bitOr (l .t) (l .f)) (l .chosen) ≡ false) (lt : l .t < 2 ^ 32) (lf : l .f < 2 ^ 32) (ht : t < 2 ^ 32) (hf : f < 2 ^ 32) where
         both-within : within n (l .t) t && within n (l .f) f ≡ eqb (bitOr (bitAnd (l .t) (4294967295 - t)) (bitAnd (l .f) (4294967295 - f))) 0
         both-within =
-            ap₂ _&&_ (sym (within-word n (l .t) t (sets-e n (l .t) (l .f) s .low-t) lt ht)) (sym (within-word n (l .f) f (sets-e n (l .t) (l .f) s .low-f) lf hf))
+            ap₂ _&&_ (sym (within-word n (l .t) t (sets-e n (l .t) (l .f) s .low-t) lt ht))
+            (sym (within-word n (l .f) f (sets-e n (l .t) (l .f) s .low-f) lf hf))
             ∙ sym (or-zero (bitAnd (l .t) (4294967295 - t)) (bitAnd (l .f) (4294967295 - f)))
 
         pub not-within : (bitOr (bitAnd (l .t) (4294967295 - t)) (bitAnd (l .f) (4294967295 - f)) ≡ 0 → ⊥) → false ≡ precedes n l t f
@@ -141,7 +141,8 @@ module _ (levels : List Level) (i : ℕ) (h : i < length levels) where
   pub unused-stop : (bitOr (bitOr (getD levels i none .t) (getD levels i none .f)) (getD levels i none .chosen) ≡ 0 → ⊥) → false ≡ unused (drop i levels)
   unused-stop e = rw (unused-cons, ne-eqb _ 0 e)
 
-  pub unused-on : bitOr (bitOr (getD levels i none .t) (getD levels i none .f)) (getD levels i none .chosen) ≡ 0 → unused (drop (i + 1) levels) ≡ unused (drop i levels)
+  pub unused-on : bitOr (bitOr (getD levels i none .t) (getD levels i none .f)) (getD levels i none .chosen)
+      ≡ 0 → unused (drop (i + 1) levels) ≡ unused (drop i levels)
   unused-on e = rw (unused-cons, eq-eqb _ 0 e, add-one)
 
 -- ---- a run
@@ -173,6 +174,7 @@ module _ (run : Run) where
         unfolding wellFormed wellFormedState
         not-linked h = rw (le-ltb (run .n) 1 a, le-ltb 32 (run .n) b, s, few, le-leb (run .depth) (run .n) d, h)
 
-        pub rest-decides : chain (run .n) (run .t) (run .f) (levelsOf (run .depth) (run .levels)) ≡ true → unused (drop (run .depth) (run .levels)) ≡ wellFormed run
+        pub rest-decides : chain (run .n) (run .t) (run .f) (levelsOf (run .depth) (run .levels))
+            ≡ true → unused (drop (run .depth) (run .levels)) ≡ wellFormed run
         unfolding wellFormed wellFormedState
         rest-decides h = rw (le-ltb (run .n) 1 a, le-ltb 32 (run .n) b, s, few, le-leb (run .depth) (run .n) d, h)

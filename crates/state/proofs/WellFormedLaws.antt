@@ -1,5 +1,4 @@
 -- The tests of well-formedness as records, taken apart (`-e`) and put together (`-i`), field by field.
--- Assumes nothing.
 use mathlib.Core.Path.{_≡_}
 use mathlib.Core.Bool.{true, not, _&&_}
 use mathlib.Core.List.{List, _∷_}

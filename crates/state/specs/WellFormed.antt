@@ -33,7 +33,8 @@ sets n t f = ltb t (2 ^ n) && ltb f (2 ^ n) && disjoint n t f
 unfoldable pub precedes : ℕ → Level → ℕ → ℕ → Bool
 unfolding sets within
 precedes n l t f =
-    sets n (l .t) (l .f) && (ltb (l .chosen) n && free (l .t) (l .f) (l .chosen)) && (within n (l .t) t && within n (l .f) f) && bit t (l .chosen)
+    sets n (l .t) (l .f) && (ltb (l .chosen) n && free (l .t) (l .f) (l .chosen))
+    && (within n (l .t) t && within n (l .f) f) && bit t (l .chosen)
 
 -- each level precedes the next one, the last one precedes T and F
 unfoldable pub chain : ℕ → ℕ → ℕ → List Level → Bool

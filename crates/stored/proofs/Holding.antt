@@ -1,5 +1,4 @@
 -- When words hold a run: each test that fails makes the definition false, and where it holds each test does.
--- Assumes nothing.
 use mathlib.Core.Path.{_≡_}
 use mathlib.Core.Bool.{true, false}
 use mathlib.Core.List.{List}

@@ -1,5 +1,4 @@
 -- Laws of the loops over the levels: what is left to read or to store gives what the whole gives, and a turn takes three words apart.
--- Assumes nothing.
 use mathlib.Core.Path.{_≡_, sym, ap, _∙_}
 use mathlib.Core.List.{List, [], _∷_, _++_, append-assoc, append-nil}
 use Prim.Native.Nat.{ℕ, suc, _+_, _*_, _-_, _<_}
@@ -25,17 +24,20 @@ withRest levels words l = sets words (5 + 3 * l) (levelWords (drop l levels))
 
 module _ (levels : List Level) where
   pub store-turn : (words : List ℕ) (l : ℕ) → l < length levels
-      → withRest levels (set (set (set words (5 + 3 * l) (getD levels l none .t)) (5 + 3 * l + 1) (getD levels l none .f)) (5 + 3 * l + 2) (getD levels l none .chosen)) (l + 1)
+      → withRest levels (set (set (set words (5 + 3 * l) (getD levels l none .t)) (5 + 3 * l + 1) (getD levels l none .f))
+      (5 + 3 * l + 2) (getD levels l none .chosen)) (l + 1)
       ≡ withRest levels words l
   unfolding withRest levelWords
   store-turn words l h =
       rw (add-one l, drop-cons levels l none h)
-      (three words (5 + 3 * l) (5 + 3 * l + 1) (5 + 3 * l + 2) (5 + 3 * suc l) _ _ _ (levelWords (drop (suc l) levels)) (omega arith) (omega arith) (omega arith))
+      (three words (5 + 3 * l) (5 + 3 * l + 1) (5 + 3 * l + 2) (5 + 3 * suc l) _ _ _ (levelWords (drop (suc l) levels)) (omega arith)
+      (omega arith) (omega arith))
 
   pub store-end : (words : List ℕ) (l : ℕ) → length levels ≡ l → withRest levels words l ≡ words
   unfolding withRest levelWords
   store-end words l e =
-      ap (λ (k : ℕ). sets words (5 + 3 * l) (levelWords (drop k levels))) (sym e) ∙ ap (λ (r : List Level). sets words (5 + 3 * l) (levelWords r)) (drop-length levels)
+      ap (λ (k : ℕ). sets words (5 + 3 * l) (levelWords (drop k levels))) (sym e)
+      ∙ ap (λ (r : List Level). sets words (5 + 3 * l) (levelWords r)) (drop-length levels)
 
 -- ---- reading
 
@@ -54,7 +56,8 @@ module _ (words : List ℕ) where
   first-left k at next e =
       rw (getD-drop at words 0 0, getD-drop at words 1 0, getD-drop at words 2 0, drop-drop 3 at words, e, add-zero at)
 
-  pub read-turn : (levels : List Level) (l : ℕ) → length levels ≡ 32 → l < 32 → allLevels words (set levels l (levelAt words (5 + 3 * l))) (l + 1) ≡ allLevels words levels l
+  pub read-turn : (levels : List Level) (l : ℕ) → length levels ≡ 32 → l < 32 → allLevels words (set levels l (levelAt words (5 + 3 * l)))
+      (l + 1) ≡ allLevels words levels l
   unfolding allLevels
   read-turn levels l size h =
       let in-range : l < length levels = omega arith in

@@ -1,5 +1,4 @@
 -- A run's words give the run back, and the run in 101 words gives them back: by induction on the levels, three words a level.
--- Assumes nothing.
 use mathlib.Core.Path.{_≡_, refl, sym, ap, _∙_}
 use mathlib.Core.Bool.{true}
 use mathlib.Core.List.{List, [], _∷_}
@@ -44,7 +43,8 @@ run-back run size n depth =
     let low : min (run .depth) (2 ^ 32 - 1) ≡ run .depth = omega arith in
     let levels : levelsIn 32 (levelWords (run .levels)) ≡ run .levels =
     ap (λ (k : ℕ). levelsIn k (levelWords (run .levels))) (sym size) ∙ levels-back (run .levels) in
-    held-run (wordsOf run) held ∙ (λ i. record { n = run .n; standing = standing-back (run .standing) i; t = run .t; f = run .f; depth = low i; levels = levels i })
+    held-run (wordsOf run) held
+    ∙ (λ i. record { n = run .n; standing = standing-back (run .standing) i; t = run .t; f = run .f; depth = low i; levels = levels i })
 
 -- ---- a well-formed run
 

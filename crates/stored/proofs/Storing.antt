@@ -1,5 +1,4 @@
 -- A run's words stored one after the other: they are all 101 that the run has.
--- Assumes nothing.
 use mathlib.Core.Path.{_≡_, refl, ap, _∙_}
 use mathlib.Core.List.{List, [], _∷_, _++_, append-nil}
 use Prim.Native.Nat.{ℕ, _+_, _-_, _*_, _^_, _≤_, min}
@@ -24,7 +23,8 @@ module _ (run : Run) (words : List ℕ) (levels : length (run .levels) ≡ 32) (
   stored-words : sets words 0 (wordsOf run) ≡ wordsOf run
   stored-words =
       let all : length (wordsOf run) ≡ 101 = words-length run levels in
-      sets-eq (wordsOf run) words 0 (omega arith) ∙ ap (λ (l : List ℕ). wordsOf run ++ l) (drop-of-length-le words {i = 0 + length (wordsOf run)} (omega arith)) ∙ append-nil (wordsOf run)
+      sets-eq (wordsOf run) words 0 (omega arith)
+      ∙ ap (λ (l : List ℕ). wordsOf run ++ l) (drop-of-length-le words {i = 0 + length (wordsOf run)} (omega arith)) ∙ append-nil (wordsOf run)
 
   -- five stores, and the levels'
   pub stored-all : (standing depth : ℕ) (after : List ℕ) → standing ≡ numberOf (run .standing) → depth ≡ min (run .depth) (2 ^ 32 - 1)

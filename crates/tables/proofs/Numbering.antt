@@ -1,6 +1,6 @@
 -- How many rows a table's words give, and which row has a number: by induction on the rows.
 use mathlib.Core.Path.{_≡_, refl, sym, ap, ap₂, _∙_}
-use mathlib.Core.List.{List, [], _∷_, _++_}
+use mathlib.Core.List.{List, _++_}
 use Prim.Native.Nat.{ℕ, zero, suc, _+_, _<_}
 use native.Mathlib.Omega.{arith}
 use lib.ListN.{length, getD, length-append, List·getD-append}
@@ -21,7 +21,8 @@ pub tables-length : (d : Dimensions) (tables : Tables) → length (rowsOf d tabl
 tables-length d tables =
     length-append (rowsFrom (tables .left) 0 (d .left)) _
     ∙ ap₂ _+_ (table-length (tables .left) 0 (d .left))
-    (length-append (rowsFrom (tables .right) 0 (d .right)) _ ∙ ap₂ _+_ (table-length (tables .right) 0 (d .right)) (table-length (tables .public) 0 (d .public)))
+    (length-append (rowsFrom (tables .right) 0 (d .right)) _ ∙ ap₂ _+_ (table-length (tables .right) 0 (d .right))
+    (table-length (tables .public) 0 (d .public)))
     ∙ omega arith
 
 -- row i of those from j on

@@ -90,7 +90,8 @@ module _ (rows : List Row) (t f : ℕ) where
     touch-at : (v i : ℕ) → at (unmet 32 t f) rows i && (at (literal true v) rows i || at (literal false v) rows i) ≡ at (touch v) rows i
     touch-at v i = sym
         (at-both (unmet 32 t f) (λ r. holds r v) (touch v) (λ x y. x && y) refl (λ r. refl) rows i
-        ∙ ap (λ (y : Bool). at (unmet 32 t f) rows i && y) (at-both (literal true v) (literal false v) (λ r. holds r v) (λ x y. x || y) refl (λ r. refl) rows i))
+        ∙ ap (λ (y : Bool). at (unmet 32 t f) rows i && y) (at-both (literal true v) (literal false v) (λ r. holds r v)
+        (λ x y. x || y) refl (λ r. refl) rows i))
 
     touches-is : (v w : ℕ) → v < 32 → w < 6 → touches (indexOf rows) v w (getD (rowSet (unmet 32 t f) rows) w 0) ≡ any (λ j. at (touch v) rows (64 * w + j)) 64
     touches-is v w b h =
@@ -102,7 +103,8 @@ module _ (rows : List Row) (t f : ℕ) where
 
     stands-is : (v : ℕ) → v < 32 → standsIn (indexOf rows) v (rowSet (unmet 32 t f) rows) ≡ anyRow (touch v) rows
     stands-is v b =
-        let e : (w : ℕ) → w < 6 → touches (indexOf rows) v w (getD (rowSet (unmet 32 t f) rows) w 0) ≡ any (λ j. at (touch v) rows (64 * w + j)) 64 = λ w h. touches-is v w b h in
+        let e : (w : ℕ) → w < 6 → touches (indexOf rows) v w (getD (rowSet (unmet 32 t f) rows) w 0) ≡ any (λ j. at (touch v) rows (64 * w + j)) 64 =
+        λ w h. touches-is v w b h in
         (λ i. e 0 (omega arith) i || e 1 (omega arith) i || e 2 (omega arith) i || e 3 (omega arith) i || e 4 (omega arith) i || e 5 (omega arith) i)
         ∙ any-six (at (touch v) rows) ∙ any-at (touch v) rows 384 few
 

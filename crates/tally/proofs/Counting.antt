@@ -1,5 +1,4 @@
 -- Counting up to two in two sets: for each variable x in turn, `two = two | (one & x)` and `one = one | x`. In the end `!two` are the rows with at most one.
--- Assumes nothing.
 use mathlib.Core.Path.{_≡_, sym, ap, _∙_}
 use mathlib.Core.Bool.{Bool, true, false, not, _&&_, _||_, and-false}
 use Prim.Native.Nat.{ℕ, suc, _+_, _<_}

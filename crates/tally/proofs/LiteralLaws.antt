@@ -1,5 +1,5 @@
--- A free variable is set: what that makes of a row. It is satisfied if it holds the literal; it has one free literal fewer if it holds the other; else nothing changes.
--- Assumes nothing.
+-- A free variable is set: what that makes of a row. It is satisfied if it holds the literal; it has one free literal fewer if it holds the other; else nothing
+-- changes.
 use mathlib.Core.Path.{_≡_, refl, sym, ap, ap₂, _∙_}
 use mathlib.Core.Bool.{Bool, true, false, not, _&&_, _||_, and-false}
 use Prim.Native.Nat.{ℕ, zero, suc, _+_, _<_}
@@ -29,7 +29,8 @@ count-without p (suc n) v b =
     (λ e.
     let q : n ≡ v = eqb-true n v e in
     let z : digit (p n && not (eqb n v)) ≡ 0 = ap (λ (x : Bool). digit (p n && not x)) e ∙ ap digit (and-false (p n)) in
-    let s : count (λ i. p i && not (eqb i v)) n ≡ count p n = count-cong _ _ n (λ i c. ap (λ (x : Bool). p i && not x) (ne-eqb i v (λ k. omega arith)) ∙ and-true (p i)) in
+    let s : count (λ i. p i && not (eqb i v)) n ≡ count p n =
+    count-cong _ _ n (λ i c. ap (λ (x : Bool). p i && not x) (ne-eqb i v (λ k. omega arith)) ∙ and-true (p i)) in
     let d : digit (p n) ≡ digit (p v) = ap (λ (k : ℕ). digit (p k)) q in
     omega arith)
     (λ e.
@@ -64,12 +65,14 @@ module _ (n : ℕ) (r : Row) (t f v : ℕ) (b : v < n) where
   set-free true =
       ap (λ (k : ℕ). k + digit (freeIn r t f v))
       (count-cong (λ i. freeIn r (put t v) f i) (λ i. freeIn r t f i && not (eqb i v)) n
-      (λ i c. rw bit-put (agree-eq (taut4 (λ t f x h. agree (not (t || x) && not f && h) ((not t && not f && h) && not x)) refl (bit t i) (bit f i) (eqb i v) (holds r i)))))
+      (λ i c. rw bit-put (agree-eq (taut4 (λ t f x h. agree (not (t || x) && not f && h) ((not t && not f && h) && not x)) refl (bit t i)
+      (bit f i) (eqb i v) (holds r i)))))
       ∙ count-without (λ i. freeIn r t f i) n v b
   set-free false =
       ap (λ (k : ℕ). k + digit (freeIn r t f v))
       (count-cong (λ i. freeIn r t (put f v) i) (λ i. freeIn r t f i && not (eqb i v)) n
-      (λ i c. rw bit-put (agree-eq (taut4 (λ t f x h. agree (not t && not (f || x) && h) ((not t && not f && h) && not x)) refl (bit t i) (bit f i) (eqb i v) (holds r i)))))
+      (λ i c. rw bit-put (agree-eq (taut4 (λ t f x h. agree (not t && not (f || x) && h) ((not t && not f && h) && not x)) refl (bit t i)
+      (bit f i) (eqb i v) (holds r i)))))
       ∙ count-without (λ i. freeIn r t f i) n v b
 
   -- of a row that stays unsatisfied

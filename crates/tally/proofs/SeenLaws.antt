@@ -35,7 +35,11 @@ module _ (s : Seen) (hm : s .met < 2 ^ 64) where
   met-is x h = λ i. record { met = word-is (bitOr (s .met) x) _ (or-lt 64 (s .met) x hm h) (λ j c. bit-or (s .met) x j) i; one = s .one; two = s .two }
 
   pub free-is : (p q : ℕ) → s .one < 2 ^ 64 → s .two < 2 ^ 64 → p < 2 ^ 64 → q < 2 ^ 64
-      → _≡_ {A = Seen} (record { met = bitOr (s .met) (bitAnd p q); one = bitOr (s .one) (bitOr p q); two = bitOr (s .two) (bitAnd (s .one) (bitOr p q)) }) (freeWith s p q)
+      → _≡_ {A = Seen} (record {
+        met = bitOr (s .met) (bitAnd p q);
+        one = bitOr (s .one) (bitOr p q);
+        two = bitOr (s .two) (bitAnd (s .one) (bitOr p q));
+      }) (freeWith s p q)
   free-is p q ho ht hp hq = λ i. record {
     met = word-is (bitOr (s .met) (bitAnd p q)) _ (or-lt 64 (s .met) _ hm (and-lt-left 64 p q hp))
         (λ j c. bit-or (s .met) (bitAnd p q) j ∙ ap (λ (z : Bool). bit (s .met) j || z) (bit-and p q j)) i;
@@ -91,14 +95,16 @@ module _ (index : List ℕ) (t f : ℕ) where
     two-next : (x : ℕ → Bool) → ((j : ℕ) → x j ≡ freeBy index t f w j v) → wordOf (λ j. bit (seen .two) j || (bit (seen .one) j && x j)) 64 ≡ next .two
     two-next x e =
         wordOf-cong _ _ 64
-        (λ j c. ap₂ (λ (a b : Bool). a || (b && x j)) (bit-wordOf (λ j. leb 2 (count (freeBy index t f w j) v)) 64 j c) (bit-wordOf (λ j. any (freeBy index t f w j) v) 64 j c)
+        (λ j c. ap₂ (λ (a b : Bool). a || (b && x j)) (bit-wordOf (λ j. leb 2 (count (freeBy index t f w j) v)) 64 j c)
+        (bit-wordOf (λ j. any (freeBy index t f w j) v) 64 j c)
         ∙ ap (λ (b : Bool). leb 2 (count (freeBy index t f w j) v) || (any (freeBy index t f w j) v && b)) (e j) ∙ sym (two-more (freeBy index t f w j) v))
 
     -- a variable that is set is free in no row
     module _ (e : free t f v ≡ false) where
       one-same : seen .one ≡ next .one
       one-same = sym (wordOf-bit (seen .one) 64 (wordOf-lt (λ j. any (freeBy index t f w j) v) 64))
-          ∙ wordOf-cong _ _ 64 (λ j c. sym (or-false (bit (seen .one) j))) ∙ one-next (λ j. false) (λ j. sym (ap (λ (x : Bool). x && (listed index w j v || listed index w j (32 + v))) e))
+          ∙ wordOf-cong _ _ 64 (λ j c. sym (or-false (bit (seen .one) j)))
+          ∙ one-next (λ j. false) (λ j. sym (ap (λ (x : Bool). x && (listed index w j v || listed index w j (32 + v))) e))
 
       two-same : seen .two ≡ next .two
       two-same = sym (wordOf-bit (seen .two) 64 (wordOf-lt (λ j. leb 2 (count (freeBy index t f w j) v)) 64))
@@ -116,7 +122,8 @@ module _ (index : List ℕ) (t f : ℕ) where
 
     next-free : bit t v ≡ false → bit f v ≡ false → wordFree index v w seen ≡ next
     next-free x y = λ i. record {
-      met = met-next (λ j. p j && q j) (λ j. sym (rw (x, y) (agree-eq (taut2 (λ p q. agree (p && q || p && false || q && false) (p && q)) refl (p j) (q j))))) i;
+      met = met-next (λ j. p j && q j)
+          (λ j. sym (rw (x, y) (agree-eq (taut2 (λ p q. agree (p && q || p && false || q && false) (p && q)) refl (p j) (q j))))) i;
       one = one-next (λ j. p j || q j) (λ j. sym (rw (x, y))) i;
       two = two-next (λ j. p j || q j) (λ j. sym (rw (x, y))) i;
     }
@@ -137,14 +144,43 @@ module _ (index : List ℕ) (t f : ℕ) where
         ∙ met-next (λ j. p j || q j) (λ j. sym (rw (x, y) (agree-eq (taut2 (λ p q. agree (p && q || p && true || q && true) (p || q)) refl (p j) (q j))))))
 
   -- one more looked at
-  pub seen-next : (v : ℕ) (s r : AllSeen) (x y : Bool) → s ≡ allSeen index t f v → x ≡ bit t v → y ≡ bit f v → r ≡ allWith index x y v s → r ≡ allSeen index t f (v + 1)
+  pub seen-next : (v : ℕ) (s r : AllSeen) (x y : Bool) → s ≡ allSeen index t f v → x ≡ bit t v → y ≡ bit f v → r ≡ allWith index x y v s
+      → r ≡ allSeen index t f (v + 1)
   seen-next v s r x y e p q h = h ∙ ap (allWith index x y v) e ∙ go x y (sym p) (sym q) ∙ ap (allSeen index t f) (sym (add-one v))
     where
       go : (x y : Bool) → bit t v ≡ x → bit f v ≡ y → allWith index x y v (allSeen index t f v) ≡ allSeen index t f (suc v)
-      go true true p q = λ i. record { a = next-both v 0 p q i; b = next-both v 1 p q i; c = next-both v 2 p q i; d = next-both v 3 p q i; e = next-both v 4 p q i; f = next-both v 5 p q i }
-      go true false p q = λ i. record { a = next-true v 0 p q i; b = next-true v 1 p q i; c = next-true v 2 p q i; d = next-true v 3 p q i; e = next-true v 4 p q i; f = next-true v 5 p q i }
-      go false true p q = λ i. record { a = next-false v 0 p q i; b = next-false v 1 p q i; c = next-false v 2 p q i; d = next-false v 3 p q i; e = next-false v 4 p q i; f = next-false v 5 p q i }
-      go false false p q = λ i. record { a = next-free v 0 p q i; b = next-free v 1 p q i; c = next-free v 2 p q i; d = next-free v 3 p q i; e = next-free v 4 p q i; f = next-free v 5 p q i }
+      go true true p q = λ i. record {
+        a = next-both v 0 p q i;
+        b = next-both v 1 p q i;
+        c = next-both v 2 p q i;
+        d = next-both v 3 p q i;
+        e = next-both v 4 p q i;
+        f = next-both v 5 p q i;
+      }
+      go true false p q = λ i. record {
+        a = next-true v 0 p q i;
+        b = next-true v 1 p q i;
+        c = next-true v 2 p q i;
+        d = next-true v 3 p q i;
+        e = next-true v 4 p q i;
+        f = next-true v 5 p q i;
+      }
+      go false true p q = λ i. record {
+        a = next-false v 0 p q i;
+        b = next-false v 1 p q i;
+        c = next-false v 2 p q i;
+        d = next-false v 3 p q i;
+        e = next-false v 4 p q i;
+        f = next-false v 5 p q i;
+      }
+      go false false p q = λ i. record {
+        a = next-free v 0 p q i;
+        b = next-free v 1 p q i;
+        c = next-free v 2 p q i;
+        d = next-free v 3 p q i;
+        e = next-free v 4 p q i;
+        f = next-free v 5 p q i;
+      }
 
   -- all looked at
   pub seen-all : (v : ℕ) (s : AllSeen) → v ≤ 32 → 32 ≤ v → s ≡ allSeen index t f v → s ≡ allSeen index t f 32

@@ -1,5 +1,4 @@
 -- Tests and counts over 384 rows from six words of 64, and from the list of rows. By induction on the first part, or on the list.
--- Assumes nothing.
 use mathlib.Core.Path.{_≡_, refl, sym, ap, _∙_}
 use mathlib.Core.Bool.{Bool, true, false, not, _||_, or-false}
 use mathlib.Core.List.{List, [], _∷_}

@@ -1,4 +1,5 @@
--- All sets of rows anew from the index, T and F, and the rows of few free variables: what code makes of the words. No entry's contract rests on this file.
+-- All sets of rows anew from the index, T and F, and the rows of few free variables: what code makes of the words. No entry's contract
+-- rests on this file.
 use Prim.Native.Nat.{ℕ, _+_, _-_, _*_}
 use mathlib.Core.Bool.{Bool, _&&_, _||_, cond}
 use mathlib.Core.List.{List, [], _∷_}
@@ -35,7 +36,14 @@ wordFree index v w s = freeWith s (getD index (6 * v + w) 0) (getD index (6 * (3
 
 -- each word
 abbrev pub eachSeen : (ℕ → Seen → Seen) → AllSeen → AllSeen
-eachSeen word s = record { a = word 0 (s .a); b = word 1 (s .b); c = word 2 (s .c); d = word 3 (s .d); e = word 4 (s .e); f = word 5 (s .f) }
+eachSeen word s = record {
+  a = word 0 (s .a);
+  b = word 1 (s .b);
+  c = word 2 (s .c);
+  d = word 3 (s .d);
+  e = word 4 (s .e);
+  f = word 5 (s .f);
+}
 
 -- a set of rows by each word
 abbrev pub eachWord : (ℕ → Seen → ℕ) → AllSeen → List ℕ
@@ -49,7 +57,8 @@ allFree index v s = eachSeen (wordFree index v) s
 
 -- with one more variable, in T and in F or not
 abbrev pub allWith : List ℕ → Bool → Bool → ℕ → AllSeen → AllSeen
-allWith index t f v s = cond t (cond f (allMet index (32 + v) (allMet index v s)) (allMet index v s)) (cond f (allMet index (32 + v) s) (allFree index v s))
+allWith index t f v s = cond t (cond f (allMet index (32 + v) (allMet index v s)) (allMet index v s))
+    (cond f (allMet index (32 + v) s) (allFree index v s))
 
 -- ---- what is seen
 
@@ -59,7 +68,8 @@ listed index w j l = bit (getD index (6 * l + w) 0) j
 
 -- variable v satisfies the row
 abbrev pub metBy : List ℕ → ℕ → ℕ → ℕ → ℕ → ℕ → Bool
-metBy index t f w j v = listed index w j v && listed index w j (32 + v) || listed index w j v && bit t v || listed index w j (32 + v) && bit f v
+metBy index t f w j v = listed index w j v && listed index w j (32 + v) || listed index w j v && bit t v
+    || listed index w j (32 + v) && bit f v
 
 -- variable v is free in the row
 abbrev pub freeBy : List ℕ → ℕ → ℕ → ℕ → ℕ → ℕ → Bool

@@ -1,4 +1,5 @@
-// What is kept beside a run (document 02, "Which rows does a variable touch"): how many rows are unsatisfied, and the sets of rows from which the rule is read.
+// What is kept beside a run (document 02, "Which rows does a variable touch"): how many rows are unsatisfied, and the sets of rows from
+// which the rule is read.
 mod rows;
 mod ruling;
 mod setting;
@@ -21,7 +22,8 @@ pub struct Tally {
     pub negative: u32,
 }
 
-// The tally after a free variable is set, from T and F as they were: only the variable's own rows are read. `words` are the rows, two words each.
+// The tally after a free variable is set, from T and F as they were: only the variable's own rows are read. `words` are the rows, two words
+// each.
 pub fn set_literal(
     words: &[u32; 768],
     index: &[u64; 384],

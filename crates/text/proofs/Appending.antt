@@ -1,5 +1,4 @@
 -- Bytes appended one after the other are the bytes joined. By induction on what is appended.
--- Assumes nothing.
 use mathlib.Core.Path.{_≡_, refl, sym, ap, _∙_, subst}
 use mathlib.Core.List.{List, [], _∷_, _++_, append-assoc, append-nil}
 use Prim.Native.Nat.{ℕ, suc, _+_, _-_, _≤_, _<_}
@@ -28,7 +27,8 @@ appended-push t xs b = appended-join t xs (b ∷ [])
 -- what is left gives what the whole gives, when one byte is pushed
 pub appended-next : (t : Text) (xs : List ℕ) (i : ℕ) → i < length xs → appended t (drop i xs) ≡ appended (pushed t (getD xs i 0)) (drop (i + 1) xs)
 unfolding appended
-appended-next t xs i h = ap (λ (l : List ℕ). appended t l) (drop-cons xs i 0 h) ∙ ap (λ (k : ℕ). appended (pushed t (getD xs i 0)) (drop k xs)) (sym (add-one i))
+appended-next t xs i h = ap (λ (l : List ℕ). appended t l) (drop-cons xs i 0 h)
+    ∙ ap (λ (k : ℕ). appended (pushed t (getD xs i 0)) (drop k xs)) (sym (add-one i))
 
 -- a store behind the bytes is at the first zero
 set-behind : (xs : List ℕ) (k b : ℕ) → set (xs ++ (0 ∷ replicate k 0)) (length xs) b ≡ xs ++ (b ∷ replicate k 0)

@@ -1,5 +1,4 @@
 -- Decimal digits: one digit more in front of the last, how many there are, and that they give back their number. By induction on the number of digits allowed.
--- Assumes nothing.
 use mathlib.Core.Path.{_≡_, refl, sym, ap, _∙_}
 use mathlib.Core.Bool.{Bool, true, false, _&&_}
 use mathlib.Core.List.{List, [], _∷_, _++_}

@@ -1,5 +1,4 @@
 -- Fields of a text: bytes up to a space or an LF. A number's digits are such bytes, and equal texts part into equal fields, by induction on the first field.
--- Assumes nothing.
 use mathlib.Core.Path.{_≡_, refl, sym, ap, ap₂, _∙_}
 use mathlib.Core.Bool.{Bool, true, not, _&&_, _||_, false≢true}
 use mathlib.Core.List.{List, [], _∷_, _++_}

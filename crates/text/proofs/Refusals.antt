@@ -1,5 +1,4 @@
 -- A refusal's line, put together: its appends are one, and have room.
--- Assumes nothing.
 use mathlib.Core.Path.{_≡_, ap, _∙_}
 use mathlib.Core.List.{[], _++_, append-assoc}
 use native.Mathlib.Omega.{arith}

@@ -1,5 +1,4 @@
 -- What evaluating gives, by what its checks find: each law computes the list of checks. The last is the one for circuits.
--- Assumes nothing.
 use mathlib.Core.Path.{_≡_, refl, ap, ap₂, sym, _∙_}
 use mathlib.Core.Bool.{Bool, true, false}
 use mathlib.Core.List.{List}

@@ -1,5 +1,4 @@
 -- Gates run in the buffer itself: the table's entries hold by computation at each kind and pair of bytes, and a turn of `Run` on plain bytes needs no more.
--- Assumes nothing.
 use mathlib.Core.Path.{_≡_, refl, ap, ap₂, sym, _∙_}
 use mathlib.Core.Bool.{Bool, true, false}
 use mathlib.Core.List.{List, [], _∷_, _++_, map-append}

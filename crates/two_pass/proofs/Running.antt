@@ -1,5 +1,4 @@
 -- What the loops that run gates go by: the values so far, with the gates that are left, give what the whole gives; a turn adds the value of its gate.
--- Assumes nothing.
 use mathlib.Core.Path.{_≡_, refl, ap, ap₂, sym, _∙_}
 use mathlib.Core.Bool.{Bool, true, not, _&&_}
 use mathlib.Core.List.{List, [], _∷_, _++_}

@@ -52,7 +52,10 @@ fn run(gates: &[u32], wires: &mut [u8], n: usize)
     requires { ⌜ Memory.accepted n (now gates) ≡ true ⌝ }
     requires { ⌜ n + length (now gates) / 3 ≤ length (now wires) ⌝ }
     requires { ⌜ Memory.bits (take n (now wires)) ≡ true ⌝ }
-    ensures { λ _. ⌜ now (wires .exit) ≡ Memory.over (Memory.bytesOf (wiresOf (Memory.bitsOf (take n (now (wires .entry)))) (Memory.gatesOf (now (gates .entry))))) (now (wires .entry)) ⌝ }
+    ensures { λ _.
+        ⌜ now (wires .exit) ≡ Memory.over
+        (Memory.bytesOf (wiresOf (Memory.bitsOf (take n (now (wires .entry))))
+        (Memory.gatesOf (now (gates .entry))))) (now (wires .entry)) ⌝ }
 {
     let values = VALUES;
     let end = n + gates.len() / 3;

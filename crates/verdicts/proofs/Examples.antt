@@ -1,5 +1,4 @@
 -- Runs with a model and without, and 12 before 14, computed.
--- Assumes nothing.
 use mathlib.Core.Path.{_≡_, refl}
 use mathlib.Core.List.{[]}
 use Prim.Native.Nat.{ℕ}

@@ -1,5 +1,4 @@
 -- What `verdict_of` and `model` give: the verdict by the standing; each refusal and the model compute from the run's two checks, in order.
--- Assumes nothing.
 use mathlib.Core.Path.{_≡_, refl, sym, ap, ap₂, _∙_}
 use mathlib.Core.Bool.{Bool, true, false, not, cond}
 use mathlib.Core.List.{List, [], _∷_}
@@ -29,7 +28,8 @@ with-verdict st t r e = (e, ap (λ (x : Verdict). verdictNumber x ∷ (modelWord
     go Satisfied = refl
     go Refuted = refl
 
-pub with-model : (run : Run) (r : Modelled) → r ≡ modelOf run → (r ≡ modelOf run) × (modelCode r ∷ modelNumbers r ≡ said (outcome (modelChecks run)) (run .t ∷ []))
+pub with-model : (run : Run) (r : Modelled) → r ≡ modelOf run → (r ≡ modelOf run)
+    × (modelCode r ∷ modelNumbers r ≡ said (outcome (modelChecks run)) (run .t ∷ []))
 unfolding modelOf
 with-model run r e =
     let says : Modelled → List ℕ = λ x. modelCode x ∷ modelNumbers x in
@@ -41,10 +41,12 @@ module _ (run : Run) where
   model-unformed e = rw e
 
   module _ (w : wellFormed run ≡ true) where
-    model-as : (st : Standing) → run .standing ≡ st → given (outcome (check (not (isSatisfied st)) NoModel ∷ [])) (modelled.Model (run .t)) modelled.Refused ≡ modelOf run
+    model-as : (st : Standing) → run .standing ≡ st → given (outcome (check (not (isSatisfied st)) NoModel ∷ [])) (modelled.Model (run .t))
+        modelled.Refused ≡ modelOf run
     unfolding modelOf
     model-as st e = sym (ap₂
-        (λ (a : Bool) (x : Standing). given (outcome (check (not a) refusal.State ∷ check (not (isSatisfied x)) NoModel ∷ [])) (modelled.Model (run .t)) modelled.Refused)
+        (λ (a : Bool) (x : Standing). given (outcome (check (not a) refusal.State ∷ check (not (isSatisfied x)) NoModel ∷ []))
+        (modelled.Model (run .t)) modelled.Refused)
         w e)
 
     pub model-satisfied : run .standing ≡ Satisfied → modelled.Model (run .t) ≡ modelOf run

@@ -33,7 +33,8 @@ modelOf run = given (outcome (modelChecks run)) (modelled.Model (run .t)) modell
 
 -- ---- the answers as numbers
 
--- the number of the standing that the verdict follows from: "satisfiable, unsatisfiable or unknown as the standing then is satisfied, refuted or open"
+-- the number of the standing that the verdict follows from: "satisfiable, unsatisfiable or unknown as the standing then is satisfied,
+-- refuted or open"
 abbrev pub verdictNumber : Verdict → ℕ
 verdictNumber Unknown = 0
 verdictNumber (Satisfiable model) = 1

@@ -39,7 +39,8 @@ pub fn goes_on(run: Run, count: u64, budget: u64) -> bool
 // The verdict of a run that goes no further.
 pub fn verdict_of(run: Run) -> Verdict
     ensures { λ r. ⌜ r ≡ verdictOf (run .standing) (run .t) ⌝ }
-    ensures { λ r. ⌜ verdictNumber r ∷ (modelWord r ∷ []) ≡ standingNumber (run .standing) ∷ (cond (isSatisfied (run .standing)) (run .t) 0 ∷ []) ⌝ }
+    ensures { λ r.
+        ⌜ verdictNumber r ∷ (modelWord r ∷ []) ≡ standingNumber (run .standing) ∷ (cond (isSatisfied (run .standing)) (run .t) 0 ∷ []) ⌝ }
 {
     let standing = run.standing;
     match standing {

@@ -1,5 +1,4 @@
 -- Where the bits of rows and of a state stand in a list of wires: the list is cut part by part, in the order of the wires.
--- Assumes nothing.
 use mathlib.Core.Path.{_≡_, refl, sym, ap, ap₂, _∙_, subst}
 use mathlib.Core.Bool.{Bool}
 use mathlib.Core.List.{List, [], _∷_, _++_, append-assoc}
@@ -86,7 +85,8 @@ module _ (n : ℕ) (b : Bits) where
   level l = upto (b .levelT l) n ++ (upto (b .levelF l) n ++ upto (b .chosen l) n)
 
   -- the parts, with the rest behind them
-  parts : (rest : List Bool) → inOrder n b ++ rest ≡ upto (b .T) n ++ (upto (b .F) n ++ (upto (b .depth) (suc n) ++ (joined level n ++ (b .satisfied ∷ (b .refuted ∷ rest)))))
+  parts : (rest : List Bool) → inOrder n b ++ rest ≡ upto (b .T) n
+      ++ (upto (b .F) n ++ (upto (b .depth) (suc n) ++ (joined level n ++ (b .satisfied ∷ (b .refuted ∷ rest)))))
   unfolding inOrder
   parts rest = simp append-assoc
 

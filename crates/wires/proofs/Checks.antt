@@ -1,5 +1,4 @@
 -- What the checks of packing lead to, each by its condition. From the order of the checks.
--- Assumes nothing.
 use mathlib.Core.Path.{_≡_, refl, sym, ap, _∙_}
 use mathlib.Core.Bool.{true, false}
 use mathlib.Core.List.{List, _∷_}
@@ -77,12 +76,14 @@ module _ (d : Dimensions) (tables : Tables) (run : Run) (bytes : List ℕ) where
   unfolding packed
   pack-refused r e = rw e
 
-  pub pack-taken : outcome (packChecks d tables run (length bytes)) ≡ Taken → over (bytesOf (inputBits d tables (stateOf run))) bytes ≡ packed d tables run bytes
+  pub pack-taken : outcome (packChecks d tables run (length bytes)) ≡ Taken → over (bytesOf (inputBits d tables (stateOf run)))
+      bytes ≡ packed d tables run bytes
   unfolding packed
   pack-taken e = rw e
 
   -- the front then holds the input values, as many bytes as there are input wires
-  pub packed-front : outcome (packChecks d tables run (length bytes)) ≡ Taken → take (inputWires d) (packed d tables run bytes) ≡ bytesOf (inputBits d tables (stateOf run))
+  pub packed-front : outcome (packChecks d tables run (length bytes)) ≡ Taken → take (inputWires d) (packed d tables run bytes)
+      ≡ bytesOf (inputBits d tables (stateOf run))
   packed-front e =
       ap (take (inputWires d)) (sym (pack-taken e))
       ∙ take-at (bytesOf (inputBits d tables (stateOf run))) _ (inputWires d)

@@ -1,5 +1,4 @@
 -- The wires of small states, rows and inputs, computed.
--- Assumes nothing.
 use mathlib.Core.Path.{_≡_, refl}
 use mathlib.Core.List.{List, [], _∷_, _++_}
 use Prim.Native.Nat.{ℕ}

@@ -1,5 +1,4 @@
 -- How many wires rows and a state have: the sum of their parts.
--- Assumes nothing.
 use mathlib.Core.Path.{_≡_, refl, sym, ap, ap₂, _∙_}
 use mathlib.Core.Bool.{Bool}
 use mathlib.Core.List.{List, [], _∷_, _++_}
@@ -63,7 +62,8 @@ pub input-length : (d : Dimensions) (tables : Tables) (s : State) → length (in
 unfolding inputBits
 input-length d tables s =
     length-append (rowsBits (d .n) (rowsOf d tables)) (stateBits (d .n) s)
-    ∙ ap₂ _+_ (rows-length (d .n) (rowsOf d tables) ∙ ap (λ (k : ℕ). (d .n + d .n) * k) (tables-length d tables) ∙ twice (d .n) (rowCount d)) (state-length (d .n) s)
+    ∙ ap₂ _+_ (rows-length (d .n) (rowsOf d tables) ∙ ap (λ (k : ℕ). (d .n + d .n) * k) (tables-length d tables)
+    ∙ twice (d .n) (rowCount d)) (state-length (d .n) s)
 
 -- left rows, right rows, public rows and state, one behind the other
 pub input-parts : (d : Dimensions) → inputWires d ≡ (d .n + d .n) * d .left + (d .n + d .n) * d .right + (d .n + d .n) * d .public + stateWires (d .n)

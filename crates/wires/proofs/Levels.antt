@@ -1,6 +1,5 @@
 -- What is said of a level by its number: of a list whose last level stands first, and of a run's array, whose wires are those of its list. By cases on whether
 -- the level is the last, and by induction on the depth.
--- Assumes nothing.
 use mathlib.Core.Path.{_≡_, refl, sym, ap₂, _∙_}
 use mathlib.Core.Bool.{Bool, true, false, _&&_, cond}
 use mathlib.Core.List.{List, [], _∷_, _++_}
@@ -79,6 +78,7 @@ pub state-parts : (n : ℕ) (run : Run)
     ≡ stateBits n (stateOf run)
 unfolding stateBits
 state-parts n run =
-    ap₂ (λ (y x : List Bool). upto (bit (run .t)) n ++ (upto (bit (run .f)) n ++ (y ++ (x ++ (isSatisfied (run .standing) ∷ (isRefuted (run .standing) ∷ []))))))
+    ap₂ (λ (y x : List Bool). upto (bit (run .t)) n
+    ++ (upto (bit (run .f)) n ++ (y ++ (x ++ (isSatisfied (run .standing) ∷ (isRefuted (run .standing) ∷ []))))))
     (ap₂ (λ (k m : ℕ). upto (λ i. eqb i k) m) (sym (length-levels (run .depth) (run .levels))) (add-one n))
     (joined-cong _ _ n (λ l h. sym (level-group n (run .levels) (run .depth) l)))

@@ -1,5 +1,4 @@
 -- Laws of `upto` and `joined`: lengths, what stands at an address, one more, and cutting in two. By induction on the number of parts.
--- Assumes nothing.
 use mathlib.Core.Path.{_≡_, refl, sym, ap, ap₂, _∙_}
 use mathlib.Core.Bool.{Bool, false}
 use mathlib.Core.List.{List, [], _∷_, _++_, append-assoc, append-nil}
@@ -33,7 +32,8 @@ upto-past f n r i = ap (λ (k : ℕ). getD (upto f n ++ r) (k + i) false) (sym (
 pub upto-cong : (f g : ℕ → Bool) (n : ℕ) → ((i : ℕ) → i < n → f i ≡ g i) → upto f n ≡ upto g n
 unfolding upto
 upto-cong f g zero h = refl
-upto-cong f g (suc n) h = ap₂ (λ (x : Bool) (l : List Bool). x ∷ l) (h zero (omega arith)) (upto-cong (λ i. f (suc i)) (λ i. g (suc i)) n (λ i b. h (suc i) (omega arith)))
+upto-cong f g (suc n) h = ap₂ (λ (x : Bool) (l : List Bool). x ∷ l) (h zero (omega arith))
+    (upto-cong (λ i. f (suc i)) (λ i. g (suc i)) n (λ i b. h (suc i) (omega arith)))
 
 -- one more behind
 pub upto-more : (f : ℕ → Bool) (n : ℕ) → upto f (suc n) ≡ upto f n ++ (f n ∷ [])
@@ -54,7 +54,8 @@ upto-add f (suc a) b =
 pub joined-cong : (f g : ℕ → List Bool) (n : ℕ) → ((i : ℕ) → i < n → f i ≡ g i) → joined f n ≡ joined g n
 unfolding joined
 joined-cong f g zero h = refl
-joined-cong f g (suc n) h = ap₂ (λ (x y : List Bool). x ++ y) (h zero (omega arith)) (joined-cong (λ i. f (suc i)) (λ i. g (suc i)) n (λ i b. h (suc i) (omega arith)))
+joined-cong f g (suc n) h =
+    ap₂ (λ (x y : List Bool). x ++ y) (h zero (omega arith)) (joined-cong (λ i. f (suc i)) (λ i. g (suc i)) n (λ i b. h (suc i) (omega arith)))
 
 pub joined-more : (f : ℕ → List Bool) (n : ℕ) → joined f (suc n) ≡ joined f n ++ f n
 unfolding joined
@@ -79,7 +80,8 @@ module _ (w : ℕ) where
       let e : w * suc j + i ≡ length (f zero) + (w * j + i) = omega (arith, mul-suc w j, h zero) in
       rw (e, append-assoc) (getD-append-add (f zero) _ (w * j + i) false ∙ joined-at (λ i. f (suc i)) m r j i (λ j. h (suc j)) (le-of-suc-le-suc b) k)
 
-  pub joined-past : (f : ℕ → List Bool) (m : ℕ) (r : List Bool) (i : ℕ) → ((j : ℕ) → length (f j) ≡ w) → getD (joined f m ++ r) (w * m + i) false ≡ getD r i false
+  pub joined-past : (f : ℕ → List Bool) (m : ℕ) (r : List Bool) (i : ℕ)
+      → ((j : ℕ) → length (f j) ≡ w) → getD (joined f m ++ r) (w * m + i) false ≡ getD r i false
   joined-past f m r i h = ap (λ (k : ℕ). getD (joined f m ++ r) (k + i) false) (sym (length-joined f m h)) ∙ getD-append-add (joined f m) r i false
 
 -- cut into lists of w wires

@@ -1,5 +1,4 @@
 -- Wires stored in bytes from a place on: one more, and a list behind a list. From `sets` of two lists in a row.
--- Assumes nothing.
 use mathlib.Core.Path.{_≡_, refl, sym, ap, ap₂, _∙_}
 use mathlib.Core.Bool.{Bool}
 use mathlib.Core.List.{List, [], _∷_, _++_, map-append}
@@ -29,7 +28,8 @@ stored-append b at v w =
     ∙ ap (λ (k : ℕ). sets (stored b at v) (at + k) (bytesOf w)) (length-map v digit)
 
 -- what is stored behind what was stored
-pub stored-then : (b : List ℕ) {c d : List ℕ} (at next : ℕ) (v w : List Bool) → c ≡ stored b at v → next ≡ at + length v → d ≡ stored c next w → d ≡ stored b at (v ++ w)
+pub stored-then : (b : List ℕ) {c d : List ℕ} (at next : ℕ) (v w : List Bool) → c ≡ stored b at v → next ≡ at + length v
+    → d ≡ stored c next w → d ≡ stored b at (v ++ w)
 stored-then b at next v w e k f = f ∙ ap₂ (λ (l : List ℕ) (p : ℕ). stored l p w) e k ∙ sym (stored-append b at v w)
 
 -- a turn of a loop that stores f 0, f 1, ..

@@ -42,8 +42,12 @@ pub fn pack(
     run: Run,
     bytes: &mut [u8],
 ) -> Outcome
-    ensures { λ r. ⌜ r ≡ outcome (packChecks d (allTables (now (left .entry)) (now (right .entry)) (now (public .entry))) run (length (now (bytes .entry)))) ⌝ }
-    ensures { λ _. ⌜ now (bytes .exit) ≡ packed d (allTables (now (left .entry)) (now (right .entry)) (now (public .entry))) run (now (bytes .entry)) ⌝ }
+    ensures { λ r.
+        ⌜ r ≡ outcome (packChecks d (allTables (now (left .entry)) (now (right .entry)) (now (public .entry))) run
+        (length (now (bytes .entry)))) ⌝ }
+    ensures { λ _.
+        ⌜ now (bytes .exit) ≡ packed d (allTables (now (left .entry)) (now (right .entry)) (now (public .entry)))
+        run (now (bytes .entry)) ⌝ }
 {
     match check(d, left, right, public, run, bytes.len()) {
         Outcome::Taken => {}
@@ -57,7 +61,8 @@ pub fn pack(
     Outcome::Taken
 }
 
-// Packs a run's state into the front of the bytes; later bytes stay. False, and no byte changed, where they are too few or the run is not well-formed.
+// Packs a run's state into the front of the bytes; later bytes stay. False, and no byte changed, where they are too few or the run is not
+// well-formed.
 pub fn pack_state(run: Run, bytes: &mut [u8]) -> bool
     ensures { λ r. ⌜ r ≡ packable run (length (now (bytes .entry))) ⌝ }
     ensures { λ _. ⌜ now (bytes .exit) ≡ packedState run (now (bytes .entry)) ⌝ }

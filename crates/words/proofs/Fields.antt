@@ -38,7 +38,8 @@ twice (suc m) = suc (suc (twice m))
 low-field : (k y e : ℕ) → bitAnd y (e * 2 ^ (k + k) + (2 ^ k - 1)) ≡ bitAnd (y / 2 ^ (k + k)) e * 2 ^ (k + k) + y % 2 ^ k
 low-field k y e =
     ap (λ (n : ℕ). bitAnd n (e * 2 ^ (k + k) + (2 ^ k - 1))) (sym (split y (k + k)))
-    ∙ and-block (k + k) (y / 2 ^ (k + k)) e (y % 2 ^ (k + k)) (2 ^ k - 1) (mod-lt y (pow-pos (k + k))) (lt-of-lt-of-le (ones-lt k) (pow-mono (le-add-right k k)))
+    ∙ and-block (k + k) (y / 2 ^ (k + k)) e (y % 2 ^ (k + k)) (2 ^ k - 1)
+    (mod-lt y (pow-pos (k + k))) (lt-of-lt-of-le (ones-lt k) (pow-mono (le-add-right k k)))
     ∙ ap (λ (n : ℕ). bitAnd (y / 2 ^ (k + k)) e * 2 ^ (k + k) + n) (and-mask (y % 2 ^ (k + k)) k ∙ mod-mod-pow y k k)
 
 sum-fields : (a b p u v : ℕ) → (a * p + u) + (b * p + v) ≡ (a + b) * p + (u + v)

@@ -1,5 +1,4 @@
 -- `answer_text` meets its contract: the appends are one, and what they append has room.
--- Assumes nothing.
 use mathlib.Core.Path.{ap, _∙_}
 use Prim.Native.Nat.{ℕ}
 use native.Mathlib.Omega.{arith}
@@ -9,6 +8,17 @@ use Rattle.answers.proofs.Composing.{answer-composed}
 use borrow.Author.Needs.{needs}
 use Rattle.answers.proofs.answer_text.Statement.{statement}
 use Rattle.answers.proofs.answer_text.Tie as tie
+
+-- ---- the places of the code, each from the one behind it
+
+abbrev begun : tie.After-append → tie.After-empty
+begun c = c .before .before
+
+abbrev headed : tie.After-decimal → tie.After-append
+headed c = c .before
+
+abbrev counted : tie.After-append2 → tie.After-decimal
+counted c = c .before .before
 
 empty-requires : tie.Need-empty-requires
 empty-requires c κs = search needs
@@ -36,23 +46,27 @@ verdict-requires-2 c κs = search needs
 
 returns : tie.Need-returns
 returns c =
-    let steps = c .before .before in
-    let start = steps .before .before .before .before .before .before in
-    answer-composed (start .args .n) (start .args .given) (steps .before .before .before .before .before .empty .result) (steps .before .before .before .append .result)
-    (steps .before .before .decimal .result) (steps .append2 .result) (c .verdict .result) (omega arith)
-    (steps .before .before .before .before .before .empty .ensures) (steps .before .before .before .append .ensures) (steps .before .before .decimal .ensures)
-    (steps .append2 .ensures) (c .verdict .ensures)
-    ∙ ap (λ (k : ℕ). textOf (answerText k (start .args .given))) (omega arith)
+    let at-end = c .before .before in
+    let at-count = counted at-end in
+    let at-head = headed at-count in
+    let at-empty = begun at-head in
+    let s = at-empty .before in
+    answer-composed (s .args .n) (s .args .given)
+    (at-empty .empty .result) (at-head .append .result) (at-count .decimal .result) (at-end .append2 .result) (c .verdict .result) (omega arith)
+    (at-empty .empty .ensures) (at-head .append .ensures) (at-count .decimal .ensures) (at-end .append2 .ensures) (c .verdict .ensures)
+    ∙ ap (λ (k : ℕ). textOf (answerText k (s .args .given))) (omega arith)
 
 returns-2 : tie.Need-returns-2
 returns-2 c =
-    let steps = c .before .before in
-    let start = steps .before .before .before .before .before .before in
-    answer-composed 32 (start .args .given) (steps .before .before .before .before .before .empty .result) (steps .before .before .before .append .result)
-    (steps .before .before .decimal .result) (steps .append2 .result) (c .verdict2 .result) (omega arith)
-    (steps .before .before .before .before .before .empty .ensures) (steps .before .before .before .append .ensures) (steps .before .before .decimal .ensures)
-    (steps .append2 .ensures) (c .verdict2 .ensures)
-    ∙ ap (λ (k : ℕ). textOf (answerText k (start .args .given))) (omega arith)
+    let at-end = c .before .before in
+    let at-count = counted at-end in
+    let at-head = headed at-count in
+    let at-empty = begun at-head in
+    let s = at-empty .before in
+    answer-composed 32 (s .args .given)
+    (at-empty .empty .result) (at-head .append .result) (at-count .decimal .result) (at-end .append2 .result) (c .verdict2 .result) (omega arith)
+    (at-empty .empty .ensures) (at-head .append .ensures) (at-count .decimal .ensures) (at-end .append2 .ensures) (c .verdict2 .ensures)
+    ∙ ap (λ (k : ℕ). textOf (answerText k (s .args .given))) (omega arith)
 
 pub answer-text-spec : {M : Type 1} → statement M
 answer-text-spec =

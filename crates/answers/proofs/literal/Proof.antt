@@ -1,5 +1,4 @@
 -- `literal` meets its contract: two appends are one, and the sign picks the definition's case.
--- Assumes nothing.
 use mathlib.Core.Path.{sym, ap, _∙_}
 use mathlib.Core.Bool.{Bool}
 use Rattle.lexer.specs.Spelling.{bytes}
@@ -32,13 +31,15 @@ decimal-requires-2 c κs = search needs
 returns : tie.Need-returns
 returns c =
     let start = c .before .before .before .before .args in
-    appended-then (start .text) (bytes " ") (decimal (start .variable)) (c .before .append .result) (c .decimal .result) (c .before .append .ensures) (c .decimal .ensures)
+    appended-then (start .text) (bytes " ") (decimal (start .variable)) (c .before .append .result) (c .decimal .result)
+    (c .before .append .ensures) (c .decimal .ensures)
     ∙ ap (λ (b : Bool). appended (start .text) (literal (start .variable) b)) (sym (c .before .before .before .if1 .taken))
 
 returns-2 : tie.Need-returns-2
 returns-2 c =
     let start = c .before .before .before .before .args in
-    appended-then (start .text) (bytes " -") (decimal (start .variable)) (c .before .append2 .result) (c .decimal2 .result) (c .before .append2 .ensures) (c .decimal2 .ensures)
+    appended-then (start .text) (bytes " -") (decimal (start .variable)) (c .before .append2 .result) (c .decimal2 .result)
+    (c .before .append2 .ensures) (c .decimal2 .ensures)
     ∙ ap (λ (b : Bool). appended (start .text) (literal (start .variable) b)) (sym (c .before .before .before .if1 .left))
 
 pub literal-spec : {M : Type 1} → statement M

@@ -1,5 +1,4 @@
 -- `literals` meets its contract. The invariant: appending the literals that are left gives what appending all gives.
--- Assumes nothing.
 use mathlib.Core.Path.{_≡_, sym, ap, _∙_}
 use mathlib.Core.Bool.{Bool}
 use Prim.Native.Nat.{ℕ, _-_, _+_, _≤_}

@@ -1,5 +1,4 @@
 -- `refusal_text` meets its contract: what is appended to the refusal's line has room.
--- Assumes nothing.
 use Rattle.answers.proofs.Composing.{refusal-composed}
 use borrow.Author.Needs.{needs}
 use Rattle.answers.proofs.refusal_text.Statement.{statement}

@@ -1,5 +1,4 @@
 -- `verdict` meets its contract: the appends are one, and the verdict picks the definition's case.
--- Assumes nothing.
 use mathlib.Core.Path.{sym, ap, _∙_}
 use Rattle.text.specs.Texts.{appended}
 use Rattle.verdicts.specs.declared.Verdict.{Verdict}

@@ -1,5 +1,4 @@
 -- `check` meets its contract: each test of the code is a check of the definition, in its order.
--- Assumes nothing.
 use mathlib.Core.Path.{_≡_, sym, ap, _∙_}
 use mathlib.Core.Bool.{not}
 use Prim.Native.Nat.{ℕ}
@@ -13,6 +12,14 @@ use borrow.Author.Needs.{needs}
 use Rattle.bristol.proofs.check.Statement.{statement}
 use Rattle.bristol.proofs.check.Tie as tie
 
+-- ---- the places of the code, each from the one behind it
+
+abbrev start : tie.After-check → tie.Start
+start c = c .before .before
+
+abbrev checked : tie.After-accepted → tie.After-check
+checked c = c .before .before .before .before
+
 check-requires : tie.Need-check-requires
 check-requires c κs = search needs
 
@@ -24,8 +31,9 @@ enum-known-refusal c = search needs
 
 returns : tie.Need-returns
 returns c =
-    let start = c .before .before .before .before .before .args in
-    refuse-size (start .d) (now (start .gates)) _ (sym (c .before .before .before .check .ensures) ∙ c .before .refusal .given .1)
+    let at-check = c .before .before .before in
+    let s = start at-check in
+    refuse-size (s .args .d) (now (s .args .gates)) _ (sym (at-check .check .ensures) ∙ c .before .refusal .given .1)
 
 input-wires-requires : tie.Need-input-wires-requires
 input-wires-requires c κs = search needs
@@ -34,25 +42,25 @@ accepted-requires : tie.Need-accepted-requires
 accepted-requires c κs = search needs
 
 -- the sizes are within the limits
-sized : (c : tie.After-accepted) → let start = c .before .before .before .before .before .before .args in outcome (sizeChecks (start .d)) ≡ Taken
-sized c = sym (c .before .before .before .before .check .ensures) ∙ c .before .before .enum-told .given .1
+sized : (c : tie.After-accepted) → outcome (sizeChecks (start (checked c) .args .d)) ≡ Taken
+sized c = sym (checked c .check .ensures) ∙ c .before .before .enum-told .given .1
 
 -- the gates are judged behind the inputs
-judged : (c : tie.After-accepted) → let start = c .before .before .before .before .before .before .args in c .accepted .result ≡ accepted (inputWires (start .d)) (now (start .gates))
+judged : (c : tie.After-accepted) → let s = start (checked c) in c .accepted .result ≡ accepted (inputWires (s .args .d)) (now (s .args .gates))
 judged c =
-    let start = c .before .before .before .before .before .before .args in
-    c .accepted .ensures ∙ ap (λ (k : ℕ). accepted k (now (start .gates))) (c .before .input-wires .ensures)
+    let s = start (checked c) in
+    c .accepted .ensures ∙ ap (λ (k : ℕ). accepted k (now (s .args .gates))) (c .before .input-wires .ensures)
 
 returns-2 : tie.Need-returns-2
 returns-2 c =
-    let start = c .before .before .before .before .before .before .before .args in
-    refuse-gates (start .d) (now (start .gates)) (sized (c .before))
+    let s = start (checked (c .before)) in
+    refuse-gates (s .args .d) (now (s .args .gates)) (sized (c .before))
     (ap not (sym (judged (c .before))) ∙ c .if1 .taken)
 
 returns-3 : tie.Need-returns-3
 returns-3 c =
-    let start = c .before .before .before .before .before .before .before .args in
-    take-circuit (start .d) (now (start .gates)) (sized (c .before))
+    let s = start (checked (c .before)) in
+    take-circuit (s .args .d) (now (s .args .gates)) (sized (c .before))
     (ap not (sym (judged (c .before))) ∙ c .if1 .left)
 
 pub check-spec : {M : Type 1} → statement M

@@ -1,5 +1,4 @@
 -- `gate_text` meets its contract: three words a gate, and a wire a gate behind the inputs.
--- Assumes nothing.
 use mathlib.Core.Path.{sym, ap, _∙_}
 use native.Mathlib.Omega.{arith}
 use denote.Ref.{now}

@@ -1,5 +1,4 @@
 -- `line_text` meets its contract: the number picks the line.
--- Assumes nothing.
 use mathlib.Core.Path.{_≡_, sym, ap, _∙_}
 use mathlib.Core.Bool.{true}
 use mathlib.Core.List.{[]}

@@ -1,5 +1,4 @@
 -- `put_line` meets its contract: what the line's text holds is copied if it fits.
--- Assumes nothing.
 use mathlib.Core.Path.{_≡_, sym}
 use Prim.Native.Nat.{_+_, _/_}
 use native.Mathlib.Omega.{arith}
@@ -24,7 +23,8 @@ number : (c : tie.Start) → length (linesOf (c .args .d) (gatesOf (now (c .args
 number c = taken-lines (c .args .d) (now (c .args .gates)) (c .pre .0)
 
 -- what the line's text holds
-text : (c : tie.After-line-text) → let start = c .before .before .before .args in Holds (c .line-text .result) (lineAt (start .d) (now (start .gates)) (start .line))
+text : (c : tie.After-line-text) → let start = c .before .before .before .args in
+    Holds (c .line-text .result) (lineAt (start .d) (now (start .gates)) (start .line))
 text c =
     let start = c .before .before .before .args in
     holds _ _ (c .line-text .ensures) (lines-length (start .d) (gatesOf (now (start .gates))) (start .line))
@@ -33,7 +33,8 @@ returns : tie.Need-returns
 returns c =
     let call = c .before in
     let start = call .before .before .before in
-    line-long (start .args .d) (now (start .args .gates)) (start .args .line) (now (start .args .bytes)) (start .pre .0) (omega (arith, number start, start .pre .1))
+    line-long (start .args .d) (now (start .args .gates)) (start .args .line) (now (start .args .bytes)) (start .pre .0)
+    (omega (arith, number start, start .pre .1))
     (call .line-text .result .length) (text call .size) (c .if1 .taken)
 
 array-share-prefix-own : tie.Need-array-share-prefix-own
@@ -55,8 +56,10 @@ returns-2 c =
     let copy = c .before .before in
     let call = copy .before .before .before .before .before in
     let start = call .before .before .before in
-    line-copied (start .args .d) (now (start .args .gates)) (start .args .line) (now (start .args .bytes)) (start .pre .0) (omega (arith, number start, start .pre .1))
-    (call .line-text .result .length) (text call .size) (take (call .line-text .result .length) (call .line-text .result .bytes)) _ (copy .before .before .before .before .if1 .left)
+    line-copied (start .args .d) (now (start .args .gates)) (start .args .line) (now (start .args .bytes)) (start .pre .0)
+    (omega (arith, number start, start .pre .1))
+    (call .line-text .result .length) (text call .size) (take (call .line-text .result .length) (call .line-text .result .bytes)) _
+    (copy .before .before .before .before .if1 .left)
     (text call .front) (copy .copy .ensures .1)
 
 pub put-line-spec : {M : Type 1} → statement M

@@ -1,6 +1,5 @@
 -- `put_lines` meets its contract. The loop's invariant, `Put`: the lines that are put, and those that still fit behind them, are those that fit from
 -- the first on. The measure is the number of lines to come.
--- Assumes nothing.
 use mathlib.Core.Path.{_≡_, ap, _∙_}
 use Prim.Native.Nat.{_+_, _-_, _/_}
 use native.Mathlib.Omega.{arith}
@@ -24,10 +23,24 @@ Inv-loop d gates line bytes₀ next₀ at₀ bytes next at = Put (linesOf d (gat
 abbrev μ-loop : tie.MeasureT-loop
 μ-loop d gates line bytes₀ next₀ at₀ bytes next at = 4 + length gates / 3 - next
 
+-- ---- the places of the code, each from the one behind it
+
+abbrev start : tie.At-loop Inv-loop μ-loop → tie.Start Inv-loop μ-loop
+start c = c .before .before .before
+
+abbrev turn : tie.After-put-line Inv-loop μ-loop → tie.At-loop Inv-loop μ-loop
+turn c = c .before .before .before
+
+abbrev refusing : tie.At-match-keys2 Inv-loop μ-loop → tie.After-put-line Inv-loop μ-loop
+refusing c = c .before .before .before
+
+abbrev putting : tie.After-known-told Inv-loop μ-loop → tie.After-put-line Inv-loop μ-loop
+putting c = c .before .before .before .before .before
+
 loop-holds : tie.Need-loop-holds Inv-loop μ-loop
 loop-holds c =
-    let start = c .before .before .args in
-    none-put (linesOf (start .d) (gatesOf (now (start .gates)))) (now (start .bytes)) (start .line)
+    let s = c .before .before in
+    none-put (linesOf (s .args .d) (gatesOf (now (s .args .gates)))) (now (s .args .bytes)) (s .args .line)
 
 add-loop : tie.Need-add-loop Inv-loop μ-loop
 add-loop c = search needs
@@ -42,7 +55,7 @@ part-put-line-end : tie.Need-part-put-line-end Inv-loop μ-loop
 part-put-line-end c = omega (arith, c .before .loop .inv .inside, c .before .loop .inv .same)
 
 put-line-requires : tie.Need-put-line-requires Inv-loop μ-loop
-put-line-requires c κs = (c .before .before .before .before .before .pre, c .before .loop-test .taken)
+put-line-requires c κs = (start (c .before .before) .pre, c .before .loop-test .taken)
 
 enum-known-length : tie.Need-enum-known-length Inv-loop μ-loop
 enum-known-length c = search needs
@@ -53,55 +66,65 @@ number c = taken-lines (c .args .d) (now (c .args .gates)) (c .pre)
 
 -- the next line was too long, and changed no byte
 last : (c : tie.At-match-keys2 Inv-loop μ-loop)
-    → let loop = c .before .before .before .before .before .before in
-    let start = loop .before .before .before in
-    (putMid (loop .loop .at) (length (loop .loop .bytes) - loop .loop .at) (loop .loop .bytes) (c .before .before .before .put-line .last .1 .1 .1 .0) ≡ loop .loop .bytes)
-    × (fitting (length (now (start .args .bytes)) - loop .loop .at) (drop (loop .loop .next) (linesOf (start .args .d) (gatesOf (now (start .args .gates))))) ≡ [])
+    → let call = refusing c in
+    let at-turn = turn call in
+    let s = start at-turn in
+    let l = at-turn .loop in
+    (putMid (l .at) (length (l .bytes) - l .at) (l .bytes) (call .put-line .last .1 .1 .1 .0) ≡ l .bytes)
+    × (fitting (length (now (s .args .bytes)) - l .at) (drop (l .next) (linesOf (s .args .d) (gatesOf (now (s .args .gates))))) ≡ [])
 last c =
-    let call = c .before .before .before in
-    let loop = call .before .before .before in
-    let start = loop .before .before .before in
-    line-last (start .args .d) (now (start .args .gates)) (start .pre) (start .args .line) (now (start .args .bytes)) (loop .loop .bytes) (loop .loop .next) (loop .loop .at)
-    (loop .loop .inv) (omega (arith, number start, call .before .before .loop-test .taken)) (call .put-line .result) _ (call .put-line .ensures .0) (call .put-line .ensures .1) (c .match .keys2)
+    let call = refusing c in
+    let at-turn = turn call in
+    let s = start at-turn in
+    let l = at-turn .loop in
+    line-last (s .args .d) (now (s .args .gates)) (s .pre) (s .args .line) (now (s .args .bytes)) (l .bytes) (l .next) (l .at) (l .inv)
+    (omega (arith, number s, call .before .before .loop-test .taken)) (call .put-line .result) _ (call .put-line .ensures .0) (call .put-line .ensures .1)
+    (c .match .keys2)
 
 same-length : tie.Need-same-length Inv-loop μ-loop
-same-length c = ap length (last (c .before) .0) ∙ c .before .before .before .before .before .before .before .loop .inv .same
+same-length c = ap length (last (c .before) .0) ∙ turn (refusing (c .before)) .loop .inv .same
 
 returns : tie.Need-returns Inv-loop μ-loop
 returns c =
-    let loop = c .before .before .before .before .before .before .before in
-    let start = loop .before .before .before in
-    let p = lines-refused (start .args .d) (now (start .args .gates)) (start .pre) (start .args .line) (now (start .args .bytes)) (loop .loop .bytes) (loop .loop .next) (loop .loop .at)
-    (loop .loop .inv) (last (c .before) .1) (omega (arith, number start)) (c .if1 .taken) in
+    let at-turn = turn (refusing (c .before)) in
+    let s = start at-turn in
+    let l = at-turn .loop in
+    let p = lines-refused (s .args .d) (now (s .args .gates)) (s .pre) (s .args .line) (now (s .args .bytes)) (l .bytes) (l .next) (l .at)
+    (l .inv) (last (c .before) .1) (omega (arith, number s)) (c .if1 .taken) in
     (p .0, last (c .before) .0 ∙ p .1)
 
 sub-t18 : tie.Need-sub-t18 Inv-loop μ-loop
-sub-t18 c = c .before .before .before .before .before .before .before .loop .inv .after
+sub-t18 c = turn (refusing (c .before)) .loop .inv .after
 
 same-length-2 : tie.Need-same-length-2 Inv-loop μ-loop
-same-length-2 c = ap length (last (c .before) .0) ∙ c .before .before .before .before .before .before .before .loop .inv .same
+same-length-2 c = ap length (last (c .before) .0) ∙ turn (refusing (c .before)) .loop .inv .same
 
 returns-2 : tie.Need-returns-2 Inv-loop μ-loop
 returns-2 c =
-    let loop = c .before .before .before .before .before .before .before in
-    let start = loop .before .before .before in
-    let p = lines-put (start .args .d) (now (start .args .gates)) (start .pre) (start .args .line) (now (start .args .bytes)) (loop .loop .bytes) (loop .loop .next) (loop .loop .at)
-    (loop .loop .inv) (last (c .before) .1) (λ z. absurd (c .if1 .left z)) in
+    let at-turn = turn (refusing (c .before)) in
+    let s = start at-turn in
+    let l = at-turn .loop in
+    let p = lines-put (s .args .d) (now (s .args .gates)) (s .pre) (s .args .line) (now (s .args .bytes)) (l .bytes) (l .next) (l .at)
+    (l .inv) (last (c .before) .1) (λ z. absurd (c .if1 .left z)) in
     (p .0, last (c .before) .0 ∙ p .1)
 
 -- the next line was put
 more : (c : tie.After-known-told Inv-loop μ-loop)
-    → let loop = c .before .before .before .before .before .before .before .before in
-    let start = loop .before .before .before in
-    Put (linesOf (start .args .d) (gatesOf (now (start .args .gates)))) (now (start .args .bytes)) (start .args .line)
-    (putMid (loop .loop .at) (length (loop .loop .bytes) - loop .loop .at) (loop .loop .bytes) (c .before .before .before .before .before .put-line .last .1 .1 .1 .0))
-    (loop .loop .next + 1) (loop .loop .at + c .before .length .given .0 .0)
+    → let call = putting c in
+    let at-turn = turn call in
+    let s = start at-turn in
+    let l = at-turn .loop in
+    Put (linesOf (s .args .d) (gatesOf (now (s .args .gates)))) (now (s .args .bytes)) (s .args .line)
+    (putMid (l .at) (length (l .bytes) - l .at) (l .bytes) (call .put-line .last .1 .1 .1 .0))
+    (l .next + 1) (l .at + c .before .length .given .0 .0)
 more c =
-    let call = c .before .before .before .before .before in
-    let loop = call .before .before .before in
-    let start = loop .before .before .before in
-    line-more (start .args .d) (now (start .args .gates)) (start .pre) (start .args .line) (now (start .args .bytes)) (loop .loop .bytes) (loop .loop .next) (loop .loop .at)
-    (loop .loop .inv) (omega (arith, number start, call .before .before .loop-test .taken)) (call .put-line .result) _ (call .put-line .ensures .0) (call .put-line .ensures .1) _ (c .before .length .given .1)
+    let call = putting c in
+    let at-turn = turn call in
+    let s = start at-turn in
+    let l = at-turn .loop in
+    line-more (s .args .d) (now (s .args .gates)) (s .pre) (s .args .line) (now (s .args .bytes)) (l .bytes) (l .next) (l .at) (l .inv)
+    (omega (arith, number s, call .before .before .loop-test .taken)) (call .put-line .result) _ (call .put-line .ensures .0) (call .put-line .ensures .1) _
+    (c .before .length .given .1)
 
 add-at : tie.Need-add-at Inv-loop μ-loop
 add-at c = omega (arith, more c .inside)
@@ -110,7 +133,7 @@ add-next : tie.Need-add-next Inv-loop μ-loop
 add-next c = search needs
 
 loop-less : tie.Need-loop-less Inv-loop μ-loop
-loop-less c = omega (arith, c .before .before .before .before .before .before .before .loop-test .taken)
+loop-less c = omega (arith, putting c .before .before .loop-test .taken)
 
 loop-again : tie.Need-loop-again Inv-loop μ-loop
 loop-again c = more c
@@ -123,11 +146,11 @@ same-length-3 c = c .before .loop .inv .same
 
 returns-3 : tie.Need-returns-3 Inv-loop μ-loop
 returns-3 c =
-    let loop = c .before in
-    let start = loop .before .before .before in
-    lines-put (start .args .d) (now (start .args .gates)) (start .pre) (start .args .line) (now (start .args .bytes)) (loop .loop .bytes) (loop .loop .next) (loop .loop .at)
-    (loop .loop .inv) (fitting-past (linesOf (start .args .d) (gatesOf (now (start .args .gates)))) (loop .loop .next) _ (omega (arith, number start, c .loop-test .left)))
-    (λ z. omega (arith, number start, z, c .loop-test .left))
+    let s = start (c .before) in
+    let l = c .before .loop in
+    lines-put (s .args .d) (now (s .args .gates)) (s .pre) (s .args .line) (now (s .args .bytes)) (l .bytes) (l .next) (l .at) (l .inv)
+    (fitting-past (linesOf (s .args .d) (gatesOf (now (s .args .gates)))) (l .next) _ (omega (arith, number s, c .loop-test .left)))
+    (λ z. omega (arith, number s, z, c .loop-test .left))
 
 pub put-lines-spec : {M : Type 1} → statement M
 put-lines-spec =

@@ -1,5 +1,4 @@
 -- `write_line` meets its contract: each return cites the law of what its checks found.
--- Assumes nothing.
 use mathlib.Core.Path.{_≡_, sym, _∙_}
 use native.Mathlib.Omega.{arith}
 use denote.Ref.{now}
@@ -10,6 +9,17 @@ use Rattle.bristol.proofs.Requests.{taken-lines, with-line, refuse-circ
 use borrow.Author.Needs.{needs}
 use Rattle.bristol.proofs.write_line.Statement.{statement}
 use Rattle.bristol.proofs.write_line.Tie as tie
+
+-- ---- the places of the code, each from the one behind it
+
+abbrev start : tie.After-check → tie.Start
+start c = c .before .before .before
+
+abbrev checked : tie.After-enum-told → tie.After-check
+checked c = c .before .before
+
+abbrev told : tie.After-put-line → tie.After-enum-told
+told c = c .before .before .before
 
 check-requires : tie.Need-check-requires
 check-requires c κs = search needs
@@ -22,22 +32,24 @@ enum-known-refusal c = search needs
 
 returns : tie.Need-returns
 returns c =
-    let start = c .before .before .before .before .before .before .args in
-    with-line (start .d) (now (start .gates)) (start .line) (now (start .bytes)) _ _
-    (refuse-circuit (start .d) (now (start .gates)) (start .line) (now (start .bytes)) _ (sym (c .before .before .before .check .ensures) ∙ c .before .refusal .given .1))
+    let at-check = c .before .before .before in
+    let s = start at-check .args in
+    with-line (s .d) (now (s .gates)) (s .line) (now (s .bytes)) _ _
+    (refuse-circuit (s .d) (now (s .gates)) (s .line) (now (s .bytes)) _ (sym (at-check .check .ensures) ∙ c .before .refusal .given .1))
 
 -- the circuit was taken
-taken : (c : tie.After-enum-told) → let start = c .before .before .before .before .before .args in outcome (circuitChecks (start .d) (now (start .gates))) ≡ Taken
-taken c = sym (c .before .before .check .ensures) ∙ c .enum-told .given .1
+taken : (c : tie.After-enum-told) → let s = start (checked c) .args in outcome (circuitChecks (s .d) (now (s .gates))) ≡ Taken
+taken c = sym (checked c .check .ensures) ∙ c .enum-told .given .1
 
 add-if1 : tie.Need-add-if1
 add-if1 c = search needs
 
 returns-2 : tie.Need-returns-2
 returns-2 c =
-    let start = c .before .before .before .before .before .before .args in
-    with-line (start .d) (now (start .gates)) (start .line) (now (start .bytes)) _ _
-    (past-last (start .d) (now (start .gates)) (start .line) (now (start .bytes)) (taken (c .before)) (omega (arith, taken-lines (start .d) (now (start .gates)) (taken (c .before)))))
+    let s = start (checked (c .before)) .args in
+    with-line (s .d) (now (s .gates)) (s .line) (now (s .bytes)) _ _
+    (past-last (s .d) (now (s .gates)) (s .line) (now (s .bytes)) (taken (c .before))
+    (omega (arith, taken-lines (s .d) (now (s .gates)) (taken (c .before)))))
 
 put-line-requires : tie.Need-put-line-requires
 put-line-requires c κs = (taken (c .before .before), omega arith)
@@ -47,8 +59,9 @@ same-length c = search needs
 
 returns-3 : tie.Need-returns-3
 returns-3 c =
-    let start = c .before .before .before .before .before .before .before .before .before .before .args in
-    with-line (start .d) (now (start .gates)) (start .line) (now (start .bytes)) _ _ (c .before .before .put-line .ensures)
+    let at-put = c .before .before in
+    let s = start (checked (told at-put)) .args in
+    with-line (s .d) (now (s .gates)) (s .line) (now (s .bytes)) _ _ (at-put .put-line .ensures)
 
 pub write-line-spec : {M : Type 1} → statement M
 write-line-spec =

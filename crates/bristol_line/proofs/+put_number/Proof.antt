@@ -1,5 +1,4 @@
 -- `put_number` meets its contract. The number falls with each call; the digits of x are those of x / 10 and one more.
--- Assumes nothing.
 use Prim.Native.Nat.{ℕ, _/_, _<_}
 use native.Mathlib.Omega.{arith}
 use denote.Ref.{now}

@@ -1,5 +1,4 @@
 -- `four_values` meets its contract: its pieces are the line.
--- Assumes nothing.
 use mathlib.Core.Path.{_≡_, ap₂, _∙_}
 use mathlib.Core.List.{List, [], _∷_, _++_, append-assoc}
 use Prim.Native.Nat.{ℕ, _*_}
@@ -45,7 +44,8 @@ returns c =
     let d = front .before .before .args .d in
     let wires = state .state-wires .result in
     let rows : ℕ → ℕ = λ k. 2 * d .n * k in
-    let fields : List ℕ → ℕ → List (List ℕ) = λ count k. count ∷ decimal (rows (d .left)) ∷ decimal (rows (d .right)) ∷ decimal (rows (d .public)) ∷ decimal k ∷ [] in
+    let fields : List ℕ → ℕ → List (List ℕ) =
+    λ count k. count ∷ decimal (rows (d .left)) ∷ decimal (rows (d .right)) ∷ decimal (rows (d .public)) ∷ decimal k ∷ [] in
     let pieces : (stations 4 d ++ spaced (rows (d .public))) ++ ended wires ≡ line (fields (decimal 4) wires) = simp append-assoc in
     made ((stations 4 d ++ spaced (rows (d .public))) ++ ended wires) (line (fourValues d)) _ _
     (three-pieces zeros (stations 4 d) (spaced (rows (d .public))) (ended wires) _ _ _ _ _ _

@@ -1,5 +1,4 @@
 -- `one_input` meets its contract: its pieces are the line.
--- Assumes nothing.
 use mathlib.Core.List.{_++_, append-assoc}
 use Rattle.lexer.specs.Spelling.{bytes}
 use Rattle.gates.specs.Gates.Gate.{INV}
@@ -24,12 +23,15 @@ put-requires-2 c κs = search needs
 
 returns : tie.Need-returns
 returns c =
-    let start = c .before .before .before .before .before .before .before .before .before .before .args in
-    made (((bytes "1 1 " ++ spaced (start .a)) ++ spaced (start .wire)) ++ bytes "INV\n") (gateLine (start .wire) (INV (start .a))) _ _
-    (four-pieces zeros (bytes "1 1 ") (spaced (start .a)) (spaced (start .wire)) (bytes "INV\n") _ _ _ _ _ _ _ _
-    (c .before .before .before .before .before .before .before .put .ensures)
-    (c .before .before .before .before .before .put-field .ensures .1)
-    (c .before .before .before .put-field2 .ensures .1)
+    let at-wire = c .before .before .before in
+    let at-first = at-wire .before .before in
+    let at-head = at-first .before .before in
+    let s = at-head .before .before .before .args in
+    made (((bytes "1 1 " ++ spaced (s .a)) ++ spaced (s .wire)) ++ bytes "INV\n") (gateLine (s .wire) (INV (s .a))) _ _
+    (four-pieces zeros (bytes "1 1 ") (spaced (s .a)) (spaced (s .wire)) (bytes "INV\n") _ _ _ _ _ _ _ _
+    (at-head .put .ensures)
+    (at-first .put-field .ensures .1)
+    (at-wire .put-field2 .ensures .1)
     (c .put2 .ensures)) (simp append-assoc)
 
 pub one-input-spec : {M : Type 1} → statement M

@@ -1,5 +1,4 @@
 -- `put` meets its contract: four stores are a run of stores.
--- Assumes nothing.
 use denote.Ref.{now}
 use Rattle.bristol_line.proofs.Pieces.{four-bytes}
 use borrow.Author.Needs.{needs}

@@ -1,5 +1,4 @@
 -- `put_field` meets its contract: a byte behind the digits is stored with them.
--- Assumes nothing.
 use native.Mathlib.Omega.{arith}
 use denote.Ref.{now}
 use Rattle.text.specs.Decimal.{decimal}

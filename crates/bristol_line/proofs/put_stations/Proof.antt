@@ -1,5 +1,4 @@
 -- `put_stations` meets its contract: its three pieces stand one behind the other.
--- Assumes nothing.
 use Prim.Native.Nat.{_*_}
 use native.Mathlib.Omega.{arith}
 use denote.Ref.{now}

@@ -1,5 +1,4 @@
 -- `three_values` meets its contract: its pieces are the line.
--- Assumes nothing.
 use mathlib.Core.Path.{_≡_, ap₂, _∙_}
 use mathlib.Core.List.{List, [], _∷_, _++_, append-assoc}
 use Prim.Native.Nat.{ℕ, _*_}

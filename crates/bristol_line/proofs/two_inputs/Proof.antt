@@ -1,5 +1,4 @@
 -- `two_inputs` meets its contract: its pieces are the line.
--- Assumes nothing.
 use mathlib.Core.List.{_∷_, _++_, append-assoc}
 use denote.Ref.{now}
 use Rattle.lexer.specs.Spelling.{bytes}
@@ -27,14 +26,18 @@ put-requires-2 c κs = search needs
 
 returns : tie.Need-returns
 returns c =
-    let start = c .before .before .before .before .before .before .before .before .before .before .before .args in
-    made ((((bytes "2 1 " ++ spaced (start .a)) ++ spaced (start .b)) ++ spaced (start .wire)) ++ now (start .kind))
-    (bytes "2 1 " ++ decimal (start .a) ++ (32 ∷ decimal (start .b) ++ (32 ∷ decimal (start .wire) ++ (32 ∷ now (start .kind))))) _ _
-    (five-pieces zeros (bytes "2 1 ") (spaced (start .a)) (spaced (start .b)) (spaced (start .wire)) (now (start .kind)) _ _ _ _ _ _ _ _ _ _
-    (c .before .before .before .before .before .before .before .before .put .ensures)
-    (c .before .before .before .before .before .before .put-field .ensures .1)
-    (c .before .before .before .before .put-field2 .ensures .1)
-    (c .before .before .put-field3 .ensures .1)
+    let at-wire = c .before .before in
+    let at-second = at-wire .before .before in
+    let at-first = at-second .before .before in
+    let at-head = at-first .before .before in
+    let s = at-head .before .before .before .args in
+    made ((((bytes "2 1 " ++ spaced (s .a)) ++ spaced (s .b)) ++ spaced (s .wire)) ++ now (s .kind))
+    (bytes "2 1 " ++ decimal (s .a) ++ (32 ∷ decimal (s .b) ++ (32 ∷ decimal (s .wire) ++ (32 ∷ now (s .kind))))) _ _
+    (five-pieces zeros (bytes "2 1 ") (spaced (s .a)) (spaced (s .b)) (spaced (s .wire)) (now (s .kind)) _ _ _ _ _ _ _ _ _ _
+    (at-head .put .ensures)
+    (at-first .put-field .ensures .1)
+    (at-second .put-field2 .ensures .1)
+    (at-wire .put-field3 .ensures .1)
     (c .put2 .ensures)) (simp append-assoc)
 
 pub two-inputs-spec : {M : Type 1} → statement M

@@ -1,4 +1,4 @@
--- `read_clause` meets its contract: the token at hand and what follows it end the clause begun at `start`. Assumes nothing.
+-- `read_clause` meets its contract: the token at hand and what follows it end the clause begun at `start`.
 use mathlib.Core.Path.{sym, ap, _∙_}
 use Prim.Native.Nat.{_-_}
 use native.Mathlib.Omega.{arith}
@@ -16,6 +16,26 @@ Inv-loop text at n start start-end row₀ from₀ to₀ row from to = Begun n te
 
 abbrev μ-loop : tie.MeasureT-loop
 μ-loop text at n start start-end row₀ from₀ to₀ row from to = length text - to
+
+-- ---- the places of the code, each from the one behind it
+
+abbrev turn : tie.After-read-number Inv-loop μ-loop → tie.At-loop Inv-loop μ-loop
+turn c = c .before .before
+
+abbrev reading : tie.After-minus Inv-loop μ-loop → tie.After-read-number Inv-loop μ-loop
+reading c = c .before .before
+
+abbrev signed : tie.Else1 Inv-loop μ-loop → tie.After-minus Inv-loop μ-loop
+signed c = c .before .before
+
+abbrev low : tie.After-next-token2 Inv-loop μ-loop → tie.Else2 Inv-loop μ-loop
+low c = c .before .before
+
+abbrev number : tie.After-next-token2 Inv-loop μ-loop → tie.After-minus Inv-loop μ-loop
+number c = signed (low c .before)
+
+abbrev follows : tie.After-known-told3 Inv-loop μ-loop → tie.After-next-token2 Inv-loop μ-loop
+follows c = c .before .before .before
 
 next-token-requires : tie.Need-next-token-requires Inv-loop μ-loop
 next-token-requires c κs = search needs
@@ -51,21 +71,21 @@ enum-told-2 : tie.Need-enum-told-2 Inv-loop μ-loop
 enum-told-2 c = search needs
 
 returns-2 : tie.Need-returns-2 Inv-loop μ-loop
-returns-2 c = said _ _ _ _ (not-a-number (c .before .before .before .before .loop .inv) (sym (c .before .before .read-number .ensures) ∙ c .enum-told2 .given .1))
+returns-2 c =
+    let at-number = c .before .before in
+    said _ _ _ _ (not-a-number (turn at-number .loop .inv) (sym (at-number .read-number .ensures) ∙ c .enum-told2 .given .1))
 
 returns-3 : tie.Need-returns-3 Inv-loop μ-loop
 returns-3 c =
     let at-minus = c .before .before in
-    let at-read-number = at-minus .before .before in
-    let at-loop = at-read-number .before .before in
-    said _ _ _ _ (closes (at-loop .loop .inv) _ _ (sym (at-read-number .read-number .ensures) ∙ at-minus .minus .given .1) (c .if1 .taken))
+    let at-number = reading at-minus in
+    said _ _ _ _ (closes (turn at-number .loop .inv) _ _ (sym (at-number .read-number .ensures) ∙ at-minus .minus .given .1) (c .if1 .taken))
 
 returns-4 : tie.Need-returns-4 Inv-loop μ-loop
 returns-4 c =
-    let at-minus = c .before .before .before in
-    let at-read-number = at-minus .before .before in
-    let at-loop = at-read-number .before .before in
-    said _ _ _ _ (too-high (at-loop .loop .inv) _ _ (sym (at-read-number .read-number .ensures) ∙ at-minus .minus .given .1) (omega arith) (c .if2 .taken))
+    let at-minus = signed (c .before) in
+    let at-number = reading at-minus in
+    said _ _ _ _ (too-high (turn at-number .loop .inv) _ _ (sym (at-number .read-number .ensures) ∙ at-minus .minus .given .1) (omega arith) (c .if2 .taken))
 
 sub-with-literal : tie.Need-sub-with-literal Inv-loop μ-loop
 sub-with-literal c = search needs
@@ -89,12 +109,16 @@ loop-less c =
 
 loop-again : tie.Need-loop-again Inv-loop μ-loop
 loop-again c =
-    goes-on (c .before .before .before .before .before .before .before .before .before .before .before .before .loop .inv) _ _ (sym (c .before .before .before .before .before .before .before .before .before .before .read-number .ensures) ∙ c .before .before .before .before .before .before .before .before .minus .given .1) (omega arith) (c .before .before .before .before .before .before .if1 .left) (c .before .before .before .before .before .if2 .left) _ (c .before .before .before .before .with-literal .ensures) _ _
-    (found _ _ _ _ (sym (c .before .before .before .next-token2 .ensures) ∙ c .before .next .given .1))
+    goes-on (turn (reading (number (follows c))) .loop .inv) _ _
+    (sym (reading (number (follows c)) .read-number .ensures) ∙ number (follows c) .minus .given .1)
+    (omega arith) (low (follows c) .before .if1 .left) (low (follows c) .if2 .left) _ (follows c .before .with-literal .ensures) _ _
+    (found _ _ _ _ (sym (follows c .next-token2 .ensures) ∙ c .before .next .given .1))
 
 returns-5 : tie.Need-returns-5 Inv-loop μ-loop
 returns-5 c =
-    said _ _ _ _ (no-more (c .before .before .before .before .before .before .before .before .before .before .before .loop .inv) _ _ (sym (c .before .before .before .before .before .before .before .before .before .read-number .ensures) ∙ c .before .before .before .before .before .before .before .minus .given .1) (omega arith) (c .before .before .before .before .before .if1 .left) (c .before .before .before .before .if2 .left)
+    said _ _ _ _ (no-more (turn (reading (number (c .before .before))) .loop .inv) _ _
+    (sym (reading (number (c .before .before)) .read-number .ensures) ∙ number (c .before .before) .minus .given .1)
+    (omega arith) (low (c .before .before) .before .if1 .left) (low (c .before .before) .if2 .left)
     (none-first _ (sym (c .before .before .next-token2 .ensures) ∙ c .enum-told3 .given .1)))
 
 pub read-clause-spec : {M : Type 1} → statement M

@@ -1,4 +1,4 @@
--- `with_literal` meets its contract: `put` has the bit, or leaves the word. Assumes nothing.
+-- `with_literal` meets its contract: `put` has the bit, or leaves the word.
 use lib.Dec.{ltb}
 use borrow.Author.Needs.{needs}
 use Rattle.words.proofs.Truth.{on}

@@ -1,5 +1,4 @@
 -- `check_variables` meets its contract: the test is the definition's.
--- Assumes nothing.
 use Rattle.codes.proofs.AsBytes.{variables-refused, variables-taken}
 use Rattle.codes.proofs.check_variables.Statement.{statement}
 use Rattle.codes.proofs.check_variables.Tie as tie

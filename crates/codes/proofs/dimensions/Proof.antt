@@ -1,5 +1,4 @@
 -- `dimensions` meets its contract: each field is its number, held at 255.
--- Assumes nothing.
 use borrow.Author.Needs.{needs}
 use Rattle.codes.proofs.dimensions.Statement.{statement}
 use Rattle.codes.proofs.dimensions.Tie as tie

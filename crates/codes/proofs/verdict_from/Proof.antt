@@ -1,5 +1,4 @@
 -- `verdict_from` meets its contract: each arm's number decides the definition's tests, and the mask leaves a word.
--- Assumes nothing.
 use mathlib.Core.Path.{sym, ap, _∙_}
 use Prim.Native.Nat.{ℕ}
 use lib.Bits.{and-mask, mask-lt}

@@ -1,4 +1,4 @@
--- `join` meets its contract: each refusal is the definition's at the same text. Assumes nothing.
+-- `join` meets its contract: each refusal is the definition's at the same text.
 use mathlib.Core.Path.{sym, _∙_}
 use mathlib.Core.Bool.{true, false}
 use borrow.Author.Needs.{needs}

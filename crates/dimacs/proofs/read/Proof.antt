@@ -1,4 +1,4 @@
--- `read` meets its contract: the header's refusal or its n and m lead where the definition's do. Assumes nothing.
+-- `read` meets its contract: the header's refusal or its n and m lead where the definition's do.
 use mathlib.Core.Path.{sym, _∙_}
 use borrow.Author.Needs.{needs}
 use Rattle.dimacs.proofs.Texts.{overlong, by-header, limits}

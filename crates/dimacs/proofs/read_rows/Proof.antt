@@ -1,4 +1,4 @@
--- `read_rows` meets its contract: with each clause one row more is filled in. Assumes nothing.
+-- `read_rows` meets its contract: with each clause one row more is filled in.
 use mathlib.Core.Path.{sym, _∙_}
 use Prim.Native.Nat.{_-_}
 use native.Mathlib.Omega.{arith}

@@ -1,4 +1,4 @@
--- `read_tables` meets its contract: three tables that are the definition's are joined as the definition joins them. Assumes nothing.
+-- `read_tables` meets its contract: three tables that are the definition's are joined as the definition joins them.
 use mathlib.Core.Path.{ap, ap₂, _∙_}
 use borrow.Author.Needs.{needs}
 use Rattle.dimacs.specs.Text.{tableOf}

@@ -1,5 +1,4 @@
 -- `evaluate` meets its contract: each way of evaluating has it, and a trial's premises are what the tests found.
--- Assumes nothing.
 use borrow.Author.Needs.{needs}
 use mathlib.Core.Path.{sym, _∙_}
 use Prim.Native.Nat.{_+_, _/_}
@@ -21,8 +20,10 @@ bits-requires c κs = search needs
 try-out-requires : tie.Need-try-out-requires
 try-out-requires c κs =
     let at-if2 = c .before .before .before in
-    let a = start (at-if2 .before .before) .args in
-    (leb-true (length (a .inputs .now) + length (a .gates .now) / 3) 221184 (at-if2 .if2 .taken), sym (c .before .before .bits .ensures) ∙ c .before .if3 .taken)
+    let a = start (at-if2 .before .before) .args in (
+      leb-true (length (a .inputs .now) + length (a .gates .now) / 3) 221184 (at-if2 .if2 .taken),
+      sym (c .before .before .bits .ensures) ∙ c .before .if3 .taken,
+    )
 
 same-length : tie.Need-same-length
 same-length c = search needs
@@ -36,8 +37,10 @@ bits-requires-2 c κs = search needs
 try-out-large-requires : tie.Need-try-out-large-requires
 try-out-large-requires c κs =
     let at-if5 = c .before .before .before in
-    let a = start (at-if5 .before .before .before) .args in
-    (leb-true (length (a .inputs .now) + length (a .gates .now) / 3) 319488 (at-if5 .if5 .taken), sym (c .before .before .bits2 .ensures) ∙ c .before .if6 .taken)
+    let a = start (at-if5 .before .before .before) .args in (
+      leb-true (length (a .inputs .now) + length (a .gates .now) / 3) 319488 (at-if5 .if5 .taken),
+      sym (c .before .before .bits2 .ensures) ∙ c .before .if6 .taken,
+    )
 
 same-length-2 : tie.Need-same-length-2
 same-length-2 c = search needs

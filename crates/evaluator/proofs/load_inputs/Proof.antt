@@ -1,5 +1,4 @@
 -- `load_inputs` meets its contract: at each turn the first i bytes of the loaded inputs stand at the front.
--- Assumes nothing.
 use borrow.Author.Needs.{needs}
 use mathlib.Core.Path.{_≡_, refl, _∙_}
 use mathlib.Core.List.{_++_}
@@ -64,7 +63,8 @@ loop-again c =
       omega arith,
       omega arith,
       length-set (l .scratch) (l .i) _ ∙ l .inv .2,
-      next-byte _ _ _ _ _ (l .inv .3) (input-held n (s .pre .1) (l .i) (omega arith) (omega arith)) (omega (arith, kept (c .before .before), l .inv .2)) (omega (arith, inputs-length n)),
+      next-byte _ _ _ _ _ (l .inv .3) (input-held n (s .pre .1) (l .i) (omega arith) (omega arith)) (omega (arith, kept (c .before .before), l .inv .2))
+          (omega (arith, inputs-length n)),
     )
 
 same-length : tie.Need-same-length Inv-loop μ-loop

@@ -1,5 +1,4 @@
 -- `store_wires` meets its contract: at each turn the first i of the bytes stand at the front.
--- Assumes nothing.
 use borrow.Author.Needs.{needs}
 use mathlib.Core.Path.{_≡_, refl, _∙_}
 use mathlib.Core.List.{_++_}
@@ -40,7 +39,8 @@ loop-again c =
     let v = s .args .scratch .now in (
       omega arith,
       length-set (l .wires) (l .i) _ ∙ l .inv .1,
-      next-byte _ _ _ _ _ (l .inv .2) (stored-at v (s .args .count) (s .pre .0) (l .i) (omega arith)) (omega arith) (omega (arith, stored-length v (s .args .count) (s .pre .0))),
+      next-byte _ _ _ _ _ (l .inv .2) (stored-at v (s .args .count) (s .pre .0) (l .i) (omega arith)) (omega arith)
+          (omega (arith, stored-length v (s .args .count) (s .pre .0))),
     )
 
 same-length : tie.Need-same-length Inv-loop μ-loop
@@ -50,7 +50,8 @@ returns : tie.Need-returns Inv-loop μ-loop
 returns c =
     let l = c .before .loop in
     let s = c .before .before in
-    all-bytes _ (plain (take (s .args .count) (s .args .scratch .now))) _ (l .i) (l .inv .2) (omega (arith, stored-length (s .args .scratch .now) (s .args .count) (s .pre .0)))
+    all-bytes _ (plain (take (s .args .count) (s .args .scratch .now))) _ (l .i) (l .inv .2)
+    (omega (arith, stored-length (s .args .scratch .now) (s .args .count) (s .pre .0)))
 
 pub store-wires-spec : {M : Type 1} → statement M
 store-wires-spec =

@@ -1,6 +1,5 @@
 -- `trial` meets its contract: `Run` holds at each turn, in the trial's form of bytes; a gate that may not drive its wire makes the whole refused, and at
 -- the end the buffer is filled.
--- Assumes nothing.
 use borrow.Author.Needs.{needs}
 use mathlib.Core.Path.{refl, sym, _∙_}
 use Prim.Native.Nat.{ℕ, _≤_, _<_, _-_, _+_, _*_, _/_}
@@ -20,6 +19,25 @@ Inv-loop gates inputs scratch₀ values stop i₀ m₀ scratch i m = Run held (b
 
 abbrev μ-loop : tie.MeasureT-loop
 μ-loop gates inputs scratch₀ values stop i₀ m₀ scratch i m = stop - m
+
+-- ---- the places of the code, each from the one behind it
+
+abbrev turning : tie.After-shared-slice-known3 Inv-loop μ-loop → tie.In-loop Inv-loop μ-loop
+turning c = c .before .before .before
+
+abbrev gate-read : tie.Else2 Inv-loop μ-loop → tie.After-shared-slice-known3 Inv-loop μ-loop
+gate-read c = c .before .before
+
+abbrev kind-read : tie.Else2 Inv-loop μ-loop → tie.After-shared-slice-known Inv-loop μ-loop
+kind-read c = gate-read c .before .before
+
+abbrev both-driven : tie.After-slice-known2 Inv-loop μ-loop → tie.Else2 Inv-loop μ-loop
+both-driven c = c .before .before
+
+abbrev turned : tie.After-slice-known2 Inv-loop μ-loop → tie.In-loop Inv-loop μ-loop
+turned c = turning (gate-read (both-driven c))
+
+-- ---- what is known there
 
 -- a turn drives a wire of the circuit
 within : (c : tie.In-loop Inv-loop μ-loop) → let a = c .before .before .args in c .before .loop .m < length (a .inputs .now) + length (a .gates .now) / 3
@@ -74,21 +92,22 @@ cast-b : tie.Need-cast-b Inv-loop μ-loop
 cast-b c = omega (arith, c .shared-slice-known3 .given (c .before .before .before .before .loop .i + 2) .fits)
 
 same-length : tie.Need-same-length Inv-loop μ-loop
-same-length c = c .before .before .before .before .before .loop .inv .size
+same-length c = turning (c .before) .before .loop .inv .size
 
 returns : tie.Need-returns Inv-loop μ-loop
 returns c =
-    let h = c .before .before .before .before in
+    let h = turning (c .before) in
     let l = h .before .loop in
     let g = h .before .before .args .gates .now in
-    (refused (l .inv) (h .before .before .pre .0) (within h) (first-late (l .m) (getD g (l .i) 0) (getD g (l .i + 1) 0) (getD g (l .i + 2) 0) (c .if1 .taken)), refl)
+    let late = first-late (l .m) (getD g (l .i) 0) (getD g (l .i + 1) 0) (getD g (l .i + 2) 0) (c .if1 .taken) in
+    (refused (l .inv) (h .before .before .pre .0) (within h) late, refl)
 
 same-length-2 : tie.Need-same-length-2 Inv-loop μ-loop
-same-length-2 c = c .before .before .before .before .before .before .loop .inv .size
+same-length-2 c = turning (c .before .before) .before .loop .inv .size
 
 returns-2 : tie.Need-returns-2 Inv-loop μ-loop
 returns-2 c =
-    let h = c .before .before .before .before .before in
+    let h = turning (c .before .before) in
     let l = h .before .loop in
     let g = h .before .before .args .gates .now in (
       refused (l .inv) (h .before .before .pre .0) (within h)
@@ -97,44 +116,51 @@ returns-2 c =
     )
 
 mul-u : tie.Need-mul-u Inv-loop μ-loop
-mul-u c = omega (arith, c .before .before .before .before .shared-slice-known .given (c .before .before .before .before .before .before .loop .i) .fits)
+mul-u c = let k = kind-read c in omega (arith, k .shared-slice-known .given (k .before .before .loop .i) .fits)
 
 slice-read-u : tie.Need-slice-read-u Inv-loop μ-loop
-slice-read-u c = let t = turn (c .before .before .before .before .before .before) in omega arith
+slice-read-u c = let t = turn (turning (gate-read (c .before))) in omega arith
 
 -- the two wires' bytes
 bytes : (c : tie.Else2 Inv-loop μ-loop)
-    → let h = c .before .before .before .before .before in
+    → let h = turning (gate-read c) in
     let l = h .before .loop in
     let g = h .before .before .args .gates .now in
     (getD (l .scratch) (getD g (l .i + 1) 0) 0 < 4) × (getD (l .scratch) (getD g (l .i + 2) 0) 0 < 4)
-bytes c = let t = turn (c .before .before .before .before .before) in (t .2 _ (c .before .if1 .left), t .2 _ (c .if2 .left))
+bytes c = let t = turn (turning (gate-read c)) in (t .2 _ (c .before .if1 .left), t .2 _ (c .if2 .left))
 
 cast-u : tie.Need-cast-u Inv-loop μ-loop
 cast-u c = omega (arith, bytes (c .before))
 
 add-u : tie.Need-add-u Inv-loop μ-loop
-add-u c = omega (arith, bytes (c .before), c .before .before .before .before .before .shared-slice-known .given (c .before .before .before .before .before .before .before .loop .i) .fits)
+add-u c =
+    let k = kind-read (c .before) in
+    omega (arith, bytes (c .before), k .shared-slice-known .given (k .before .before .loop .i) .fits)
 
 mul-at : tie.Need-mul-at Inv-loop μ-loop
-mul-at c = omega (arith, bytes (c .before), c .before .before .before .before .before .shared-slice-known .given (c .before .before .before .before .before .before .before .loop .i) .fits)
+mul-at c =
+    let k = kind-read (c .before) in
+    omega (arith, bytes (c .before), k .shared-slice-known .given (k .before .before .loop .i) .fits)
 
 slice-read-at : tie.Need-slice-read-at Inv-loop μ-loop
-slice-read-at c = let t = turn (c .before .before .before .before .before .before .before) in omega (arith, c .before .before .before .if1 .left)
+slice-read-at c = let t = turn (turned c) in omega (arith, both-driven c .before .if1 .left)
 
 cast-at : tie.Need-cast-at Inv-loop μ-loop
-cast-at c = omega (arith, bytes (c .before .before))
+cast-at c = omega (arith, bytes (both-driven c))
 
 add-at : tie.Need-add-at Inv-loop μ-loop
-add-at c = omega (arith, bytes (c .before .before), c .before .before .before .before .before .before .shared-slice-known .given (c .before .before .before .before .before .before .before .before .loop .i) .fits)
+add-at c =
+    let e = both-driven c in
+    let k = kind-read e in
+    omega (arith, bytes e, k .shared-slice-known .given (k .before .before .loop .i) .fits)
 
 same-length-3 : tie.Need-same-length-3 Inv-loop μ-loop
-same-length-3 c = c .before .before .before .before .before .before .before .before .before .loop .inv .size
+same-length-3 c = turned (c .before) .before .loop .inv .size
 
 returns-3 : tie.Need-returns-3 Inv-loop μ-loop
 returns-3 c =
-    let e = c .before .before .before in
-    let h = e .before .before .before .before .before in
+    let e = both-driven (c .before) in
+    let h = turning (gate-read e) in
     let l = h .before .loop in
     let g = h .before .before .args .gates .now in
     let p = h .before .before .pre .0 in
@@ -146,21 +172,21 @@ array-read-scratch : tie.Need-array-read-scratch Inv-loop μ-loop
 array-read-scratch c = omega (arith, c .if3 .left)
 
 slice-write-scratch : tie.Need-slice-write-scratch Inv-loop μ-loop
-slice-write-scratch c = let t = turn (c .before .before .before .before .before .before .before .before) in omega arith
+slice-write-scratch c = let t = turn (turned (c .before)) in omega arith
 
 add-i : tie.Need-add-i Inv-loop μ-loop
-add-i c = let t = turn (c .before .before .before .before .before .before .before .before) in omega arith
+add-i c = let t = turn (turned (c .before)) in omega arith
 
 add-m : tie.Need-add-m Inv-loop μ-loop
-add-m c = let t = turn (c .before .before .before .before .before .before .before .before) in omega arith
+add-m c = let t = turn (turned (c .before)) in omega arith
 
 loop-less : tie.Need-loop-less Inv-loop μ-loop
-loop-less c = omega (arith, c .before .before .before .before .before .before .before .before .loop-test .taken)
+loop-less c = omega (arith, turned (c .before) .loop-test .taken)
 
 loop-again : tie.Need-loop-again Inv-loop μ-loop
 loop-again c =
-    let e = c .before .before .before in
-    let h = e .before .before .before .before .before in
+    let e = both-driven (c .before) in
+    let h = turning (gate-read e) in
     held-again (h .before .loop .inv) (h .before .before .pre .0) (within h) (e .before .if1 .left) (e .if2 .left) (omega (arith, bytes e, c .if3 .left))
 
 same-length-4 : tie.Need-same-length-4 Inv-loop μ-loop

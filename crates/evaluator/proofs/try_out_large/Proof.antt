@@ -1,5 +1,4 @@
 -- `try_out_large` meets its contract, which is that of the trial in the array: the array is as long as the trial asks.
--- Assumes nothing.
 use mathlib.Core.Path.{sym}
 use Prim.Native.Nat.{ℕ}
 use lib.ListN.{length-replicate}

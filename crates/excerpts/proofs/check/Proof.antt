@@ -6,9 +6,13 @@ use borrow.Author.Needs.{needs}
 use Rattle.excerpts.proofs.check.Statement.{statement}
 use Rattle.excerpts.proofs.check.Tie as tie
 
+-- where the tables are lent, before the texts
+abbrev tables-lent : tie.After-accept → tie.After-shared-slice-known3
+tables-lent c = c .before .before .before
+
 -- where the code starts, from the first call
 abbrev start : tie.After-accept → tie.Start
-start c = c .before .before .before .before .before .before
+start c = tables-lent c .before .before .before
 
 -- the tables
 abbrev tables : tie.Start → Tables

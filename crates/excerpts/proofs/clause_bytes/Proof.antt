@@ -9,9 +9,13 @@ use borrow.Author.Needs.{needs}
 use Rattle.excerpts.proofs.clause_bytes.Statement.{statement}
 use Rattle.excerpts.proofs.clause_bytes.Tie as tie
 
+-- where the tables are lent, before the texts
+abbrev tables-lent : tie.After-clause-place → tie.After-shared-slice-known3
+tables-lent c = c .before .before .before
+
 -- where the code starts, from the place asked for
 abbrev start : tie.After-clause-place → tie.Start
-start c = c .before .before .before .before .before .before
+start c = tables-lent c .before .before .before
 
 -- the place asked for, from the place known
 abbrev asked : tie.After-asked → tie.After-clause-place
@@ -50,7 +54,9 @@ add-result : tie.Need-add-result
 add-result c =
     let known = c .before .before .before in
     let s = start (asked known) in
-    record { fits = omega (arith, left-within (s .args .d) (tables s) (s .args .left-text .now) (s .args .right-text .now) (s .args .number) _ (is-placed known) (c .if1 .taken)) }
+    let within = left-within (s .args .d) (tables s) (s .args .left-text .now) (s .args .right-text .now) (s .args .number) _
+    (is-placed known) (c .if1 .taken) in
+    record { fits = omega (arith, within) }
 
 sub-result : tie.Need-sub-result
 sub-result c = search needs
@@ -74,7 +80,9 @@ add-result-2 : tie.Need-add-result-2
 add-result-2 c =
     let known = c .before .before .before in
     let s = start (asked known) in
-    record { fits = omega (arith, right-within (s .args .d) (tables s) (s .args .left-text .now) (s .args .right-text .now) (s .args .number) _ (is-placed known) (c .if1 .left)) }
+    let within = right-within (s .args .d) (tables s) (s .args .left-text .now) (s .args .right-text .now) (s .args .number) _
+    (is-placed known) (c .if1 .left) in
+    record { fits = omega (arith, within) }
 
 sub-result-2 : tie.Need-sub-result-2
 sub-result-2 c = search needs

@@ -9,9 +9,13 @@ use borrow.Author.Needs.{needs}
 use Rattle.excerpts.proofs.clause_place.Statement.{statement}
 use Rattle.excerpts.proofs.clause_place.Tie as tie
 
+-- where the tables are lent, before the texts
+abbrev tables-lent : tie.After-check → tie.After-shared-slice-known3
+tables-lent c = c .before .before .before
+
 -- where the code starts, from the checks
 abbrev start : tie.After-check → tie.Start
-start c = c .before .before .before .before .before .before
+start c = tables-lent c .before .before .before
 
 -- the checks, from the row not refused
 abbrev checked : tie.After-enum-told → tie.After-check

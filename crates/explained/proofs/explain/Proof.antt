@@ -88,7 +88,10 @@ tell-requires c κs =
       omega (arith, length-take-le (2 * s .args .d .left) (s .args .left .now) (a .left-length), a .size .left-most),
       (
         omega (arith, length-take-le (2 * s .args .d .right) (s .args .right .now) (a .right-length), a .size .right-most),
-        (omega (arith, length-take-le (2 * s .args .d .public) (s .args .public .now) (a .public-length), a .size .public-most), deep (s .args .run) (s .pre .1)),
+        (
+          omega (arith, length-take-le (2 * s .args .d .public) (s .args .public .now) (a .public-length), a .size .public-most),
+          deep (s .args .run) (s .pre .1),
+        ),
       ),
     )
 

@@ -1,20 +1,14 @@
 -- `numbers` meets its contract, case by case: a truth value is its digit.
-use mathlib.Core.Path.{_≡_, refl, ap, ap₂}
-use mathlib.Core.Bool.{Bool, true, false}
+use mathlib.Core.Path.{_≡_, ap, ap₂}
 use mathlib.Core.List.{[], _∷_}
 use Prim.Native.Nat.{ℕ, suc, _+_}
 use native.Mathlib.Omega.{arith}
-use mir.Val.{boolByte}
 use borrow.Author.Needs.{needs}
-use Rattle.words.specs.Booleans.{digit}
+use Rattle.words.proofs.Truth.{byte-digit}
 use Rattle.explained.proofs.numbers.Statement.{statement}
 use Rattle.explained.proofs.numbers.Tie as tie
 
--- a truth value as a number, and a variable's number from 1
-byte-digit : (b : Bool) → boolByte b ≡ digit b
-byte-digit true = refl
-byte-digit false = refl
-
+-- a variable's number from 1
 from-one : (v : ℕ) → v + 1 ≡ suc v
 from-one v = omega arith
 

@@ -48,7 +48,8 @@ returns c =
 returns-2 : tie.Need-returns-2
 returns-2 c =
     let r = c .before .before .before .before in
-    tells-conflict 32 (rows (start r)) (stateOf (start r .args .run)) (r .find-rule .result) _ (r .find-rule .ensures .0) (c .before .before .enum-told2 .given .1)
+    tells-conflict 32 (rows (start r)) (stateOf (start r .args .run)) (r .find-rule .result) _ (r .find-rule .ensures .0)
+    (c .before .before .enum-told2 .given .1)
     (c .before .lowest-row .result) (c .before .lowest-row .ensures) (c .tell-conflict .result) (c .tell-conflict .ensures)
 
 returns-3 : tie.Need-returns-3

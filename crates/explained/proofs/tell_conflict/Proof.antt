@@ -12,7 +12,8 @@ use Rattle.explained.specs.Explanation.{toldBack}
 use Rattle.explained.proofs.tell_conflict.Statement.{statement}
 use Rattle.explained.proofs.tell_conflict.Tie as tie
 
-last-level : (row depth : ℕ) (levels : List Level) → (depth ≡ 0 → ⊥) → ConflictWithLevel row (getD levels (depth - 1) none .chosen) ≡ toldBack row (levelsOf depth levels)
+last-level : (row depth : ℕ) (levels : List Level) → (depth ≡ 0 → ⊥) → ConflictWithLevel row (getD levels (depth - 1) none .chosen)
+    ≡ toldBack row (levelsOf depth levels)
 last-level row zero levels h = absurd (h refl)
 last-level row (suc d) levels h = let e : suc d - 1 ≡ d = omega arith in ap (λ (k : ℕ). ConflictWithLevel row (getD levels k none .chosen)) e
 

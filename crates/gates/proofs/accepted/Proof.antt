@@ -1,5 +1,4 @@
 -- `accepted` meets its contract: at 2^32 wires and more every word names an earlier one.
--- Assumes nothing.
 use mathlib.Core.Path.{_∙_}
 use native.Mathlib.Omega.{arith}
 use borrow.Author.Needs.{needs}
@@ -13,7 +12,8 @@ judge-requires c κs = search needs
 returns : tie.Need-returns
 returns c =
     let s = c .before .before .before in
-    c .judge .ensures ∙ accepted-far _ (s .args .inputs) (s .args .gates .now) (omega arith) (omega arith) (λ i. c .before .before .shared-slice-known .given i .fits)
+    c .judge .ensures ∙ accepted-far _ (s .args .inputs) (s .args .gates .now) (omega arith) (omega arith)
+    (λ i. c .before .before .shared-slice-known .given i .fits)
 
 judge-requires-2 : tie.Need-judge-requires-2
 judge-requires-2 c κs = search needs

@@ -1,5 +1,4 @@
 -- `bits` meets its contract: what is left of the bytes is judged as the whole is.
--- Assumes nothing.
 use borrow.Author.Needs.{needs}
 use mathlib.Core.Path.{_≡_, refl, sym, _∙_}
 use mathlib.Core.Bool.{_&&_}

@@ -1,5 +1,4 @@
 -- `drives` meets its contract: each return cites the law of the tests that led there.
--- Assumes nothing.
 use borrow.Author.Needs.{needs}
 use mathlib.Core.Path.{sym}
 use native.Mathlib.Omega.{arith}

@@ -1,5 +1,4 @@
 -- `generate` meets its contract: each way out is the outcome of its checks.
--- Assumes nothing.
 use mathlib.Core.Path.{_≡_, sym, _∙_}
 use native.Mathlib.Omega.{arith}
 use Rattle.refusals.specs.Checks.{outcome}

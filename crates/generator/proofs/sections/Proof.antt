@@ -1,5 +1,4 @@
 -- `sections` meets its contract: each turn writes one more section behind those that stand.
--- Assumes nothing.
 use borrow.Author.Needs.{needs}
 use mathlib.Core.Path.{_≡_, refl, ap}
 use Prim.Native.Nat.{_+_, _*_, _-_, _≤_, _<_}
@@ -50,8 +49,11 @@ section-requires c κs =
     let d = a .args .d in
     let k = kept l in
     let room : 3 * ceiling d ≤ length (l .loop .words) = omega (arith, a .pre .0 .1) in
-    let below : l .loop .k < 41 + d .n = omega (arith, c .before .before .before .before .loop-test .taken, a .pre .1 .1) in
-    ((refl, refl), fits d (within d (a .pre .0 .0)) (length (l .loop .words)) room (a .args .inputs) (a .pre .1 .0) (l .loop .k) below _ (c .before .before .before .at .ensures))
+    let below : l .loop .k < 41 + d .n = omega (arith, c .before .before .before .before .loop-test .taken, a .pre .1 .1) in (
+      (refl, refl),
+      fits d (within d (a .pre .0 .0)) (length (l .loop .words)) room (a .args .inputs) (a .pre .1 .0) (l .loop .k) below _
+          (c .before .before .before .at .ensures),
+    )
 
 add-k : tie.Need-add-k Inv-loop μ-loop
 add-k c = search needs
@@ -69,7 +71,8 @@ loop-again c =
     let d = a .args .d in
     let test = at-loop-test .loop-test .taken in (
       omega (arith, test),
-      section-more (d .n) (rowCount d) (digitsFor (d .n)) (digits-most (d .n)) (l .loop .k) (omega (arith, test, a .pre .1 .1)) (a .args .inputs) (a .pre .1 .0) _ (at-at .at .ensures)
+      section-more (d .n) (rowCount d) (digitsFor (d .n)) (digits-most (d .n)) (l .loop .k) (omega (arith, test, a .pre .1 .1)) (a .args .inputs)
+          (a .pre .1 .0) _ (at-at .at .ensures)
           (a .args .words .now) (l .loop .words) _ (l .loop .inv .1) (at-section .section .ensures),
     )
 

@@ -1,5 +1,4 @@
 -- `write` meets its contract: all sections are the circuit, and its wires without the inputs are its gates.
--- Assumes nothing.
 use mathlib.Core.Path.{refl, ap, _∙_}
 use mathlib.Core.List.{List}
 use Prim.Native.Nat.{_+_}
@@ -65,7 +64,8 @@ returns c =
     let s = start at-of in
     let d = s .args .d in (
       counted (d .n) (rowCount d) _ (at-of .of .ensures),
-      at-sections .sections .ensures ∙ ap (λ (l : List Gate). sets (s .args .words .now) 0 (wordsOf l)) (all-sections (addressesOn d) (digits-most (d .n)) (41 + d .n) refl),
+      at-sections .sections .ensures ∙ ap (λ (l : List Gate). sets (s .args .words .now) 0 (wordsOf l))
+          (all-sections (addressesOn d) (digits-most (d .n)) (41 + d .n) refl),
     )
 
 pub write-spec : {M : Type 1} → statement M

@@ -1,4 +1,4 @@
--- `find_header` meets its contract: the lines from `at` on, past their remarks, have the text's header. Assumes nothing.
+-- `find_header` meets its contract: the lines from `at` on, past their remarks, have the text's header.
 use mathlib.Core.Path.{_≡_, refl, sym, ap, _∙_}
 use mathlib.Core.Bool.{not}
 use Prim.Native.Nat.{ℕ, _-_, _≤_}
@@ -62,7 +62,8 @@ loop-again c =
     let end = c .before .find in (
       omega arith,
       λ least. rw (end .ensures)
-          (sym (ap (headed least _) (remark-line _ _ (test .loop-test .taken) (c .before .before .if1 .left) (rw (end .ensures) at (c .if2 .left)))) ∙ l .loop .inv .1 least),
+          (sym (ap (headed least _) (remark-line _ _ (test .loop-test .taken) (c .before .before .if1 .left)
+          (rw (end .ensures) at (c .if2 .left)))) ∙ l .loop .inv .1 least),
     )
 
 returns-3 : tie.Need-returns-3 Inv-loop μ-loop

@@ -1,4 +1,4 @@
--- `judge` meets its contract: each test is the definition's, and what passes it fits a byte. Assumes nothing.
+-- `judge` meets its contract: each test is the definition's, and what passes it fits a byte.
 use mathlib.Core.Path.{_≡_, sym, _∙_}
 use mathlib.Core.Bool.{false}
 use native.Mathlib.Omega.{arith}

@@ -1,4 +1,4 @@
--- `read_both` meets its contract: each number is held as it is read, and judged so. Assumes nothing.
+-- `read_both` meets its contract: each number is held as it is read, and judged so.
 use mathlib.Core.Path.{sym, _∙_}
 use native.Mathlib.Omega.{arith}
 use borrow.Author.Needs.{needs}

@@ -1,4 +1,4 @@
--- `read_header` meets its contract: the line from the place found to its LF is the header's. Assumes nothing.
+-- `read_header` meets its contract: the line from the place found to its LF is the header's.
 use mathlib.Core.Path.{sym, ap, _∙_}
 use mathlib.Core.Bool.{not}
 use Prim.Native.Nat.{_≤_}

@@ -1,4 +1,4 @@
--- `read_line` meets its contract: the line up to `end` is the line without its tail. Assumes nothing.
+-- `read_line` meets its contract: the line up to `end` is the line without its tail.
 use mathlib.Core.Path.{sym, ap, _∙_}
 use mathlib.Core.List.{List}
 use Prim.Native.Nat.{ℕ}

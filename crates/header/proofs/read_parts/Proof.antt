@@ -1,4 +1,4 @@
--- `read_parts` meets its contract: each part that is found is the next, and each test is the definition's. Assumes nothing.
+-- `read_parts` meets its contract: each part that is found is the next, and each test is the definition's.
 use mathlib.Core.Path.{_≡_, sym, _∙_}
 use mathlib.Core.Bool.{true}
 use native.Mathlib.Omega.{arith}

@@ -1,4 +1,4 @@
--- `read_sizes` meets its contract: a part that is found is the next, and one that is not leaves too few. Assumes nothing.
+-- `read_sizes` meets its contract: a part that is found is the next, and one that is not leaves too few.
 use mathlib.Core.Path.{sym, _∙_}
 use native.Mathlib.Omega.{arith}
 use borrow.Author.Needs.{needs}

@@ -1,5 +1,4 @@
 -- `forkhemit_evaluate` meets its contract: it is the evaluator's, with the outcome as a number.
--- Assumes nothing.
 use mathlib.Core.Path.{ap, _∙_}
 use Rattle.refusals.specs.Numbers.{codeOf}
 use borrow.Author.Needs.{needs}

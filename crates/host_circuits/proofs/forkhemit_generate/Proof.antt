@@ -1,6 +1,5 @@
 -- `forkhemit_generate` meets its contract: words and count by the numbers as bytes are those by the numbers, and the count is written where
 -- the generator gives one.
--- Assumes nothing.
 use mathlib.Core.Path.{_≡_, sym, ap, _∙_}
 use Rattle.dimensions.specs.declared.Dimensions.{Dimensions}
 use Rattle.dimensions.specs.Sizes.{dimensions}

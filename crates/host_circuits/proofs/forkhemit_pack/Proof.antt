@@ -1,5 +1,4 @@
 -- `forkhemit_pack` meets its contract: packing by the numbers as bytes is that by the numbers; it is of the run in the words, with the outcome as a number.
--- Assumes nothing.
 use mathlib.Core.Path.{ap, _∙_}
 use lib.ListN.{length}
 use Rattle.refusals.specs.Numbers.{codeOf}

@@ -1,5 +1,4 @@
 -- `forkhemit_read_back` meets its contract: n as a byte is refused like n or is n itself, and the run is stored where it is taken.
--- Assumes nothing.
 use mathlib.Core.Path.{ap, _∙_}
 use Rattle.readback.specs.declared.Read.{Read}
 use Rattle.refusals.specs.Numbers.{codeOf}

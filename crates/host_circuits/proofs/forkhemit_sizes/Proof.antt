@@ -1,6 +1,5 @@
 -- `forkhemit_sizes` meets its contract: the numbers as bytes give what the numbers give, written where they are within the limits; three
 -- times the ceiling is no overflow.
--- Assumes nothing.
 use mathlib.Core.Path.{sym, ap, _∙_}
 use mathlib.Core.List.{[], _∷_}
 use Prim.Native.Nat.{_*_}

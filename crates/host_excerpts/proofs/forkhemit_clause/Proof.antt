@@ -11,9 +11,13 @@ use borrow.Author.Needs.{needs}
 use Rattle.host_excerpts.proofs.forkhemit_clause.Statement.{statement}
 use Rattle.host_excerpts.proofs.forkhemit_clause.Tie as tie
 
+-- where the tables are lent, before the texts
+abbrev tables-lent : tie.After-dimensions → tie.After-shared-slice-known3
+tables-lent c = c .before .before .before
+
 -- where the code starts, from the first call
 abbrev start : tie.After-dimensions → tie.Start
-start c = c .before .before .before .before .before .before
+start c = tables-lent c .before .before .before
 
 -- the dimensions that are asked for
 abbrev asked : tie.Start → Dimensions
@@ -28,7 +32,8 @@ told-place : (c : tie.After-clause-place) → let s = start (c .before) in
     c .clause-place .result ≡ placed (asked s) (tables s) (s .args .left-text .now) (s .args .right-text .now) (s .args .row)
 told-place c =
     let s = start (c .before) in
-    place-is (tables s) (s .args .left-text .now) (s .args .right-text .now) (s .args .row) (asked s) _ (c .before .dimensions .ensures) _ (c .clause-place .ensures .0)
+    place-is (tables s) (s .args .left-text .now) (s .args .right-text .now) (s .args .row) (asked s) _ (c .before .dimensions .ensures) _
+    (c .clause-place .ensures .0)
 
 dimensions-requires : tie.Need-dimensions-requires
 dimensions-requires c κs = search needs

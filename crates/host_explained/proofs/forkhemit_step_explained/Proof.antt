@@ -1,4 +1,5 @@
--- `forkhemit_step_explained` meets its contract: the step by the numbers as bytes is that by the numbers; it is of the run in the words, and where it is taken the run is
+-- `forkhemit_step_explained` meets its contract: the step by the numbers as bytes is that by the numbers; it is of the run in the words, and where it is taken
+-- the run is
 -- stored and what it tells is written.
 use mathlib.Core.Path.{ap, _∙_}
 use Rattle.dimensions.specs.declared.Dimensions.{Dimensions}

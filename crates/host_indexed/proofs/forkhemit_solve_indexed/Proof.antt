@@ -1,5 +1,5 @@
--- `forkhemit_solve_indexed` meets its contract: the indexed run by the numbers as bytes is that by the numbers, and the answer's numbers are written where it gives one.
--- Assumes nothing.
+-- `forkhemit_solve_indexed` meets its contract: the indexed run by the numbers as bytes is that by the numbers, and the answer's numbers are written where it
+-- gives one.
 use mathlib.Core.Path.{_≡_, sym, ap, _∙_}
 use mathlib.Core.List.{[], _∷_}
 use Rattle.dimensions.specs.declared.Dimensions.{Dimensions}

@@ -1,6 +1,5 @@
 -- `forkhemit_step_indexed` meets its contract: the step by the numbers as bytes is that by the numbers; it is of the run in the words, which is stored
 -- where the step is taken, and its number is written.
--- Assumes nothing.
 use mathlib.Core.Path.{ap, _∙_}
 use mathlib.Core.List.{[], _∷_}
 use Rattle.dimensions.specs.declared.Dimensions.{Dimensions}

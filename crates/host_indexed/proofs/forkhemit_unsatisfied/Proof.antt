@@ -1,6 +1,5 @@
 -- `forkhemit_unsatisfied` meets its contract: the number by the numbers as bytes is that by the numbers; it is of the run in the words, and written
 -- where there is one.
--- Assumes nothing.
 use mathlib.Core.Path.{_≡_, sym, ap, _∙_}
 use Rattle.dimensions.specs.declared.Dimensions.{Dimensions}
 use Rattle.dimensions.specs.Sizes.{dimensions}

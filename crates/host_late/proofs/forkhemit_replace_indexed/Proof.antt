@@ -26,6 +26,10 @@ conditioned c = c .before .before .before .before
 abbrev loaded : tie.After-replace-indexed → tie.After-load
 loaded c = conditioned c .before .before
 
+-- the replacement, from the number written
+abbrev replaced : tie.After-number → tie.After-replace-indexed
+replaced c = c .before .before .before .before .before
+
 -- the dimensions that are asked for
 abbrev asked : tie.Start → Dimensions
 asked s = dimensions (s .args .n) (s .args .left-rows) (s .args .right-rows) (s .args .public-rows)
@@ -79,7 +83,7 @@ same-length-2 c = search needs
 
 returns : tie.Need-returns
 returns c =
-    let all = by-numbers (c .before .before .before .before .before .before) in (
+    let all = by-numbers (replaced (c .before)) in (
       c .code .ensures ∙ (λ i. codeOf (all i .0 .outcome)),
       (λ i. all i .1 .0, (λ i. all i .1 .1 .0, (λ i. all i .1 .1 .1, λ i. all i .0 .number ∷ []))),
     )

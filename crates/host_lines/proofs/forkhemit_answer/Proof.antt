@@ -1,5 +1,4 @@
 -- `forkhemit_answer` meets its contract: n as a byte is refused like n or is n itself; the text is the composed answer's.
--- Assumes nothing.
 use mathlib.Core.Path.{_≡_, sym, ap, _∙_}
 use mathlib.Core.List.{List, [], _∷_}
 use Prim.Native.Nat.{ℕ, min}

@@ -1,5 +1,4 @@
 -- `forkhemit_read_budget` meets its contract: the budget of the line, written where there is one.
--- Assumes nothing.
 use mathlib.Core.Path.{sym, ap, _∙_}
 use Rattle.lines.specs.declared.Budget.{Budget}
 use Rattle.lines.specs.Numbers.{budgetCode, budgetNumbers}

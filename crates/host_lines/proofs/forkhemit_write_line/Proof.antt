@@ -1,5 +1,4 @@
 -- `forkhemit_write_line` meets its contract: the line by the numbers as bytes is that by the numbers, and its length is written where the writer gives one.
--- Assumes nothing.
 use mathlib.Core.Path.{_≡_, sym, ap, _∙_}
 use Rattle.dimensions.specs.declared.Dimensions.{Dimensions}
 use Rattle.dimensions.specs.Sizes.{dimensions}

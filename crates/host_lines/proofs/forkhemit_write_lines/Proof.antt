@@ -1,6 +1,5 @@
 -- `forkhemit_write_lines` meets its contract: the lines by the numbers as bytes are those by the numbers, and their two numbers are written
 -- where the writer gives them.
--- Assumes nothing.
 use mathlib.Core.Path.{_≡_, sym, ap, _∙_}
 use Rattle.dimensions.specs.declared.Dimensions.{Dimensions}
 use Rattle.dimensions.specs.Sizes.{dimensions}

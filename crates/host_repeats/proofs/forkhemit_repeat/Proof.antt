@@ -1,6 +1,5 @@
 -- `forkhemit_repeat` meets its contract: the repeats by the numbers as bytes are those by the numbers; they are of the run in the words, and
 -- last run, number and mark are written where they are taken.
--- Assumes nothing.
 use mathlib.Core.Path.{_≡_, refl, sym, ap, _∙_}
 use mathlib.Core.Bool.{Bool, true, false}
 use mathlib.Core.List.{[], _∷_}

@@ -47,7 +47,8 @@ returns c =
     let counts = s .args .counts .now in
     let held = load .load .ensures in (
       c .code .ensures
-          ∙ ap codeOf (check-is (asked s) _ (dims .dimensions .ensures) (tables s) (s .args .run .now) _ held (length counts) _ (count .count-free .ensures .0)),
+          ∙ ap codeOf (check-is (asked s) _ (dims .dimensions .ensures) (tables s) (s .args .run .now) _ held (length counts) _
+          (count .count-free .ensures .0)),
       counts-are (asked s) _ (dims .dimensions .ensures) _ (s .args .run .now) _ held counts _ (count .count-free .ensures .1),
     )
 

@@ -1,5 +1,4 @@
 -- `forkhemit_fresh` meets its contract: n as a byte is refused like n or is n itself, and the run is stored where it is taken.
--- Assumes nothing.
 use mathlib.Core.Path.{ap, _∙_}
 use Rattle.refusals.specs.Numbers.{codeOf}
 use Rattle.lent.specs.Lent.{storedIf}

@@ -1,18 +1,12 @@
 -- `forkhemit_judge` meets its contract: the numbers are those of the row judged, a truth value as its digit, a variable by its number.
-use mathlib.Core.Path.{_≡_, refl, ap, ap₂, _∙_}
-use mathlib.Core.Bool.{Bool, true, false}
+use mathlib.Core.Path.{refl, ap, ap₂, _∙_}
 use mathlib.Core.List.{[], _∷_}
 use Prim.Native.Nat.{ℕ}
-use mir.Val.{boolByte}
-use Rattle.words.specs.Booleans.{digit}
+use Rattle.words.proofs.Truth.{byte-digit}
 use Rattle.host_runs.specs.Rows.{judgedNumbers}
 use borrow.Author.Needs.{needs}
 use Rattle.host_runs.proofs.forkhemit_judge.Statement.{statement}
 use Rattle.host_runs.proofs.forkhemit_judge.Tie as tie
-
-byte-digit : (b : Bool) → boolByte b ≡ digit b
-byte-digit true = refl
-byte-digit false = refl
 
 judge-requires : tie.Need-judge-requires
 judge-requires c κs = search needs

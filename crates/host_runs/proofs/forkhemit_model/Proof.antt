@@ -1,5 +1,4 @@
 -- `forkhemit_model` meets its contract: the model of the run in the words, written where there is one.
--- Assumes nothing.
 use mathlib.Core.Path.{sym, ap, _∙_}
 use Rattle.verdicts.specs.declared.Modelled.{Modelled}
 use Rattle.verdicts.specs.Verdicts.{modelOf, modelCode, modelNumbers}

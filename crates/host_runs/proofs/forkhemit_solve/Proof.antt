@@ -1,5 +1,4 @@
 -- `forkhemit_solve` meets its contract: the run by the numbers as bytes is that by the numbers, and the answer's numbers are written where it gives one.
--- Assumes nothing.
 use mathlib.Core.Path.{_≡_, sym, ap, _∙_}
 use mathlib.Core.List.{[], _∷_}
 use Rattle.dimensions.specs.declared.Dimensions.{Dimensions}

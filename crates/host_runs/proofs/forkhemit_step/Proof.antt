@@ -1,5 +1,4 @@
 -- `forkhemit_step` meets its contract: the step by the numbers as bytes is that by the numbers; it is of the run in the words, and stored where it is taken.
--- Assumes nothing.
 use mathlib.Core.Path.{ap, _∙_}
 use Rattle.dimensions.specs.declared.Dimensions.{Dimensions}
 use Rattle.dimensions.specs.Sizes.{dimensions}

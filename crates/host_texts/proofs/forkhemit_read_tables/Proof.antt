@@ -1,5 +1,4 @@
 -- `forkhemit_read_tables` meets its contract: tables and sizes are written where the texts are taken, have room and share their n.
--- Assumes nothing.
 use mathlib.Core.Path.{_≡_, ap, sym, _∙_}
 use Rattle.refusals.specs.Checks.{given}
 use Rattle.refusals.specs.Numbers.{codeOf}

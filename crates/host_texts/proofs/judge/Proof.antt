@@ -1,5 +1,4 @@
 -- `judge` meets its contract: each test is the definition's, in its order.
--- Assumes nothing.
 use Rattle.host_texts.specs.Texts.{Texts, allTexts}
 use Rattle.host_texts.proofs.ThreeTexts.{left-refused, right-refused, public-refused, no-room, differ, agree}
 use borrow.Author.Needs.{needs}

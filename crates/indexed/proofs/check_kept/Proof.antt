@@ -64,14 +64,16 @@ returns-4 c =
     let at-number = c .before .before in
     let at-run = before-index (at-number .before) in
     let s = start at-run in
-    refuse-other (s .args .n) (s .args .run) (sets-same s) (number-same s) (formed at-run) (exact (at-number .before)) (eq-eqb _ _ (at-number .if3 .left)) (c .if4 .taken)
+    refuse-other (s .args .n) (s .args .run) (sets-same s) (number-same s) (formed at-run) (exact (at-number .before))
+    (eq-eqb _ _ (at-number .if3 .left)) (c .if4 .taken)
 
 returns-5 : tie.Need-returns-5
 returns-5 c =
     let at-number = c .before .before in
     let at-run = before-index (at-number .before) in
     let s = start at-run in
-    take-kept (s .args .n) (s .args .run) (sets-same s) (number-same s) (formed at-run) (exact (at-number .before)) (eq-eqb _ _ (at-number .if3 .left)) (c .if4 .left)
+    take-kept (s .args .n) (s .args .run) (sets-same s) (number-same s) (formed at-run) (exact (at-number .before))
+    (eq-eqb _ _ (at-number .if3 .left)) (c .if4 .left)
 
 pub check-kept-spec : {M : Type 1} → statement M
 check-kept-spec =

@@ -1,5 +1,4 @@
 -- `count_unsatisfied` meets its contract: the number of the tally is that of the rows.
--- Assumes nothing.
 use native.Mathlib.Omega.{arith}
 use Rattle.tables.specs.Tables.{Tables, allTables}
 use Rattle.indexed.proofs.Made.{counted-is}

@@ -1,5 +1,4 @@
 -- `index` meets its contract: the tables' checks decide, and accepted tables have their index.
--- Assumes nothing.
 use mathlib.Core.Path.{sym, _∙_}
 use Rattle.indexed.proofs.Entries.{index-taken, index-refused}
 use borrow.Author.Needs.{needs}

@@ -1,5 +1,4 @@
 -- `make_index` meets its contract: the gathered words of accepted tables hold exactly their rows.
--- Assumes nothing.
 use Rattle.tables.specs.Tables.{Tables, allTables}
 use Rattle.indexed.proofs.Made.{gathered-made}
 use borrow.Author.Needs.{needs}

@@ -1,5 +1,4 @@
 -- `step_indexed` meets its contract: the tables' checks come first.
--- Assumes nothing.
 use mathlib.Core.Path.{sym, _∙_}
 use Rattle.indexed.proofs.Entries.{step-taken, step-refused}
 use borrow.Author.Needs.{needs}
@@ -26,7 +25,8 @@ returns : tie.Need-returns
 returns c =
     let at-accept = c .before .before .before in
     let s = start at-accept in
-    step-taken (s .args .d) _ _ (s .args .run) (s .args .number) (sym (c .before .enum-told .given .1) ∙ at-accept .accept .ensures) _ (c .step-accepted .ensures)
+    step-taken (s .args .d) _ _ (s .args .run) (s .args .number) (sym (c .before .enum-told .given .1) ∙ at-accept .accept .ensures)
+    _ (c .step-accepted .ensures)
 
 returns-2 : tie.Need-returns-2
 returns-2 c =

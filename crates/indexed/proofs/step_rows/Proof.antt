@@ -38,7 +38,8 @@ advance-requires c κs =
     let at-check = c .before .before in
     let at-survey = surveyed-at at-check in
     let s = start at-survey in
-    step-ready _ _ _ _ (s .pre) _ (s .args .run) (s .args .number) (t-low s) (f-low s) _ (at-survey .survey .ensures) _ (at-check .check-kept .ensures) (c .enum-told .given .1)
+    step-ready _ _ _ _ (s .pre) _ (s .args .run) (s .args .number) (t-low s) (f-low s) _ (at-survey .survey .ensures) _
+    (at-check .check-kept .ensures) (c .enum-told .given .1)
 
 cast-t15 : tie.Need-cast-t15
 cast-t15 c = search needs

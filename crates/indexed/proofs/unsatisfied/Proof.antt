@@ -1,5 +1,4 @@
 -- `unsatisfied` meets its contract: the checks of tables and run decide, in order.
--- Assumes nothing.
 use mathlib.Core.Path.{sym, _∙_}
 use Rattle.tables.specs.Tables.{Tables, allTables}
 use Rattle.solver.proofs.Entries.{refuse-tables, state-decides}

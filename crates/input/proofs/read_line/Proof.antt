@@ -1,5 +1,4 @@
 -- `read_line` meets its contract. The invariant: what was read is within the buffer and has no LF, and the bytes behind are as they were.
--- Assumes nothing.
 use Prim.Native.Nat.{_≤_, _-_}
 use mathlib.Core.Path.{_≡_, refl}
 use lib.ListN.{length, take, drop, length-set, length-take}
@@ -16,6 +15,14 @@ Inv-loop fd buf₀ done₀ buf done = (done ≤ length buf) × (length buf ≡ l
 abbrev μ-loop : tie.MeasureT-loop
 μ-loop fd buf₀ done₀ buf done = length buf - done
 
+-- ---- the places of the code, each from the one behind it
+
+abbrev start : tie.At-loop Inv-loop μ-loop → tie.Start Inv-loop μ-loop
+start c = c .before .before
+
+abbrev turn : tie.After-one2 Inv-loop μ-loop → tie.At-loop Inv-loop μ-loop
+turn c = c .before .before .before .before
+
 loop-holds : tie.Need-loop-holds Inv-loop μ-loop
 loop-holds c = (omega arith, refl, unended-none, refl)
 
@@ -29,7 +36,7 @@ same-length : tie.Need-same-length Inv-loop μ-loop
 same-length c = search needs
 
 returns : tie.Need-returns Inv-loop μ-loop
-returns c = let l = c .before .before .before .before .before .loop in (simp length-take (omega arith), (line-so-far _ (l .inv .2), l .inv .3))
+returns c = let l = turn (c .before) .loop in (simp length-take (omega arith), (line-so-far _ (l .inv .2), l .inv .3))
 
 array-read-buf : tie.Need-array-read-buf Inv-loop μ-loop
 array-read-buf c = search needs
@@ -48,16 +55,24 @@ same-length-2 c = search needs
 
 returns-2 : tie.Need-returns-2 Inv-loop μ-loop
 returns-2 c =
-    let l = c .before .before .before .before .before .before .loop in
-    (simp (length-take, length-set) (omega arith), (ends (l .buf) (l .done) _ (omega arith) (l .inv .2), rest-left (l .buf) (c .before .before .before .before .before .before .before .before .args .buf .now) (l .done) _ (l .inv .3)))
+    let at-turn = turn (c .before .before) in
+    let l = at-turn .loop in (
+      simp (length-take, length-set) (omega arith),
+      (ends (l .buf) (l .done) _ (omega arith) (l .inv .2), rest-left (l .buf) (start at-turn .args .buf .now) (l .done) _ (l .inv .3)),
+    )
 
 loop-less : tie.Need-loop-less Inv-loop μ-loop
 loop-less c = simp length-set (omega arith)
 
 loop-again : tie.Need-loop-again Inv-loop μ-loop
 loop-again c =
-    let l = c .before .before .before .before .before .before .loop in
-    (simp length-set (omega arith), simp length-set (l .inv .1), goes-on (l .buf) (l .done) _ (omega arith) (ne-eqb _ _ (c .if2 .left)) (l .inv .2), rest-left (l .buf) (c .before .before .before .before .before .before .before .before .args .buf .now) (l .done) _ (l .inv .3))
+    let at-turn = turn (c .before .before) in
+    let l = at-turn .loop in (
+      simp length-set (omega arith),
+      simp length-set (l .inv .1),
+      goes-on (l .buf) (l .done) _ (omega arith) (ne-eqb _ _ (c .if2 .left)) (l .inv .2),
+      rest-left (l .buf) (start at-turn .args .buf .now) (l .done) _ (l .inv .3),
+    )
 
 same-length-3 : tie.Need-same-length-3 Inv-loop μ-loop
 same-length-3 c = search needs

@@ -69,7 +69,8 @@ returns-2 : tie.Need-returns-2
 returns-2 c =
     let at-state = c .before .before .before in
     let s = start (accepting (at-state .before)) in
-    refuse-state (s .args .d) (tables s) (s .args .run) (s .args .condition) (tables-taken (at-state .before)) _ (sym (at-state .check-state .ensures) ∙ c .before .refusal2 .given .1)
+    refuse-state (s .args .d) (tables s) (s .args .run) (s .args .condition) (tables-taken (at-state .before)) _
+    (sym (at-state .check-state .ensures) ∙ c .before .refusal2 .given .1)
 
 replaceable-requires : tie.Need-replaceable-requires
 replaceable-requires c κs =
@@ -82,7 +83,8 @@ returns-3 c =
     let at-read = c .before in
     let t = at-read .before in
     let s = started t in
-    refuse-padding (s .args .d) (tables s) (s .args .run) (s .args .condition) (tables-taken (told t)) (state-taken t) _ (at-read .replaceable .ensures) (not-true _ (c .if1 .taken))
+    refuse-padding (s .args .d) (tables s) (s .args .run) (s .args .condition) (tables-taken (told t)) (state-taken t) _ (at-read .replaceable .ensures)
+    (not-true _ (c .if1 .taken))
 
 closed-requires : tie.Need-closed-requires
 closed-requires c κs = search needs

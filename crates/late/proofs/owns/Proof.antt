@@ -17,7 +17,8 @@ add-result : tie.Need-add-result
 add-result c = search needs
 
 returns-2 : tie.Need-returns-2
-returns-2 c = let a = c .before .before .before .before .args in owns-right (a .d) (a .station) (a .number) (c .before .before .if1 .left) (c .before .if2 .taken)
+returns-2 c = let a = c .before .before .before .before .args in
+    owns-right (a .d) (a .station) (a .number) (c .before .before .if1 .left) (c .before .if2 .taken)
 
 returns-3 : tie.Need-returns-3
 returns-3 c = let a = c .before .before .before .args in owns-none (a .d) (a .station) (a .number) (c .before .if1 .left) (c .if2 .left)

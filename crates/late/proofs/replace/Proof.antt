@@ -18,8 +18,11 @@ tables s = allTables (s .args .left .now) (s .args .right .now) (s .args .public
 
 -- ---- the places of the code, each from the one behind it
 
+abbrev lent : tie.After-check → tie.After-shared-slice-known
+lent c = c .before .before .before
+
 abbrev start : tie.After-check → tie.Start
-start c = c .before .before .before .before .before .before
+start c = lent c .before .before .before
 
 abbrev started : tie.After-enum-told → tie.Start
 started c = start (c .before .before)

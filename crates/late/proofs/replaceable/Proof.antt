@@ -28,7 +28,8 @@ owns-requires c κs = search needs
 returns : tie.Need-returns
 returns c =
     let s = start (c .before) in
-    read-none (s .args .d) (s .args .left .now) (s .args .right .now) (s .args .station) (s .args .number) (sym (c .before .owns .ensures) ∙ not-true _ (c .if1 .taken))
+    read-none (s .args .d) (s .args .left .now) (s .args .right .now) (s .args .station) (s .args .number)
+    (sym (c .before .owns .ensures) ∙ not-true _ (c .if1 .taken))
 
 cast-left-rows : tie.Need-cast-left-rows
 cast-left-rows c = search needs
@@ -47,7 +48,8 @@ returns-2 : tie.Need-returns-2
 returns-2 c =
     let e = c .before .before .before in
     let s = started e in
-    c .is-padding .ensures ∙ read-left (s .args .d) (s .args .left .now) (s .args .right .now) (s .args .station) (s .args .number) (own e) (c .before .if2 .taken)
+    c .is-padding .ensures ∙ read-left (s .args .d) (s .args .left .now) (s .args .right .now) (s .args .station) (s .args .number)
+    (own e) (c .before .if2 .taken)
 
 sub-is-padding-2 : tie.Need-sub-is-padding-2
 sub-is-padding-2 c = search needs
@@ -65,7 +67,8 @@ returns-3 : tie.Need-returns-3
 returns-3 c =
     let e = c .before .before .before in
     let s = started e in
-    c .is-padding2 .ensures ∙ read-right (s .args .d) (s .args .left .now) (s .args .right .now) (s .args .station) (s .args .number) (own e) (c .before .if2 .left)
+    c .is-padding2 .ensures ∙ read-right (s .args .d) (s .args .left .now) (s .args .right .now) (s .args .station) (s .args .number)
+    (own e) (c .before .if2 .left)
 
 pub replaceable-spec : {M : Type 1} → statement M
 replaceable-spec =

@@ -10,20 +10,25 @@ use borrow.Author.Needs.{needs}
 use Rattle.late_indexed.proofs.old_row.Statement.{statement}
 use Rattle.late_indexed.proofs.old_row.Tie as tie
 
--- ---- places
+-- ---- the places of the code, each from the one behind it
+
+abbrev start : tie.After-struct-known2 → tie.Start
+start c = c .before .before .before .before
 
 abbrev at-left : tie.Then1 → tie.Start
-at-left c = c .before .before .before .before .before
+at-left c = start (c .before)
 
 abbrev at-right : tie.Then2 → tie.Start
-at-right c = c .before .before .before .before .before .before
+at-right c = start (c .before .before)
 
 -- a left row's number, and a right row's
 left-number : (c : tie.Then1) → let s = at-left c .args in (0 < s .number) × (s .number ≤ s .d .left)
 left-number c =
     let s = at-left c .args in
     let e = c .if1 .taken in
-    (ltb-true 0 (s .number) (and-l (ltb 0 (s .number)) (leb (s .number) (s .d .left)) e), leb-true (s .number) (s .d .left) (and-r (ltb 0 (s .number)) (leb (s .number) (s .d .left)) e))
+    let past = ltb 0 (s .number) in
+    let within = leb (s .number) (s .d .left) in
+    (ltb-true 0 (s .number) (and-l past within e), leb-true (s .number) (s .d .left) (and-r past within e))
 
 right-number : (c : tie.Then2) → let s = at-right c .args in (s .d .left < s .number) × (s .number ≤ s .d .left + s .d .right)
 right-number c =
@@ -71,7 +76,7 @@ returns-2 c =
 
 returns-3 : tie.Need-returns-3
 returns-3 c =
-    let s = c .before .before .before .before .before .before .args in
+    let s = start (c .before .before) .args in
     old-none (s .d) (s .left .now) (s .right .now) (s .number) (c .before .if1 .left) (c .if2 .left)
 
 pub old-row-spec : {M : Type 1} → statement M

@@ -1,4 +1,5 @@
--- `replace_indexed` meets its contract: tables, index, run and number are judged first, then the condition decides, and index and number follow from the old and the new row.
+-- `replace_indexed` meets its contract: tables, index, run and number are judged first, then the condition decides, and index and number follow from the
+-- old and the new row.
 use mathlib.Core.Path.{_≡_, refl, sym, ap, _∙_}
 use mathlib.Core.List.{_++_}
 use native.Mathlib.Omega.{arith}
@@ -10,24 +11,34 @@ use Rattle.tables.specs.Acceptance.{tableChecks}
 use Rattle.tables.proofs.Accepted.{accepted}
 use Rattle.indexed.specs.Entries.{indexedChecks}
 use Rattle.late.specs.Replacement.{lateChecks}
-use Rattle.late_indexed.proofs.Replacing.{all-kept, first-refused, tables-taken, number-few, decided-alike, tables-alike, row-number, index-then, answer-then}
+use Rattle.late_indexed.proofs.Replacing.{all-kept, first-refused, tables-taken, number-few, decided-alike, tables-alike}
+use Rattle.late_indexed.proofs.Replacing.{row-number, index-then, answer-then}
 use borrow.Author.Needs.{needs}
 use Rattle.late_indexed.proofs.replace_indexed.Statement.{statement}
 use Rattle.late_indexed.proofs.replace_indexed.Tie as tie
 
 -- ---- the places of the code, each from the one behind it
 
+abbrev tables-known : tie.After-check-indexed → tie.After-shared-slice-known
+tables-known c = c .before .before .before .before
+
 abbrev start : tie.After-check-indexed → tie.Start
-start c = c .before .before .before .before .before .before .before
+start c = tables-known c .before .before .before
 
 abbrev started : tie.After-enum-told → tie.Start
 started c = start (c .before .before)
 
+abbrev old-read : tie.After-replace → tie.After-old-row
+old-read c = c .before .before .before
+
 abbrev passed-at : tie.After-replace → tie.After-enum-told
-passed-at c = c .before .before .before .before .before .before
+passed-at c = old-read c .before .before .before
+
+abbrev replaced : tie.After-slice-known4 → tie.After-replace
+replaced c = c .before .before .before .before
 
 abbrev taken-at : tie.After-enum-told2 → tie.After-replace
-taken-at c = c .before .before .before .before .before .before
+taken-at c = replaced (c .before .before)
 
 -- the tables at the start
 abbrev tables : tie.Start → Tables
@@ -37,7 +48,10 @@ tables s = allTables (s .args .left .now) (s .args .right .now) (s .args .public
 
 passed : (c : tie.After-enum-told)
     → let s = started c in
-    outcome (tableChecks (s .args .d) (tables s) ++ indexedChecks (s .args .d .n) (rowsOf (s .args .d) (tables s)) (s .args .index .now) (s .args .run) (s .args .number)) ≡ Taken
+    outcome
+    (tableChecks (s .args .d) (tables s)
+    ++ indexedChecks (s .args .d .n) (rowsOf (s .args .d) (tables s)) (s .args .index .now) (s .args .run) (s .args .number))
+    ≡ Taken
 passed c = sym (c .before .before .check-indexed .ensures) ∙ c .enum-told .given .1
 
 taken : (c : tie.After-enum-told2)
@@ -66,7 +80,8 @@ returns c =
     let at-check = c .before .before .before in
     let s = start at-check in
     let r = c .before .checked .given .0 .0 in
-    let e = first-refused (s .args .d) (tables s) (s .args .index .now) (s .args .run) (s .args .number) (s .args .condition) r (sym (c .before .checked .given .1) ∙ at-check .check-indexed .ensures) in
+    let refused = sym (c .before .checked .given .1) ∙ at-check .check-indexed .ensures in
+    let e = first-refused (s .args .d) (tables s) (s .args .index .now) (s .args .run) (s .args .number) (s .args .condition) r refused in
     let k = all-kept (s .args .d) (tables s) (s .args .index .now) (s .args .run) (s .args .number) (s .args .condition) (Refused r) r e refl in
     (k .0, (ap (λ (t : Tables). t .left) (k .1), (ap (λ (t : Tables). t .right) (k .1), k .2)))
 
@@ -74,7 +89,8 @@ old-row-requires : tie.Need-old-row-requires
 old-row-requires c κs =
     let t = c .before .before in
     let s = started t in
-    let a = accepted (s .args .d) (tables s) (tables-taken (s .args .d) (tables s) (s .args .index .now) (s .args .run) (s .args .number) (s .args .condition) (passed t)) in
+    let known = tables-taken (s .args .d) (tables s) (s .args .index .now) (s .args .run) (s .args .number) (s .args .condition) (passed t) in
+    let a = accepted (s .args .d) (tables s) known in
     (a .left-length, a .right-length)
 
 replace-requires : tie.Need-replace-requires
@@ -116,13 +132,15 @@ returns-2 c =
     let p = passed-at at-replace in
     let s = started p in
     let alike = tables-alike (s .args .d) (tables s) (s .args .index .now) (s .args .run) (s .args .number) (s .args .condition) (passed p) in (
-      answer-then (s .args .d) (tables s) (s .args .index .now) (s .args .run) (s .args .number) (s .args .condition) (passed p) (taken t) _ _ (at-replace .replace .ensures .0) (c .count-row .ensures),
+      answer-then (s .args .d) (tables s) (s .args .index .now) (s .args .run) (s .args .number) (s .args .condition) (passed p) (taken t) _ _
+          (at-replace .replace .ensures .0) (c .count-row .ensures),
       (
         at-replace .replace .ensures .1 .0 ∙ ap (λ (x : Tables). x .left) alike,
         (
           at-replace .replace .ensures .1 .1 ∙ ap (λ (x : Tables). x .right) alike,
           at-index .replace-row .ensures
-              ∙ index-then (s .args .d) (tables s) (s .args .index .now) (s .args .run) (s .args .number) (s .args .condition) (passed p) (taken t) _ (at-replace .before .before .before .old-row .ensures),
+              ∙ index-then (s .args .d) (tables s) (s .args .index .now) (s .args .run) (s .args .number) (s .args .condition) (passed p) (taken t) _
+              (old-read at-replace .old-row .ensures),
         ),
       ),
     )
@@ -135,14 +153,19 @@ same-length-6 c = search needs
 
 returns-3 : tie.Need-returns-3
 returns-3 c =
-    let at-replace = c .before .before .before .before .before .before in
+    let at-replace = replaced (c .before .before) in
     let p = passed-at at-replace in
     let s = started p in
-    let e = at-replace .replace .ensures .0 ∙ decided-alike (s .args .d) (tables s) (s .args .index .now) (s .args .run) (s .args .number) (s .args .condition) (passed p) in
-    let k = all-kept (s .args .d) (tables s) (s .args .index .now) (s .args .run) (s .args .number) (s .args .condition) _ (c .enum-told3 .given .0 .0) e (c .enum-told3 .given .1) in
+    let decided = decided-alike (s .args .d) (tables s) (s .args .index .now) (s .args .run) (s .args .number) (s .args .condition) (passed p) in
+    let e = at-replace .replace .ensures .0 ∙ decided in
+    let told = c .enum-told3 .given in
+    let k = all-kept (s .args .d) (tables s) (s .args .index .now) (s .args .run) (s .args .number) (s .args .condition) _ (told .0 .0) e (told .1) in
     let alike = tables-alike (s .args .d) (tables s) (s .args .index .now) (s .args .run) (s .args .number) (s .args .condition) (passed p) in (
       k .0,
-      (at-replace .replace .ensures .1 .0 ∙ ap (λ (x : Tables). x .left) alike, (at-replace .replace .ensures .1 .1 ∙ ap (λ (x : Tables). x .right) alike, k .2)),
+      (
+        at-replace .replace .ensures .1 .0 ∙ ap (λ (x : Tables). x .left) alike,
+        (at-replace .replace .ensures .1 .1 ∙ ap (λ (x : Tables). x .right) alike, k .2),
+      ),
     )
 
 pub replace-indexed-spec : {M : Type 1} → statement M

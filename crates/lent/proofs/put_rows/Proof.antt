@@ -1,5 +1,4 @@
 -- `put_rows` meets its contract: the words are the callee's, and no more than there are.
--- Assumes nothing.
 use mathlib.Core.Path.{ap, _∙_}
 use mathlib.Core.List.{List}
 use Prim.Native.Nat.{ℕ, _*_}

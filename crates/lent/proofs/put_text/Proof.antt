@@ -1,5 +1,4 @@
 -- `put_text` meets its contract: the callee copies the text's bytes, which are no more than there is room for.
--- Assumes nothing.
 use mathlib.Core.Path.{_≡_, _∙_}
 use Prim.Native.Nat.{min}
 use native.Mathlib.Omega.{arith}
@@ -32,7 +31,8 @@ returns : tie.Need-returns
 returns c =
     let least = c .before .before .before in
     let a = least .before .before .args in
-    c .copy .ensures .1 ∙ front-copied (a .text .bytes) (a .text .length) (least .least .result) (count least) (a .lent .now) (omega (arith, least .least .ensures))
+    c .copy .ensures .1 ∙ front-copied (a .text .bytes) (a .text .length) (least .least .result) (count least) (a .lent .now)
+    (omega (arith, least .least .ensures))
 
 pub put-text-spec : {M : Type 1} → statement M
 put-text-spec =

@@ -1,5 +1,4 @@
 -- `put_words` meets its contract: with what is left to write, the buffer is at each turn that of the whole; the measure is how many words are left.
--- Assumes nothing.
 use mathlib.Core.Path.{_≡_, refl, sym, _∙_}
 use native.Mathlib.Omega.{arith}
 use Prim.Native.Nat.{_≤_, _-_}
@@ -41,8 +40,12 @@ loop-less c = search needs
 
 loop-again : tie.Need-loop-again Inv-loop μ-loop
 loop-again c = let l = c .before .before in
-    let s = l .before .before .before .before in
-    (search needs, simp length-set (l .loop .inv .1), front-turn (s .args .words .now) (l .loop .lent) (l .loop .i) (omega (arith, l .before .least .ensures)) ∙ l .loop .inv .2)
+    let s = l .before .before .before .before in (
+      search needs,
+      simp length-set (l .loop .inv .1),
+      front-turn (s .args .words .now) (l .loop .lent) (l .loop .i)
+          (omega (arith, l .before .least .ensures)) ∙ l .loop .inv .2,
+    )
 
 same-length : tie.Need-same-length Inv-loop μ-loop
 same-length c = c .before .loop .inv .1

@@ -1,5 +1,4 @@
 -- `store_if` meets its contract: the words are the callee's, and a refusal stores none.
--- Assumes nothing.
 use mathlib.Core.Path.{sym, ap, _∙_}
 use Rattle.refusals.specs.declared.Outcome.{Outcome}
 use Rattle.lent.specs.Lent.{storedIf}

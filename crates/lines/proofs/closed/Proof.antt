@@ -1,5 +1,4 @@
 -- `closed` meets its contract: the tests are the definition's.
--- Assumes nothing.
 use borrow.Author.Needs.{needs}
 use borrow.Author.Tests.{lt-ltb, le-ltb}
 use Rattle.lines.proofs.closed.Statement.{statement}

@@ -1,5 +1,4 @@
 -- `read_budget` meets its contract: the place found gives the definition's field.
--- Assumes nothing.
 use mathlib.Core.Path.{_≡_, sym, _∙_}
 use mathlib.Core.Bool.{cond}
 use lib.Dec.{leb}
@@ -22,7 +21,8 @@ enum-known-value c = search needs
 enum-told : tie.Need-enum-told
 enum-told c = search needs
 
-budget : (c : tie.After-value) → budgetOf (c .before .before .before .before .args .input .now) ≡ cond (leb (c .value .given .0 .1 .0) 100) (Of (c .value .given .0 .0)) (Refused NumberLine)
+budget : (c : tie.After-value) → budgetOf (c .before .before .before .before .args .input .now) ≡ cond (leb (c .value .given .0 .1 .0) 100)
+    (Of (c .value .given .0 .0)) (Refused NumberLine)
 budget c = one-budget _ _ _ (sym (c .before .before .field .ensures) ∙ c .value .given .1)
 
 returns : tie.Need-returns

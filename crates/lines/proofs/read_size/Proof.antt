@@ -1,5 +1,4 @@
 -- `read_size` meets its contract: each place found gives the definition's field.
--- Assumes nothing.
 use mathlib.Core.Path.{_≡_, sym, ap, _∙_}
 use mathlib.Core.Bool.{cond}
 use mathlib.Core.List.{List}
@@ -76,7 +75,8 @@ after-fourth c =
     let second = secondOf third in
     let first = firstOf second in
     after-third third
-    ∙ one-fourth (lineOf first) (nOf first) (leftOf second) (rightOf third) (behindRight third) _ _ (sym (c .before .before .field4 .ensures) ∙ c .public .given .1)
+    ∙ one-fourth (lineOf first) (nOf first) (leftOf second) (rightOf third) (behindRight third) _ _
+    (sym (c .before .before .field4 .ensures) ∙ c .public .given .1)
 
 field-requires : tie.Need-field-requires
 field-requires c κs = search needs

@@ -1,5 +1,4 @@
 -- `list` meets its contract: each case of what the line holds is the definition's.
--- Assumes nothing.
 use mathlib.Core.Path.{sym, ap, _∙_}
 use Rattle.listing.specs.Listing.{sizeText}
 use Rattle.listing.proofs.Listing.{sized-of, sized-refused, put-within}

@@ -1,5 +1,4 @@
 -- `put_circuit` meets its contract: what the generator leaves is the circuit whose text is wanted, and what it refuses is refused.
--- Assumes nothing.
 use mathlib.Core.Path.{sym, _∙_}
 use Prim.Native.Nat.{ℕ}
 use native.Mathlib.Omega.{arith}
@@ -19,10 +18,12 @@ enum-known-count : tie.Need-enum-known-count
 enum-known-count c = search needs
 
 -- what holds of the words once gates were generated
-known : (c : tie.After-known-told) → let call = c .before .before .before .before in Served (call .before .before .args .d) (c .before .count .given .0 .0) (call .generate .last .1 .0)
+known : (c : tie.After-known-told) → let call = c .before .before .before .before in Served (call .before .before .args .d) (c .before .count .given .0 .0)
+    (call .generate .last .1 .0)
 known c =
     let call = c .before .before .before .before in
-    served (call .before .before .args .d) (replicate 16383 0) _ _ (length-replicate {A = ℕ} 16383 0) (sym (call .generate .ensures .0) ∙ c .before .count .given .1) (call .generate .ensures .1 .0)
+    served (call .before .before .args .d) (replicate 16383 0) _ _ (length-replicate {A = ℕ} 16383 0)
+    (sym (call .generate .ensures .0) ∙ c .before .count .given .1) (call .generate .ensures .1 .0)
 
 mul-words : tie.Need-mul-words
 mul-words c = omega (arith, known c .within)
@@ -49,7 +50,8 @@ returns-2 : tie.Need-returns-2
 returns-2 c =
     let bound = c .before .before .before in
     let call = bound .before .before .before in
-    put-same _ _ _ _ _ (circuit-refused (call .before .before .args .d) (replicate 16383 0) (length-replicate {A = ℕ} 16383 0) _ (sym (call .generate .ensures .0) ∙ bound .refusal .given .1))
+    put-same _ _ _ _ _ (circuit-refused (call .before .before .args .d) (replicate 16383 0) (length-replicate {A = ℕ} 16383 0) _
+    (sym (call .generate .ensures .0) ∙ bound .refusal .given .1))
     (c .put-refusal .ensures)
 
 pub put-circuit-spec : {M : Type 1} → statement M

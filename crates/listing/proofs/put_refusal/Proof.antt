@@ -1,5 +1,4 @@
 -- `put_refusal` meets its contract: a refusal's line by value is copied whole.
--- Assumes nothing.
 use native.Mathlib.Omega.{arith}
 use mathlib.Core.Path.{ap}
 use lib.ListN.{length, length-take}

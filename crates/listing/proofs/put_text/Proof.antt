@@ -1,5 +1,4 @@
 -- `put_text` meets its contract: with room for the whole text the writer puts it, and is not turned back.
--- Assumes nothing.
 use mathlib.Core.Path.{sym, _∙_}
 use Prim.Native.Nat.{_≤_}
 use native.Mathlib.Omega.{arith}
@@ -13,7 +12,8 @@ use Rattle.listing.proofs.put_text.Statement.{statement}
 use Rattle.listing.proofs.put_text.Tie as tie
 
 -- the text has room in the array
-room : (c : tie.After-write-lines-arg) → let start = c .before .before in length (circuitText (start .args .d) (gatesOf (now (start .args .gates)))) ≤ length (now (start .args .bytes))
+room : (c : tie.After-write-lines-arg) → let start = c .before .before in
+    length (circuitText (start .args .d) (gatesOf (now (start .args .gates)))) ≤ length (now (start .args .bytes))
 room c = omega (arith, c .before .before .pre .1)
 
 write-lines-requires : tie.Need-write-lines-requires
@@ -29,7 +29,8 @@ returns : tie.Need-returns
 returns c =
     let call = c .before .before in
     let start = call .before .before .before in
-    absurd (text-taken (start .args .d) (now (start .args .gates)) (start .pre .0) (now (start .args .bytes)) (room (call .before)) _ (sym (call .write-lines .ensures .0) ∙ c .enum-told .given .1))
+    absurd (text-taken (start .args .d) (now (start .args .gates)) (start .pre .0) (now (start .args .bytes)) (room (call .before)) _
+    (sym (call .write-lines .ensures .0) ∙ c .enum-told .given .1))
 
 returns-2 : tie.Need-returns-2
 returns-2 c =

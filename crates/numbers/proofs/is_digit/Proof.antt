@@ -1,4 +1,4 @@
--- `is_digit` meets its contract: by the test that held. Assumes nothing.
+-- `is_digit` meets its contract: by the test that held.
 use borrow.Author.Tests.{le-leb, lt-leb}
 use Rattle.numbers.proofs.is_digit.Statement.{statement}
 use Rattle.numbers.proofs.is_digit.Tie as tie

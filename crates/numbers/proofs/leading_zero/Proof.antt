@@ -1,4 +1,4 @@
--- `leading_zero` meets its contract: by the length, and else by the first byte. Assumes nothing.
+-- `leading_zero` meets its contract: by the length, and else by the first byte.
 use mathlib.Core.Path.{sym}
 use Rattle.numbers.proofs.Decimals.{zero-short, zero-long}
 use borrow.Author.Needs.{needs}

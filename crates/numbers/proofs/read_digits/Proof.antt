@@ -1,4 +1,4 @@
--- `read_digits` meets its contract: the digits left, after the value so far, give what the token gives. Assumes nothing.
+-- `read_digits` meets its contract: the digits left, after the value so far, give what the token gives.
 use mathlib.Core.Path.{_≡_, sym, ap, _∙_}
 use Prim.Native.Nat.{_-_, _≤_}
 use lib.ListN.{length, drop}
@@ -36,7 +36,8 @@ is-digit-requires : tie.Need-is-digit-requires Inv-loop μ-loop
 is-digit-requires c κs = search needs
 
 returns-3 : tie.Need-returns-3 Inv-loop μ-loop
-returns-3 c = sym (no-digit _ _ _ (c .before .before .before .loop-test .taken) (sym (c .before .is-digit .ensures) ∙ not-true _ (c .if3 .taken))) ∙ c .before .before .before .before .loop .inv .1
+returns-3 c = sym (no-digit _ _ _ (c .before .before .before .loop-test .taken) (sym (c .before .is-digit .ensures) ∙ not-true _ (c .if3 .taken)))
+    ∙ c .before .before .before .before .loop .inv .1
 
 with-digit-requires : tie.Need-with-digit-requires Inv-loop μ-loop
 with-digit-requires c κs = (c .before .before .before .before .loop .inv .0, digit-low _ (sym (c .before .is-digit .ensures) ∙ not-false _ (c .if3 .left)))
@@ -51,7 +52,8 @@ loop-again : tie.Need-loop-again Inv-loop μ-loop
 loop-again c = (
   omega (arith, c .with-digit .ensures),
   rw (c .with-digit .ensures)
-      (sym (one-digit _ _ _ (c .before .before .before .before .loop-test .taken) (sym (c .before .before .is-digit .ensures) ∙ not-false _ (c .before .if3 .left)))
+      (sym (one-digit _ _ _ (c .before .before .before .before .loop-test .taken) (sym (c .before .before .is-digit .ensures)
+      ∙ not-false _ (c .before .if3 .left)))
       ∙ c .before .before .before .before .before .loop .inv .1),
 )
 

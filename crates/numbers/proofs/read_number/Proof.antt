@@ -1,10 +1,24 @@
--- `read_number` meets its contract: the digits behind the sign are held, and the sign is added. Assumes nothing.
+-- `read_number` meets its contract: the digits behind the sign are held, and the sign is added.
 use mathlib.Core.Path.{sym, ap, _∙_}
 use borrow.Author.Needs.{needs}
 use Rattle.numbers.specs.Held.{numberHeld}
 use Rattle.numbers.proofs.Decimals.{number-empty, plain-value, plain-none, minus-none, minus-zero, minus-value}
 use Rattle.numbers.proofs.read_number.Statement.{statement}
 use Rattle.numbers.proofs.read_number.Tie as tie
+
+-- ---- the places of the code, each from the one behind it
+
+abbrev filled : tie.After-shared-slice-known2 → tie.Else1
+filled c = c .before
+
+abbrev plain : tie.After-read-digits → tie.Then2
+plain c = c .before
+
+abbrev minus : tie.After-read-digits2 → tie.Else2
+minus c = c .before .before
+
+abbrev valued : tie.After-known-told2 → tie.After-read-digits2
+valued c = c .before .before .before
 
 returns : tie.Need-returns
 returns c = sym (ap numberHeld (number-empty _ (c .if1 .taken)))
@@ -22,10 +36,16 @@ enum-told : tie.Need-enum-told
 enum-told c = search needs
 
 returns-2 : tie.Need-returns-2
-returns-2 c = sym (plain-none _ (c .before .before .before .before .before .if1 .left) (c .before .before .before .if2 .taken) (sym (c .before .before .read-digits .ensures) ∙ c .enum-told .given .1))
+returns-2 c =
+    let digits = c .before .before in
+    let at-plain = plain digits in
+    sym (plain-none _ (filled (at-plain .before) .if1 .left) (at-plain .if2 .taken) (sym (digits .read-digits .ensures) ∙ c .enum-told .given .1))
 
 returns-3 : tie.Need-returns-3
-returns-3 c = sym (plain-value _ (c .before .before .before .before .before .before .if1 .left) (c .before .before .before .before .if2 .taken) _ (sym (c .before .before .before .read-digits .ensures) ∙ c .before .v .given .1))
+returns-3 c =
+    let digits = c .before .before .before in
+    let at-plain = plain digits in
+    sym (plain-value _ (filled (at-plain .before) .if1 .left) (at-plain .if2 .taken) _ (sym (digits .read-digits .ensures) ∙ c .before .v .given .1))
 
 sub-read-digits : tie.Need-sub-read-digits
 sub-read-digits c = search needs
@@ -46,13 +66,26 @@ enum-told-2 : tie.Need-enum-told-2
 enum-told-2 c = search needs
 
 returns-4 : tie.Need-returns-4
-returns-4 c = sym (minus-none _ (c .before .before .before .before .before .before .if1 .left) (c .before .before .before .before .if2 .left) (sym (c .before .before .read-digits2 .ensures) ∙ c .enum-told2 .given .1))
+returns-4 c =
+    let digits = c .before .before in
+    let at-minus = minus digits in
+    sym (minus-none _ (filled (at-minus .before) .if1 .left) (at-minus .if2 .left) (sym (digits .read-digits2 .ensures) ∙ c .enum-told2 .given .1))
 
 returns-5 : tie.Need-returns-5
-returns-5 c = sym (minus-zero _ (c .before .before .before .before .before .before .before .before .if1 .left) (c .before .before .before .before .before .before .if2 .left) _ (sym (c .before .before .before .before .read-digits2 .ensures) ∙ c .before .before .v2 .given .1) (c .if3 .taken))
+returns-5 c =
+    let known = c .before in
+    let digits = valued known in
+    let at-minus = minus digits in
+    sym (minus-zero _ (filled (at-minus .before) .if1 .left) (at-minus .if2 .left) _ (sym (digits .read-digits2 .ensures) ∙ known .before .v2 .given .1)
+    (c .if3 .taken))
 
 returns-6 : tie.Need-returns-6
-returns-6 c = sym (minus-value _ (c .before .before .before .before .before .before .before .before .if1 .left) (c .before .before .before .before .before .before .if2 .left) _ (sym (c .before .before .before .before .read-digits2 .ensures) ∙ c .before .before .v2 .given .1) (c .if3 .left))
+returns-6 c =
+    let known = c .before in
+    let digits = valued known in
+    let at-minus = minus digits in
+    sym (minus-value _ (filled (at-minus .before) .if1 .left) (at-minus .if2 .left) _ (sym (digits .read-digits2 .ensures) ∙ known .before .v2 .given .1)
+    (c .if3 .left))
 
 pub read-number-spec : {M : Type 1} → statement M
 read-number-spec =

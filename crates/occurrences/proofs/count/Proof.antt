@@ -1,5 +1,4 @@
 -- `count` meets its contract: as many as the rows ask for, or all.
--- Assumes nothing.
 use Rattle.occurrences.proofs.Storing.{all-asked, all-given}
 use native.Mathlib.Omega.{arith}
 use borrow.Author.Needs.{needs}

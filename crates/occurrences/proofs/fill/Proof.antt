@@ -1,5 +1,4 @@
 -- `fill` meets its contract. The loop's invariant: the index is that of the rows passed. The measure is how many are left.
--- Assumes nothing.
 use mathlib.Core.Path.{_≡_, sym, ap, _∙_}
 use mathlib.Core.Bool.{false, _&&_}
 use Prim.Native.Nat.{ℕ, _-_, _≤_, _<_, min}

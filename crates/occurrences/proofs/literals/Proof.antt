@@ -1,5 +1,4 @@
 -- `literals` meets its contract: the negative word shifted above the positive one.
--- Assumes nothing.
 use native.Mathlib.Omega.{arith}
 use borrow.Author.Needs.{needs}
 use Rattle.occurrences.proofs.Joined.{joined-is}

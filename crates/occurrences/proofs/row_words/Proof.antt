@@ -1,5 +1,4 @@
 -- `row_words` meets its contract: stores one after the other are one run of stores.
--- Assumes nothing.
 use Rattle.tables.specs.Tables.{Tables, allTables}
 use Rattle.occurrences.proofs.Storing.{gathered-is}
 use borrow.Author.Needs.{needs}

@@ -1,5 +1,4 @@
 -- `same` meets its contract: lists of one length that agree at each place are one. The loop's invariant: they agree so far. The measure is what is left.
--- Assumes nothing.
 use mathlib.Core.Path.{_≡_, refl, ap}
 use mathlib.Core.Bool.{false, false≢true}
 use mathlib.Core.List.{List}

@@ -1,5 +1,4 @@
 -- `store` meets its contract. The loop's invariant: what was passed is stored. The measure is what is left.
--- Assumes nothing.
 use mathlib.Core.Path.{refl, ap}
 use Prim.Native.Nat.{ℕ, _+_, _-_}
 use native.Mathlib.Omega.{arith}

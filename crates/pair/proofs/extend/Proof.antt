@@ -1,5 +1,4 @@
 -- `extend` meets its contract: the copy puts the start into the buffer, and `fill` keeps it there.
--- Assumes nothing.
 use Prim.Native.Nat.{ℕ}
 use mathlib.Core.Path.{_≡_, _∙_, ap, sym}
 use mathlib.Core.List.{List, _++_}

@@ -1,5 +1,4 @@
 -- `fill` meets its contract. The invariant: what was read is within the buffer, which keeps its length and its bytes below `from`.
--- Assumes nothing.
 use Prim.Native.Nat.{ℕ, _≤_, _-_}
 use mathlib.Core.Path.{_≡_, _∙_}
 use mathlib.Core.List.{List, _++_}

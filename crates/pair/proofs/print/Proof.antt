@@ -1,5 +1,4 @@
 -- `print` is safe and ends: a text's length is within its bytes.
--- Assumes nothing.
 use native.Mathlib.Omega.{arith}
 use lib.ListN.{length-take}
 use Rattle.text.proofs.Appending.{text-within}

@@ -1,5 +1,4 @@
 -- `refused` meets its contract: its run is that of `Run::fresh`.
--- Assumes nothing.
 use mathlib.Core.Path.{ap}
 use Rattle.refusals.specs.declared.Outcome.the-variants.{Refused}
 use Rattle.state.specs.declared.Run.{Run}

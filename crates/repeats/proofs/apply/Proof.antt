@@ -1,5 +1,5 @@
--- `apply` meets its contract: what was packed is evaluated, the last wires are the outputs, and since the application is not turned back, the run read from these is the next one.
--- Assumes nothing.
+-- `apply` meets its contract: what was packed is evaluated, the last wires are the outputs, and since the application is not turned back, the run read from
+-- these is the next one.
 use mathlib.Core.Path.{_≡_, sym, ap, ap₂, _∙_}
 use mathlib.Core.List.{List}
 use Prim.Native.Nat.{ℕ, _+_, _≤_}
@@ -41,8 +41,10 @@ abbrev tables : tie.Start → Tables
 tables s = allTables (s .args .left .now) (s .args .right .now) (s .args .public .now)
 
 -- the application is not turned back
-known : (s : tie.Start) → Taking (s .args .d) (tables s) (s .args .gates .now) (s .args .run) (s .args .bytes .now) (s .args .wires .now) (stateWires (s .args .d .n) + 1)
-known s = taken (s .args .d) (tables s) (s .args .gates .now) (s .args .run) (s .args .bytes .now) (s .args .wires .now) (stateWires (s .args .d .n) + 1) (s .pre)
+known : (s : tie.Start) → Taking (s .args .d) (tables s) (s .args .gates .now) (s .args .run) (s .args .bytes .now) (s .args .wires .now)
+    (stateWires (s .args .d .n) + 1)
+known s = taken (s .args .d) (tables s) (s .args .gates .now) (s .args .run) (s .args .bytes .now) (s .args .wires .now)
+    (stateWires (s .args .d .n) + 1) (s .pre)
 
 fit : (s : tie.Start) → stateWires (s .args .d .n) + 4 ≤ inputWires (s .args .d)
 fit s = outputs-fit (s .args .d) (tables s) (known s .packs .allowed)
@@ -131,7 +133,8 @@ returns c =
     ∙ ap₂ (λ (k : ℕ) (b : List ℕ). filled g (take k b) (s .args .wires .now)) (i .ensures) (p .pack .ensures .1) in (
       ap (λ (r : Read). r .run)
           (c .before .read-back .ensures
-          ∙ ap (readBack (d .n)) (outputs-part d g (i .result) (w .state-wires .result) (i .ensures) (w .state-wires .ensures) (fit s) _ ∙ ap (outputsIn d g) wires-are ∙ sym (all-handed d g _)))
+          ∙ ap (readBack (d .n)) (outputs-part d g (i .result) (w .state-wires .result) (i .ensures) (w .state-wires .ensures) (fit s) _
+          ∙ ap (outputsIn d g) wires-are ∙ sym (all-handed d g _)))
           ∙ known s .run-is,
       (p .pack .ensures .1, wires-are),
     )

@@ -1,5 +1,4 @@
 -- `check` meets its contract: each test of the code is a condition of the definition, in its order; all wires of the circuit are its inputs and its gates.
--- Assumes nothing.
 use mathlib.Core.Path.{_≡_, sym, ap, ap₂, _∙_}
 use mathlib.Core.Bool.{_||_}
 use Prim.Native.Nat.{ℕ, _+_}

@@ -1,5 +1,4 @@
 -- `repeat` meets its contract: the checks decide, and behind them the generated words are the circuit, so that what repeats it has its premises.
--- Assumes nothing.
 use mathlib.Core.Path.{_≡_, sym, ap, ap₂, _∙_}
 use mathlib.Core.List.{List}
 use Prim.Native.Nat.{ℕ, _*_, _-_, _≤_}
@@ -41,7 +40,8 @@ abbrev tables : tie.Start → Tables
 tables s = allTables (s .args .left .now) (s .args .right .now) (s .args .public .now)
 
 taken : (c : tie.After-enum-told) → let s = start c in
-    outcome (repeatChecks (s .args .d) (tables s) (length (s .args .gates .now)) (length (s .args .bytes .now)) (length (s .args .wires .now)) (s .args .run)) ≡ Taken
+    outcome (repeatChecks (s .args .d) (tables s) (length (s .args .gates .now)) (length (s .args .bytes .now))
+    (length (s .args .wires .now)) (s .args .run)) ≡ Taken
 taken c = sym (c .before .before .check .ensures) ∙ c .enum-told .given .1
 
 known : (c : tie.After-enum-told) → let s = start c in
@@ -52,7 +52,8 @@ known c =
 
 -- the number of words
 counted : (c : tie.After-struct-known) → let a = c .before .of .result in
-    3 * (a .wires - a .inputs) ≡ 3 * (addressesOn (start (checked (generating c)) .args .d) .wires - addressesOn (start (checked (generating c)) .args .d) .inputs)
+    3 * (a .wires - a .inputs)
+    ≡ 3 * (addressesOn (start (checked (generating c)) .args .d) .wires - addressesOn (start (checked (generating c)) .args .d) .inputs)
 counted c = ap (λ (a : Addresses). 3 * (a .wires - a .inputs)) (c .before .of .ensures)
 
 few : (c : tie.After-struct-known) → let a = c .before .of .result in
@@ -111,7 +112,8 @@ repeat-circuit-requires c κs =
     let g = generating w in
     let s = start (checked g) in
     let k = known (checked g) in (
-      ap₂ (λ (i : ℕ) (l : List ℕ). take i l) (counted w) (g .generate .ensures .1 .0) ∙ words-generated (s .args .d) (tables s) (s .args .gates .now) (k .tables-taken) (k .words-enough),
+      ap₂ (λ (i : ℕ) (l : List ℕ). take i l) (counted w) (g .generate .ensures .1 .0) ∙ words-generated (s .args .d) (tables s) (s .args .gates .now)
+          (k .tables-taken) (k .words-enough),
       (k .tables-taken, ((k .bytes-enough, k .wires-enough), k .state-taken)),
     )
 
@@ -129,7 +131,8 @@ returns-2 c =
     let r = c .before .before .before .before in
     let g = generating (r .before .before .before .before) in
     let s = start (checked g) in
-    repeat-taken (s .args .d) (tables s) (s .args .times) (s .args .gates .now) (s .args .bytes .now) (s .args .wires .now) (s .args .run) (taken (checked g)) _ _ _ _
+    repeat-taken (s .args .d) (tables s) (s .args .times) (s .args .gates .now) (s .args .bytes .now) (s .args .wires .now)
+    (s .args .run) (taken (checked g)) _ _ _ _
     (r .repeat-circuit .ensures .0) (g .generate .ensures .1 .0) (r .repeat-circuit .ensures .1 .0) (r .repeat-circuit .ensures .1 .1)
 
 pub repeat-spec : {M : Type 1} → statement M

@@ -1,5 +1,6 @@
--- `repeat_circuit` meets its contract. The loop's invariant: the repeats done and those that are left are the call's; run, number, bytes and wires are as the repeats
--- done left them. The measure is what is left of the times. Assumes nothing.
+-- `repeat_circuit` meets its contract. The loop's invariant: the repeats done and those that are left are the call's; run, number, bytes and wires are as the
+-- repeats
+-- done left them. The measure is what is left of the times.
 use mathlib.Core.Path.{_≡_, sym, ap, _∙_}
 use mathlib.Core.Bool.{true, false}
 use mathlib.Core.List.{List}
@@ -44,7 +45,8 @@ ready : (s : tie.Start Inv-loop μ-loop) → Ready (s .args .d) (tables s) (s .a
 ready s = record { accepts = s .pre .1 .0; room = s .pre .1 .1 .0 .0; space = s .pre .1 .1 .0 .1 }
 
 -- the run goes on
-on : (c : tie.Then1 Inv-loop μ-loop) → let l = c .before .before .loop in ifOpen (l .last .standing) (ltb (l .repeats) (start (c .before .before) .args .times)) false ≡ true
+on : (c : tie.Then1 Inv-loop μ-loop) → let l = c .before .before .loop in
+    ifOpen (l .last .standing) (ltb (l .repeats) (start (c .before .before) .args .times)) false ≡ true
 on c = sym (c .before .goes-on .ensures) ∙ c .if1 .taken
 
 loop-holds : tie.Need-loop-holds Inv-loop μ-loop
@@ -59,7 +61,8 @@ apply-requires : tie.Need-apply-requires Inv-loop μ-loop
 apply-requires c κs =
     let l = c .before .before .before .before in
     let s = start l in
-    ap (λ (g : List ℕ). applied (s .args .d) (tables s) g (l .loop .last) (l .loop .bytes) (l .loop .wires) (stateWires (s .args .d .n) + 1) .outcome) (s .pre .0)
+    ap (λ (g : List ℕ). applied (s .args .d) (tables s) g (l .loop .last) (l .loop .bytes) (l .loop .wires)
+    (stateWires (s .args .d .n) + 1) .outcome) (s .pre .0)
     ∙ repeating-taken (s .args .d) (tables s) (s .args .times) (s .args .bytes .now) (s .args .wires .now) (ready s) (s .args .run) _ _ _ _ (l .loop .inv)
 
 add-repeats : tie.Need-add-repeats Inv-loop μ-loop
@@ -67,14 +70,22 @@ add-repeats c =
     let t = turn c in
     let l = t .before .before in
     let s = start l in
-    omega (arith, repeating-less (s .args .d) (tables s) (s .args .times) (s .args .bytes .now) (s .args .wires .now) (ready s) (s .args .run) _ _ _ _ (l .loop .inv) (on t))
+    omega (
+      arith,
+      repeating-less (s .args .d) (tables s) (s .args .times) (s .args .bytes .now) (s .args .wires .now) (ready s)
+          (s .args .run) _ _ _ _ (l .loop .inv) (on t),
+    )
 
 loop-less : tie.Need-loop-less Inv-loop μ-loop
 loop-less c =
     let t = turn c in
     let l = t .before .before in
     let s = start l in
-    omega (arith, repeating-less (s .args .d) (tables s) (s .args .times) (s .args .bytes .now) (s .args .wires .now) (ready s) (s .args .run) _ _ _ _ (l .loop .inv) (on t))
+    omega (
+      arith,
+      repeating-less (s .args .d) (tables s) (s .args .times) (s .args .bytes .now) (s .args .wires .now) (ready s)
+          (s .args .run) _ _ _ _ (l .loop .inv) (on t),
+    )
 
 loop-again : tie.Need-loop-again Inv-loop μ-loop
 loop-again c =
@@ -83,7 +94,8 @@ loop-again c =
     let l = t .before .before in
     let s = start l in
     let k = stateWires (s .args .d .n) + 1 in
-    repeating-on (s .args .d) (tables s) (s .args .times) (s .args .bytes .now) (s .args .wires .now) (ready s) (s .args .run) _ _ _ _ (l .loop .inv) (on t) _ _ _
+    repeating-on (s .args .d) (tables s) (s .args .times) (s .args .bytes .now) (s .args .wires .now) (ready s)
+    (s .args .run) _ _ _ _ (l .loop .inv) (on t) _ _ _
     (a .apply .ensures .0 ∙ ap (λ (g : List ℕ). applied (s .args .d) (tables s) g (l .loop .last) (l .loop .bytes) (l .loop .wires) k .run) (s .pre .0))
     (a .apply .ensures .1 .0)
     (a .apply .ensures .1 .1 ∙ ap (λ (g : List ℕ). wiresAfter (s .args .d) (tables s) g (l .loop .last) (l .loop .bytes) (l .loop .wires)) (s .pre .0))

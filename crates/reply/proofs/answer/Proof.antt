@@ -1,5 +1,4 @@
 -- `answer` meets its contract: each case of the budget is the definition's.
--- Assumes nothing.
 use mathlib.Core.Path.{sym, ap, _∙_}
 use Rattle.reply.specs.Reply.{answered}
 use borrow.Author.Needs.{needs}

@@ -1,5 +1,4 @@
 -- `judge` meets its contract: each case of the texts' outcome is the definition's.
--- Assumes nothing.
 use mathlib.Core.Path.{sym, ap, _∙_}
 use Rattle.refusals.specs.Checks.{given}
 use Rattle.refusals.specs.declared.Outcome.{Outcome}

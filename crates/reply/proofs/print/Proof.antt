@@ -1,5 +1,4 @@
 -- `print` meets its contract: each case is its callee's.
--- Assumes nothing.
 use mathlib.Core.Path.{sym, ap, _∙_}
 use Prim.Native.Nat.{min}
 use Rattle.text.specs.Texts.{textOf}

@@ -1,5 +1,4 @@
 -- `reply` meets its contract: what was read is the definition's, whose n is at most 32.
--- Assumes nothing.
 use mathlib.Core.Path.{ap, _∙_}
 use Prim.Native.Nat.{min}
 use Rattle.text.specs.Texts.{textOf}

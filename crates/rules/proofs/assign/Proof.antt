@@ -1,5 +1,4 @@
 -- `assign` meets its contract: the literal is put into T or F.
--- Assumes nothing.
 use borrow.Author.Needs.{needs}
 use Rattle.rules.proofs.assign.Statement.{statement}
 use Rattle.rules.proofs.assign.Tie as tie

@@ -1,5 +1,4 @@
 -- `back` meets its contract: the last level is zeroed, or there is none.
--- Assumes nothing.
 use borrow.Author.Needs.{needs}
 use borrow.Author.Tests.{eq-eqb, ne-eqb, le-leb, lt-leb}
 use Rattle.rules.proofs.back.Statement.{statement}

@@ -1,5 +1,4 @@
 -- `choose` meets its contract: one more level is stored where there is room.
--- Assumes nothing.
 use borrow.Author.Needs.{needs}
 use borrow.Author.Tests.{le-ltb, lt-ltb}
 use Rattle.rules.proofs.choose.Statement.{statement}

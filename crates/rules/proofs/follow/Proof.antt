@@ -1,5 +1,4 @@
 -- `follow` meets its contract: the function of the rule gives what the rule makes of the run.
--- Assumes nothing.
 use mathlib.Core.Path.{sym, ap, _∙_}
 use borrow.Author.Needs.{needs}
 use Rattle.rules.proofs.follow.Statement.{statement}

@@ -1,5 +1,4 @@
 -- `check_all` meets its contract: the checks of the tables come first.
--- Assumes nothing.
 use denote.Ref.{now}
 use mathlib.Core.Path.{sym, _∙_}
 use Rattle.tables.specs.Tables.{Tables, allTables}

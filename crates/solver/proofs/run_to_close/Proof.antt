@@ -1,5 +1,5 @@
 -- `run_to_close` meets its contract. The loop's invariant: what is left of the budget from the present run gives what the whole gives from the fresh one.
--- The measure is what is left of the budget. Assumes nothing.
+-- The measure is what is left of the budget.
 use mathlib.Core.Path.{sym, _∙_}
 use Prim.Native.Nat.{_-_}
 use native.Mathlib.Omega.{arith}
@@ -41,19 +41,27 @@ giant-step-requires : tie.Need-giant-step-requires Inv-loop μ-loop
 giant-step-requires c κs = let l = c .before .before in (start (l .before) .pre, (l .loop .inv .formed, l .loop .inv .same))
 
 add-count : tie.Need-add-count Inv-loop μ-loop
-add-count c = record { fits = omega (arith, running-less _ _ _ _ _ (c .before .before .before .loop .inv) (sym (c .before .before .goes-on .ensures) ∙ c .before .if1 .taken)) }
+add-count c = record {
+  fits = omega (
+    arith,
+    running-less _ _ _ _ _ (c .before .before .before .loop .inv)
+        (sym (c .before .before .goes-on .ensures) ∙ c .before .if1 .taken),
+  );
+}
 
 loop-less : tie.Need-loop-less Inv-loop μ-loop
 loop-less c = omega (arith, running-less _ _ _ _ _ (c .before .before .before .loop .inv) (sym (c .before .before .goes-on .ensures) ∙ c .before .if1 .taken))
 
 loop-again : tie.Need-loop-again Inv-loop μ-loop
-loop-again c = running-on _ _ _ _ _ (c .before .before .before .loop .inv) (sym (c .before .before .goes-on .ensures) ∙ c .before .if1 .taken) _ (c .giant-step .ensures)
+loop-again c = running-on _ _ _ _ _ (c .before .before .before .loop .inv) (sym (c .before .before .goes-on .ensures)
+    ∙ c .before .if1 .taken) _ (c .giant-step .ensures)
 
 verdict-of-requires : tie.Need-verdict-of-requires Inv-loop μ-loop
 verdict-of-requires c κs = search needs
 
 returns : tie.Need-returns Inv-loop μ-loop
-returns c = running-end _ _ _ _ _ (c .before .before .before .loop .inv) (sym (c .before .before .goes-on .ensures) ∙ c .before .if1 .left) _ (c .verdict-of .ensures .0)
+returns c = running-end _ _ _ _ _ (c .before .before .before .loop .inv) (sym (c .before .before .goes-on .ensures) ∙ c .before .if1 .left)
+    _ (c .verdict-of .ensures .0)
 
 pub run-to-close-spec : {M : Type 1} → statement M
 run-to-close-spec =

@@ -1,5 +1,4 @@
 -- `solve` meets its contract: the tables' checks decide, and accepted tables have the answer of the budgeted run.
--- Assumes nothing.
 use mathlib.Core.Path.{sym, _∙_}
 use Rattle.solver.proofs.Entries.{solve-taken, solve-refused, with-said}
 use borrow.Author.Needs.{needs}

@@ -1,5 +1,4 @@
 -- `step` meets its contract: the outcome of the checks decides.
--- Assumes nothing.
 use Rattle.tables.specs.Tables.{Tables, allTables}
 use Rattle.solver.proofs.Entries.{passed, step-taken, step-refused}
 use borrow.Author.Needs.{needs}

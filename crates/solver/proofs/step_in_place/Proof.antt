@@ -1,6 +1,5 @@
 -- `step_in_place` meets its contract, by a walk of its MIR: the borrow of the run is opened, the run is copied out and passed to `step`, the run
 -- that comes back is stored, the borrow is closed at it, and the outcome is returned.
--- Assumes nothing.
 use mathlib.Core.Path.{_≡_, refl, ap}
 use Prim.Native.Nat.{ℕ}
 use mathlib.Core.List.{[], _∷_, List}
@@ -18,8 +17,10 @@ use ghost.Atoms.{Atoms, sem}
 use contract.Lifetimes.{AllOutlive}
 use contract.Monad.{Fun, fact}
 use contract.Running.{givenOf, tables, tablesOf}
-use types.Kit.{Given, Item, prop, Step, step, ‵, raw, _⊛_, ⋆, some, later, _$_, _∵_, !, qed, by, move, keep, drop, use1, use2, split, join, pick, rewrite, fsplit, fsplit3, fjoin, fjoin3, feqI, suffices, frame, await, done}
-use types.Run.{look, look-raw, init, store-raw, forget, stop, hop, fld, from, load, and-then, no-more, of-opd, assigns, land, returns, enter, alloc1, alloc0, params1, pass1, pass0, free1, free0}
+use types.Kit.{Given, Item, prop, Step, step, ‵, raw, _⊛_, ⋆, some, later, _$_, _∵_, !, qed, by, move, keep, drop, use1, use2, split, join, pick, rewrite}
+use types.Kit.{fsplit, fsplit3, fjoin, fjoin3, feqI, suffices, frame, await, done}
+use types.Run.{look, look-raw, init, store-raw, forget, stop, hop, fld, from, load, and-then, no-more, of-opd, assigns, land, returns, enter, alloc1, alloc0}
+use types.Run.{params1, pass1, pass0, free1, free0}
 use types.Part.{whole, sub, look-in}
 use types.SemTy.{Body}
 use sound.WpLaws.{FmC, fmOf, WpFn-mono}
@@ -40,7 +41,8 @@ use denote.Triple.Clauses.{ensured, lasts}
 use denote.Triple.Entry.{onEntry}
 use denote.Triple.Spec.{Meets, tripleOf}
 use denote.Triple.Table.{entered, cited}
-use denote.Triple.Walked.{says, Stays, stay-ref, stay-none, stay-none-slice, walkOf, AllGo, goes-ref, goes-none, goes-none-slice, Walks, ends-at, walked, walk-meets}
+use denote.Triple.Walked.{says, Stays, stay-ref, stay-none, stay-none-slice, walkOf, AllGo, goes-ref, goes-none, goes-none-slice, Walks, ends-at, walked}
+use denote.Triple.Walked.{walk-meets}
 use denote.Exit.{yes}
 use Rattle.refusals.specs.declared.Outcome.{Outcome}
 use Rattle.refusals.proofs.Outcome as O
@@ -70,7 +72,13 @@ words = plain (λ _. u32)
 
 -- at exit: dimensions and tables as they were passed, and the run still lent
 abbrev stayed : Stays (here.ended .signature .params) (here.ended .kept)
-stayed = (stay-none (λ _. D.the-row) yes, (stay-none-slice (0 ∷ []) tt words yes, (stay-none-slice (1 ∷ []) tt words yes, (stay-none-slice (2 ∷ []) tt words yes, (stay-ref (3 ∷ []) tt (plain (λ _. R.the-row)), tt)))))
+stayed = (
+  stay-none (λ _. D.the-row) yes,
+  (
+    stay-none-slice (0 ∷ []) tt words yes,
+    (stay-none-slice (1 ∷ []) tt words yes, (stay-none-slice (2 ∷ []) tt words yes, (stay-ref (3 ∷ []) tt (plain (λ _. R.the-row)), tt))),
+  ),
+)
 
 module _ {M : Type 1} (𝓤 : URA M) (H : Heap 𝓤) (A : Atoms 𝓤) (mem : Memory → SProp 𝓤) (run : Routine → Fun 𝓤) where
   -- the contract of `step`
@@ -167,7 +175,8 @@ module _ {M : Type 1} (𝓤 : URA M) (H : Heap 𝓤) (A : Atoms 𝓤) (W : Given
   exits : (n : Stepped) → Says n → Is O.the-row (n .outcome) (val-o (n .outcome) ∷ []) → ent 𝓤 (⋆ 𝓤 H A (Last n)) (Post (val-o (n .outcome)))
   exits n e is =
       qed W (Last n) ∵
-      suffices ! _ (ends-at 𝓤 H A here.ended stayed (here.clauses 𝓤 H A at-mem run) W bound (val-o (n .outcome)) (n .outcome) (tt, (tt, (tt, (tt, (n .run, tt))))) (tt, (tt, (tt, (tt, (tt, tt)))))) $
+      suffices ! _ (ends-at 𝓤 H A here.ended stayed (here.clauses 𝓤 H A at-mem run) W bound (val-o (n .outcome)) (n .outcome)
+      (tt, (tt, (tt, (tt, (n .run, tt))))) (tt, (tt, (tt, (tt, (tt, tt)))))) $
       says-both ! (ap (λ (z : Stepped). z .outcome) e) (ap (λ (z : Stepped). z .run) e) $
       -- the four tokens
       move ! (3 ∷ []) $ split ! $ move ! (1 ∷ []) $ split ! $ move ! (1 ∷ []) $ split ! $ move ! (6 ∷ 1 ∷ []) $ join ! $ move ! (1 ∷ 0 ∷ []) $ join ! $
@@ -192,7 +201,8 @@ module _ {M : Type 1} (𝓤 : URA M) (H : Heap 𝓤) (A : Atoms 𝓤) (W : Given
 
   asked : ent 𝓤 (onEntry 𝓤 H A by-value.signature (κ, (κ′, (κ‴, tt))) (q, (q′, (q‴, tt))) passed passed-at) (Called 𝓤 H A at-mem run .pre to)
   asked =
-      qed W (Tokens ∷ ‵ (owns (D.the-row ∷ ShrSlice (named 0) κ u32 ∷ ShrSlice (named 1) κ′ u32 ∷ ShrSlice (named 2) κ‴ u32 ∷ R.the-row ∷ []) passed passed-at) ∷ []) ∵
+      qed W (Tokens ∷ ‵ (owns (D.the-row ∷ ShrSlice (named 0) κ u32 ∷ ShrSlice (named 1) κ′ u32 ∷ ShrSlice (named 2) κ‴ u32
+      ∷ R.the-row ∷ []) passed passed-at) ∷ []) ∵
       join ! $ frame ! $ done !
 
   abbrev Ensured : Stepped → SProp 𝓤
@@ -204,11 +214,14 @@ module _ {M : Type 1} (𝓤 : URA M) (H : Heap 𝓤) (A : Atoms 𝓤) (W : Given
   -- ---- the walk
 
   module _ (C : Calls 𝓤 H) (Λ : Loops 𝓤 H) (fm : FmC 𝓤 H (W .laws) C) (known : Triple 𝓤 (C #solver·step) (Called 𝓤 H A at-mem run)) where
-    walk : Is (ShrSlice (named 0) κ u32) left (left-v ∷ []) → Is (ShrSlice (named 1) κ′ u32) right (right-v ∷ []) → Is (ShrSlice (named 2) κ‴ u32) public (public-v ∷ [])
-        → ent 𝓤 (onEntry 𝓤 H A here.signature (κ, (κ′, (κ‴, (κ″, tt)))) (q, (q′, (q‴, (q″, tt)))) x at) (WpFn 𝓤 H C Λ code.function (val-d d ∷ left-v ∷ right-v ∷ public-v ∷ vptr b o ∷ []) Post)
+    walk : Is (ShrSlice (named 0) κ u32) left (left-v ∷ []) → Is (ShrSlice (named 1) κ′ u32) right
+        (right-v ∷ []) → Is (ShrSlice (named 2) κ‴ u32) public (public-v ∷ [])
+        → ent 𝓤 (onEntry 𝓤 H A here.signature (κ, (κ′, (κ‴, (κ″, tt)))) (q, (q′, (q‴, (q″, tt)))) x at)
+        (WpFn 𝓤 H C Λ code.function (val-d d ∷ left-v ∷ right-v ∷ public-v ∷ vptr b o ∷ []) Post)
     walk left-is right-is public-is =
         qed W ((‵ (flft κ q) ⊛ ‵ (flft κ′ q′) ⊛ ‵ (flft κ‴ q‴) ⊛ ‵ (flft κ″ q″) ⊛ ‵ ftrue)
-        ∷ ‵ (owns (D.the-row ∷ ShrSlice (named 0) κ u32 ∷ ShrSlice (named 1) κ′ u32 ∷ ShrSlice (named 2) κ‴ u32 ∷ MutRef (named 3) κ″ R.the-row ∷ []) x at) ∷ []) ∵
+        ∷ ‵ (owns (D.the-row ∷ ShrSlice (named 0) κ u32 ∷ ShrSlice (named 1) κ′ u32 ∷ ShrSlice (named 2) κ‴ u32 ∷ MutRef (named 3) κ″
+        R.the-row ∷ []) x at) ∷ []) ∵
         enter ! C Λ code.function (val-d d ∷ left-v ∷ right-v ∷ public-v ∷ vptr b o ∷ []) _ $
         alloc1 ! (λ l₀. alloc1 ! (λ l₁. alloc1 ! (λ l₂. alloc1 ! (λ l₃. alloc1 ! (λ l₄. alloc1 ! (λ l₅. alloc1 ! (λ l₆. alloc1 ! (λ l₇. alloc0 ! $ params1 ! $
         pass1 ! (init ! 12 refl (LL.lawful D.the-type D′.the-laws 𝓤 H A W .typed d _ d-is .0)) $
@@ -217,7 +230,8 @@ module _ {M : Type 1} (𝓤 : URA M) (H : Heap 𝓤) (A : Atoms 𝓤) (W : Given
         pass1 ! (init ! 6 refl (shr-slice-lawful 𝓤 H A W (named 2) κ‴ u32 .typed public (public-v ∷ []) public-is .0)) $
         pass1 ! (init ! 4 refl (tt, tt)) $ pass0 ! $
         -- what the parameters own is taken apart
-        move ! (17 ∷ []) $ fsplit ! $ move ! (1 ∷ []) $ fsplit ! $ move ! (1 ∷ []) $ fsplit ! $ move ! (1 ∷ []) $ fsplit ! $ move ! (1 ∷ []) $ fsplit ! $ fsplit3 ! $ drop ! $
+        move ! (17 ∷ []) $ fsplit ! $ move ! (1 ∷ []) $ fsplit ! $ move ! (1 ∷ []) $ fsplit ! $ move ! (1 ∷ []) $ fsplit ! $ move !
+        (1 ∷ []) $ fsplit ! $ fsplit3 ! $ drop ! $
         -- [obs; the borrow; nothing; public; right; left; d; _7; …; _0; …; all tokens]: the tables' tokens are set apart
         move ! (23 ∷ []) $ split ! $ move ! (1 ∷ []) $ split ! $ move ! (1 ∷ []) $ split ! $ move ! (1 ∷ []) $ split ! $
         move ! (2 ∷ 1 ∷ []) $ join ! $ move ! (2 ∷ 0 ∷ []) $ join ! $ move ! (2 ∷ 0 ∷ []) $ join ! $
@@ -230,9 +244,12 @@ module _ {M : Type 1} (𝓤 : URA M) (H : Heap 𝓤) (A : Atoms 𝓤) (W : Given
         (init ! 11 refl (LL.lawful R.the-type R′.the-laws 𝓤 H A W .typed h _ h-is .0)) $
         -- what `step` asks is put together, with copies of what the tables own
         move ! (1 ∷ 6 ∷ []) $ fjoin ! $
-        move ! (6 ∷ []) $ use1 W (‵ Public ⊛ ‵ Public) (shr-slice-copy 𝓤 H A W (named 2) κ‴ u32 .twice public (public-v ∷ [])) $ split ! $ move ! (0 ∷ 2 ∷ []) $ fjoin ! $
-        move ! (7 ∷ []) $ use1 W (‵ Right ⊛ ‵ Right) (shr-slice-copy 𝓤 H A W (named 1) κ′ u32 .twice right (right-v ∷ [])) $ split ! $ move ! (0 ∷ 2 ∷ []) $ fjoin ! $
-        move ! (8 ∷ []) $ use1 W (‵ Left ⊛ ‵ Left) (shr-slice-copy 𝓤 H A W (named 0) κ u32 .twice left (left-v ∷ [])) $ split ! $ move ! (0 ∷ 2 ∷ []) $ fjoin ! $
+        move ! (6 ∷ []) $ use1 W (‵ Public ⊛ ‵ Public) (shr-slice-copy 𝓤 H A W (named 2) κ‴ u32 .twice public (public-v ∷ [])) $ split ! $
+        move ! (0 ∷ 2 ∷ []) $ fjoin ! $
+        move ! (7 ∷ []) $ use1 W (‵ Right ⊛ ‵ Right) (shr-slice-copy 𝓤 H A W (named 1) κ′ u32 .twice right (right-v ∷ [])) $ split ! $
+        move ! (0 ∷ 2 ∷ []) $ fjoin ! $
+        move ! (8 ∷ []) $ use1 W (‵ Left ⊛ ‵ Left) (shr-slice-copy 𝓤 H A W (named 0) κ u32 .twice left (left-v ∷ [])) $ split ! $
+        move ! (0 ∷ 2 ∷ []) $ fjoin ! $
         move ! (9 ∷ 0 ∷ []) $ fjoin ! $ move ! (8 ∷ 0 ∷ []) $ use2 W (raw (Called 𝓤 H A at-mem run .pre to)) asked $
         -- [what `step` asks; left; right; public; the run's cell; the open borrow; obs; auth; _7; …; _0; …]: `_6 = step(_1, _2, _3, _4, _7)`
         calls-at ! fm (Called 𝓤 H A at-mem run) known to
@@ -280,8 +297,10 @@ module _ {M : Type 1} (𝓤 : URA M) (H : Heap 𝓤) (A : Atoms 𝓤) (W : Given
         ),
       ))
       (λ κs qs bounds a g are. via 𝓤 _ (fst∗ 𝓤 _ (emp 𝓤))
-      (walk 𝓤 H A W at-mem run (κs .0) (κs .1 .0) (κs .1 .1 .0) (κs .1 .1 .1 .0) bounds (qs .0) (qs .1 .0) (qs .1 .1 .0) (qs .1 .1 .1 .0) (a .0) (are .0) (a .1 .0) (a .1 .1 .0) (a .1 .1 .1 .0)
-      (a .1 .1 .1 .1 .0 .ptr .0) (a .1 .1 .1 .1 .0 .ptr .1) (a .1 .1 .1 .1 .0 .name) (a .1 .1 .1 .1 .0 .now) C Λ fm known (are .1 .0) (are .1 .1 .0) (are .1 .1 .1 .0)))
+      (walk 𝓤 H A W at-mem run (κs .0) (κs .1 .0) (κs .1 .1 .0) (κs .1 .1 .1 .0) bounds (qs .0) (qs .1 .0) (qs .1 .1 .0) (qs .1 .1 .1 .0) (a .0) (are .0)
+      (a .1 .0) (a .1 .1 .0) (a .1 .1 .1 .0)
+      (a .1 .1 .1 .1 .0 .ptr .0) (a .1 .1 .1 .1 .0 .ptr .1) (a .1 .1 .1 .1 .0 .name) (a .1 .1 .1 .1 .0 .now) C Λ fm known (are .1 .0)
+      (are .1 .1 .0) (are .1 .1 .1 .0)))
 
   goes : AllGo 𝓤 H A W 4 (here.signature .params) (here.ended .kept) stayed
   goes = (

@@ -1,6 +1,5 @@
 -- `step_lent` meets its contract, by a walk of its MIR: the run is copied into a local, the local is lent for a lifetime that is made for the call of
 -- `step_in_place`, the lifetime is ended, the local comes back at the reference's last value, and both are returned.
--- Assumes nothing.
 use mathlib.Core.Path.{_≡_, refl, ap, subst}
 use Prim.Native.Nat.{ℕ}
 use mathlib.Core.List.{[], _∷_, List}
@@ -18,9 +17,11 @@ use ghost.Atoms.{Atoms, sem}
 use contract.Lifetimes.{AllOutlive}
 use contract.Monad.{Fun, fact, fact-use}
 use contract.Running.{givenOf, tables, tablesOf}
-use types.Kit.{Given, Item, ‵, raw, _⊛_, ⋆, some, later, given, learn, check, _$_, _∵_, !, qed, by, move, keep, drop, use1, use2, use3, split, join, pick, rewrite, fsplit, fjoin, fpick, fpack, suffices, frame, await, done}
+use types.Kit.{Given, Item, ‵, raw, _⊛_, ⋆, some, later, given, learn, check, _$_, _∵_, !, qed, by, move, keep, drop, use1, use2, use3, split, join, pick}
+use types.Kit.{rewrite, fsplit, fjoin, fpick, fpack, suffices, frame, await, done}
 use types.Tokens.{lft-new, lft-end}
-use types.Run.{look, init, forget, stop, from, load, and-then, no-more, of-opd, addr, assigns, land, returns, enter, alloc1, alloc0, params1, pass1, pass0, free1, free0}
+use types.Run.{look, init, forget, stop, from, load, and-then, no-more, of-opd, addr, assigns, land, returns, enter, alloc1, alloc0, params1, pass1, pass0}
+use types.Run.{free1, free0}
 use types.Part.{agg}
 use types.SemTy.{Body}
 use sound.WpLaws.{FmC, fmOf, WpFn-mono}
@@ -72,7 +73,13 @@ words = plain (λ _. u32)
 
 -- at exit: everything as it was passed
 abbrev stayed : Stays (here.ended .signature .params) (here.ended .kept)
-stayed = (stay-none (λ _. D.the-row) yes, (stay-none-slice (0 ∷ []) tt words yes, (stay-none-slice (1 ∷ []) tt words yes, (stay-none-slice (2 ∷ []) tt words yes, (stay-none (λ _. R.the-row) yes, tt)))))
+stayed = (
+  stay-none (λ _. D.the-row) yes,
+  (
+    stay-none-slice (0 ∷ []) tt words yes,
+    (stay-none-slice (1 ∷ []) tt words yes, (stay-none-slice (2 ∷ []) tt words yes, (stay-none (λ _. R.the-row) yes, tt))),
+  ),
+)
 
 module _ {M : Type 1} (𝓤 : URA M) (H : Heap 𝓤) (A : Atoms 𝓤) (mem : Memory → SProp 𝓤) (run : Routine → Fun 𝓤) where
   -- the contract of `step_in_place`
@@ -157,7 +164,8 @@ module _ {M : Type 1} (𝓤 : URA M) (H : Heap 𝓤) (A : Atoms 𝓤) (W : Given
   exits : (n : Stepped) → n ≡ next → Is S.the-row n (val-s n ∷ []) → ent 𝓤 (⋆ 𝓤 H A (Tokens ∷ ‵ Left ∷ ‵ Right ∷ ‵ Public ∷ [])) (Post (val-s n))
   exits n e is =
       qed W (Tokens ∷ ‵ Left ∷ ‵ Right ∷ ‵ Public ∷ []) ∵
-      suffices ! _ (ends-at 𝓤 H A here.ended stayed (here.clauses 𝓤 H A at-mem run) W bound (val-s n) n (tt, (tt, (tt, (tt, (tt, tt))))) (tt, (tt, (tt, (tt, (tt, tt)))))) $
+      suffices ! _ (ends-at 𝓤 H A here.ended stayed (here.clauses 𝓤 H A at-mem run) W bound (val-s n) n
+      (tt, (tt, (tt, (tt, (tt, tt))))) (tt, (tt, (tt, (tt, (tt, tt)))))) $
       says ! e $ frame ! $
       -- the parameters, from the last to the first
       nothing ! $ owned ! R.the-row (Is R.the-row) (LL.makes R.the-type R′.the-plain 𝓤 H A) h _ h-is $ fjoin ! $
@@ -197,7 +205,8 @@ module _ {M : Type 1} (𝓤 : URA M) (H : Heap 𝓤) (A : Atoms 𝓤) (W : Given
 
     asked : ent 𝓤 (onEntry 𝓤 H A in-place.signature κs (q, (q′, (q‴, (fullShare, tt)))) passed passed-at) (Called 𝓤 H A at-mem run .pre to)
     asked =
-        qed W (Lending ∷ ‵ (owns (D.the-row ∷ ShrSlice (named 0) κ u32 ∷ ShrSlice (named 1) κ′ u32 ∷ ShrSlice (named 2) κ‴ u32 ∷ MutRef (named 3) (α ∷ []) R.the-row ∷ []) passed passed-at) ∷ []) ∵
+        qed W (Lending ∷ ‵ (owns (D.the-row ∷ ShrSlice (named 0) κ u32 ∷ ShrSlice (named 1) κ′ u32 ∷ ShrSlice (named 2) κ‴ u32 ∷ MutRef (named 3)
+        (α ∷ []) R.the-row ∷ []) passed passed-at) ∷ []) ∵
         join ! $ frame ! $ done !
 
     abbrev Ensured : Outcome → SProp 𝓤
@@ -214,18 +223,22 @@ module _ {M : Type 1} (𝓤 : URA M) (H : Heap 𝓤) (A : Atoms 𝓤) (W : Given
         via 𝓤 Ls (fst∗ 𝓤 Ls (sep 𝓤 E₁ E₂))
         (subst (λ (w : Run). ent 𝓤 Ls (guard 𝓤 (o ≡ next .outcome) (A .res δ (R.the-row .coded .code w)))) e₂
         (qed W (‵ (lasts in-place.ended κs passed ws) ∷ []) ∵ check ! e₁ $
-        fsplit ! $ move ! (1 ∷ []) $ fsplit ! $ move ! (1 ∷ []) $ fsplit ! $ move ! (1 ∷ []) $ fsplit ! $ move ! (1 ∷ []) $ fsplit ! $ keep ! (0 ∷ []) $ done !)))))
+        fsplit ! $ move ! (1 ∷ []) $ fsplit ! $ move ! (1 ∷ []) $ fsplit ! $ move ! (1 ∷ []) $ fsplit ! $ move !
+        (1 ∷ []) $ fsplit ! $ keep ! (0 ∷ []) $ done !)))))
 
   -- ---- the walk
 
   module _ (C : Calls 𝓤 H) (Λ : Loops 𝓤 H) (fm : FmC 𝓤 H (W .laws) C) (known : Triple 𝓤 (C #solver·step-in-place) (Called 𝓤 H A at-mem run)) where
-    walk : Is (ShrSlice (named 0) κ u32) left (left-v ∷ []) → Is (ShrSlice (named 1) κ′ u32) right (right-v ∷ []) → Is (ShrSlice (named 2) κ‴ u32) public (public-v ∷ [])
-        → ent 𝓤 (onEntry 𝓤 H A here.signature (κ, (κ′, (κ‴, tt))) (q, (q′, (q‴, tt))) x at) (WpFn 𝓤 H C Λ code.function (val-d d ∷ left-v ∷ right-v ∷ public-v ∷ val-r h ∷ []) Post)
+    walk : Is (ShrSlice (named 0) κ u32) left (left-v ∷ []) → Is (ShrSlice (named 1) κ′ u32) right
+        (right-v ∷ []) → Is (ShrSlice (named 2) κ‴ u32) public (public-v ∷ [])
+        → ent 𝓤 (onEntry 𝓤 H A here.signature (κ, (κ′, (κ‴, tt))) (q, (q′, (q‴, tt))) x at)
+        (WpFn 𝓤 H C Λ code.function (val-d d ∷ left-v ∷ right-v ∷ public-v ∷ val-r h ∷ []) Post)
     unfolding partOf
     walk left-is right-is public-is =
         qed W (Tokens ∷ ‵ (owns (D.the-row ∷ ShrSlice (named 0) κ u32 ∷ ShrSlice (named 1) κ′ u32 ∷ ShrSlice (named 2) κ‴ u32 ∷ R.the-row ∷ []) x at) ∷ []) ∵
         enter ! C Λ code.function (val-d d ∷ left-v ∷ right-v ∷ public-v ∷ val-r h ∷ []) _ $
-        alloc1 ! (λ l₀. alloc1 ! (λ l₁. alloc1 ! (λ l₂. alloc1 ! (λ l₃. alloc1 ! (λ l₄. alloc1 ! (λ l₅. alloc1 ! (λ l₆. alloc1 ! (λ l₇. alloc1 ! (λ l₈. alloc1 ! (λ l₉. alloc0 ! $ params1 ! $
+        alloc1 ! (λ l₀. alloc1 ! (λ l₁. alloc1 !
+        (λ l₂. alloc1 ! (λ l₃. alloc1 ! (λ l₄. alloc1 ! (λ l₅. alloc1 ! (λ l₆. alloc1 ! (λ l₇. alloc1 ! (λ l₈. alloc1 ! (λ l₉. alloc0 ! $ params1 ! $
         pass1 ! (init ! 16 refl (LL.lawful D.the-type D′.the-laws 𝓤 H A W .typed d _ d-is .0)) $
         pass1 ! (init ! 14 refl (shr-slice-lawful 𝓤 H A W (named 0) κ u32 .typed left (left-v ∷ []) left-is .0)) $
         pass1 ! (init ! 12 refl (shr-slice-lawful 𝓤 H A W (named 1) κ′ u32 .typed right (right-v ∷ []) right-is .0)) $
@@ -241,13 +254,17 @@ module _ {M : Type 1} (𝓤 : URA M) (H : Heap 𝓤) (A : Atoms 𝓤) (W : Given
         use1 W (‵ (cellAt fullShare (R.the-row .mir) (val-r h ∷ []) l₆ 0)) (W .laws .at-raw fullShare R′.mir l₆ 0 (val-r h)) $ fjoin ! $
         fpack ! (List Val) (λ us. fsep (cellAt fullShare (R.the-row .mir) us l₆ 0) (R.the-row .own h us)) (val-r h ∷ []) $
         lft-new ! tt (λ α. move ! (1 ∷ []) $
-        use1 W (later (some (λ (δ : GName). ‵ (MutRef (named 3) (α ∷ []) R.the-row .own (lent α δ l₆) (vptr l₆ 0 ∷ [])) ⊛ ‵ (flent (α ∷ []) (Body (mem R.the-row) l₆ 0 δ)))))
+        use1 W (later (some (λ (δ : GName). ‵ (MutRef (named 3) (α ∷ []) R.the-row .own (lent α δ l₆) (vptr l₆ 0 ∷ [])) ⊛ ‵
+        (flent (α ∷ []) (Body (mem R.the-row) l₆ 0 δ)))))
         (lends-ref 𝓤 H A W R.the-row (named 3) (α ∷ []) h l₆ 0) $ await ! tt $ pick ! (λ δ. split ! $
         -- [the reference; the lender's part; α's token; nothing; public; right; left; d; _9; …]: what `step_in_place` asks, with copies of what the tables own
         move ! (0 ∷ 3 ∷ []) $ fjoin ! $
-        move ! (3 ∷ []) $ use1 W (‵ Public ⊛ ‵ Public) (shr-slice-copy 𝓤 H A W (named 2) κ‴ u32 .twice public (public-v ∷ [])) $ split ! $ move ! (0 ∷ 2 ∷ []) $ fjoin ! $
-        move ! (4 ∷ []) $ use1 W (‵ Right ⊛ ‵ Right) (shr-slice-copy 𝓤 H A W (named 1) κ′ u32 .twice right (right-v ∷ [])) $ split ! $ move ! (0 ∷ 2 ∷ []) $ fjoin ! $
-        move ! (5 ∷ []) $ use1 W (‵ Left ⊛ ‵ Left) (shr-slice-copy 𝓤 H A W (named 0) κ u32 .twice left (left-v ∷ [])) $ split ! $ move ! (0 ∷ 2 ∷ []) $ fjoin ! $
+        move ! (3 ∷ []) $ use1 W (‵ Public ⊛ ‵ Public) (shr-slice-copy 𝓤 H A W (named 2) κ‴ u32 .twice public (public-v ∷ [])) $ split ! $
+        move ! (0 ∷ 2 ∷ []) $ fjoin ! $
+        move ! (4 ∷ []) $ use1 W (‵ Right ⊛ ‵ Right) (shr-slice-copy 𝓤 H A W (named 1) κ′ u32 .twice right (right-v ∷ [])) $ split ! $
+        move ! (0 ∷ 2 ∷ []) $ fjoin ! $
+        move ! (5 ∷ []) $ use1 W (‵ Left ⊛ ‵ Left) (shr-slice-copy 𝓤 H A W (named 0) κ u32 .twice left (left-v ∷ [])) $ split ! $
+        move ! (0 ∷ 2 ∷ []) $ fjoin ! $
         move ! (6 ∷ 0 ∷ []) $ fjoin ! $
         move ! (25 ∷ []) $ split ! $ move ! (1 ∷ []) $ split ! $ move ! (1 ∷ []) $ split ! $
         move ! (9 ∷ 1 ∷ []) $ join ! $ move ! (1 ∷ 0 ∷ []) $ join ! $ move ! (1 ∷ 0 ∷ []) $ join ! $ move ! (1 ∷ 0 ∷ []) $ join ! $
@@ -269,17 +286,21 @@ module _ {M : Type 1} (𝓤 : URA M) (H : Heap 𝓤) (A : Atoms 𝓤) (W : Given
         move ! (1 ∷ []) $ lft-end ! tt $ move ! (0 ∷ 6 ∷ 2 ∷ []) $
         use3 W (later (‵ (partAt R.the-row fullShare (next .run) l₆ 0))) (ref-back 𝓤 H A W R.the-row (α ∷ []) δ (next .run) l₆ 0) $ await ! tt $
         fpick ! (λ vs. fsplit ! $
-        spelt ! R.the-row (Is R.the-row) (shows 𝓤 H A R.the-row) (LL.vals R.the-type R′.the-laws) (LL.tells R.the-type R′.the-laws) fullShare (next .run) vs l₆ 0 $
+        spelt ! R.the-row (Is R.the-row) (shows 𝓤 H A R.the-row) (LL.vals R.the-type R′.the-laws) (LL.tells R.the-type R′.the-laws)
+        fullShare (next .run) vs l₆ 0 $
         move ! (1 ∷ []) $ peeks ! R.the-row (Is R.the-row) (shows 𝓤 H A R.the-row) (next .run) (val-r (next .run) ∷ []) (λ run-is. drop ! $
         use1 W (‵ (fat fullShare R′.mir l₆ 0 (val-r (next .run)))) (W .laws .raw-at fullShare R′.mir l₆ 0 (val-r (next .run))) $
         -- [_6; the tables' tokens; left; right; public; _9; …; _7; …; _5; …; _0; …]: `_9 = _6`, `_0 = Stepped { _7, _9 }`
         assigns ! (of-opd ! (load ! (from ! (stop !)) (look ! 0 refl))) (from ! (stop !))
         (init ! 5 refl (LL.lawful R.the-type R′.the-laws 𝓤 H A W .typed (next .run) _ run-is .0)) $
-        assigns ! (agg ! (and-then ! (load ! (from ! (stop !)) (look ! 9 refl)) (and-then ! (load ! (from ! (stop !)) (look ! 5 refl)) (no-more !)))) (from ! (stop !))
+        assigns ! (agg ! (and-then ! (load ! (from ! (stop !)) (look ! 9 refl))
+        (and-then ! (load ! (from ! (stop !)) (look ! 5 refl)) (no-more !)))) (from ! (stop !))
         (init ! 22 refl (LL.lawful S.the-type S′.the-laws 𝓤 H A W .typed (gives o) _ (both o (outcome-is o v is) run-is) .0)) $
         returns ! (look ! 22 refl) $
-        forget ! 0 refl $ forget ! 5 refl $ forget ! 7 refl $ forget ! 9 refl $ forget ! 12 refl $ forget ! 14 refl $ forget ! 16 refl $ forget ! 18 refl $ forget ! 20 refl $ forget ! 22 refl $
-        move ! (22 ∷ 23 ∷ []) $ free1 ! $ move ! (20 ∷ 21 ∷ []) $ free1 ! $ move ! (18 ∷ 19 ∷ []) $ free1 ! $ move ! (16 ∷ 17 ∷ []) $ free1 ! $ move ! (14 ∷ 15 ∷ []) $ free1 ! $
+        forget ! 0 refl $ forget ! 5 refl $ forget ! 7 refl $ forget ! 9 refl $ forget ! 12 refl $ forget ! 14 refl $ forget ! 16 refl $ forget ! 18 refl $
+        forget ! 20 refl $ forget ! 22 refl $
+        move ! (22 ∷ 23 ∷ []) $ free1 ! $ move ! (20 ∷ 21 ∷ []) $ free1 ! $ move ! (18 ∷ 19 ∷ []) $ free1 ! $ move ! (16 ∷ 17 ∷ []) $ free1 ! $ move
+        ! (14 ∷ 15 ∷ []) $ free1 ! $
         move ! (12 ∷ 13 ∷ []) $ free1 ! $
         move ! (0 ∷ 11 ∷ []) $ free1 ! $ move ! (8 ∷ 9 ∷ []) $ free1 ! $ move ! (6 ∷ 7 ∷ []) $ free1 ! $ move ! (4 ∷ 5 ∷ []) $ free1 ! $ free0 ! $
         keep ! (0 ∷ 1 ∷ 2 ∷ 3 ∷ []) $ by ! (exits (gives o) (ap gives e) (both o (outcome-is o v is) run-is))))))))))))))))))))
@@ -303,7 +324,8 @@ module _ {M : Type 1} (𝓤 : URA M) (H : Heap 𝓤) (A : Atoms 𝓤) (W : Given
         ),
       ))
       (λ κs qs bounds a g are. via 𝓤 _ (fst∗ 𝓤 _ (emp 𝓤))
-      (walk 𝓤 H A W at-mem run (κs .0) (κs .1 .0) (κs .1 .1 .0) bounds (qs .0) (qs .1 .0) (qs .1 .1 .0) (a .0) (are .0) (a .1 .0) (a .1 .1 .0) (a .1 .1 .1 .0) (a .1 .1 .1 .1 .0) (are .1 .1 .1 .1 .0) C Λ fm known
+      (walk 𝓤 H A W at-mem run (κs .0) (κs .1 .0) (κs .1 .1 .0) bounds (qs .0) (qs .1 .0) (qs .1 .1 .0) (a .0) (are .0) (a .1 .0) (a .1 .1 .0) (a .1 .1 .1 .0)
+      (a .1 .1 .1 .1 .0) (are .1 .1 .1 .1 .0) C Λ fm known
       (are .1 .0) (are .1 .1 .0) (are .1 .1 .1 .0)))
 
   goes : AllGo 𝓤 H A W 3 (here.signature .params) (here.ended .kept) stayed
@@ -319,7 +341,8 @@ module _ {M : Type 1} (𝓤 : URA M) (H : Heap 𝓤) (A : Atoms 𝓤) (W : Given
   )
 
 here-meets : {M : Type 1} (𝓤 : URA M) (H : Heap 𝓤) (A : Atoms 𝓤) (W : Given 𝓤 H A) (at-mem : Memory → SProp 𝓤) (run : Routine → Fun 𝓤) (𝓣 : Tables 𝓤 H)
-    → Triple 𝓤 (𝓣 .C #solver·step-in-place) (Called 𝓤 H A at-mem run) → Meets 𝓤 H A here.signature (WpFn 𝓤 H (𝓣 .C) (𝓣 .Λ) code.function) (here.spec 𝓤 H A at-mem run)
+    → Triple 𝓤 (𝓣 .C #solver·step-in-place) (Called 𝓤 H A at-mem run) → Meets 𝓤 H A here.signature (WpFn 𝓤 H (𝓣 .C) (𝓣 .Λ) code.function)
+    (here.spec 𝓤 H A at-mem run)
 here-meets 𝓤 H A W at-mem run 𝓣 known =
     walk-meets 𝓤 H A here.ended stayed W (goes 𝓤 H A W at-mem run) (here.clauses 𝓤 H A at-mem run) (WpFn 𝓤 H (𝓣 .C) (𝓣 .Λ) code.function)
     (WpFn-mono 𝓤 H (W .laws) 𝓣 code.function) (here-walks 𝓤 H A W at-mem run (𝓣 .C) (𝓣 .Λ) (fmOf 𝓤 H (W .laws) 𝓣) known)
@@ -330,4 +353,5 @@ step-lent-spec 𝓤 H 𝓜 𝓖 𝓡 =
     entered 𝓤 H (tripleOf 𝓤 H (𝓖 .A) here.signature (here.spec 𝓤 H (𝓖 .A) (𝓜 .mem) (𝓡 .run)))
     (tables 𝓤 H 𝓜 𝓡 code.env .C) (tables 𝓤 H 𝓜 𝓡 code.env .Λ) #solver·step-lent code.function (code.unfolded 𝓤 H 𝓜 𝓡)
     (here-meets 𝓤 H (𝓖 .A) (givenOf 𝓤 H 𝓜 𝓖) (𝓜 .mem) (𝓡 .run) (tablesOf 𝓤 H 𝓜 (tables 𝓤 H 𝓜 𝓡 code.env))
-    (cited 𝓤 H (Called 𝓤 H (𝓖 .A) (𝓜 .mem) (𝓡 .run)) 𝓜 𝓡 code.env #solver·step-in-place in-place-def.routine code.calls-solver·step-in-place (in-place-thm.met 𝓤 H 𝓜 𝓖 𝓡)))
+    (cited 𝓤 H (Called 𝓤 H (𝓖 .A) (𝓜 .mem) (𝓡 .run)) 𝓜 𝓡 code.env #solver·step-in-place in-place-def.routine code.calls-solver·step-in-place
+    (in-place-thm.met 𝓤 H 𝓜 𝓖 𝓡)))

@@ -1,5 +1,4 @@
 -- `check_state` meets its contract: a check that fails decides.
--- Assumes nothing.
 use mathlib.Core.Path.{sym, _∙_}
 use borrow.Author.Tests.{not-true, not-false}
 use Rattle.state.proofs.Checks.{refuse-state, refuse-other, take-state}
@@ -16,12 +15,14 @@ returns c = refuse-state (c .before .before .args .d) (c .before .before .args .
 returns-2 : tie.Need-returns-2
 returns-2 c =
     let start = c .before .before .before .before .before in
-    refuse-other (start .args .d) (start .args .run) (sym (c .before .before .before .before .well-formed .ensures) ∙ not-false _ (c .before .before .before .if1 .left)) (c .if2 .taken)
+    refuse-other (start .args .d) (start .args .run) (sym (c .before .before .before .before .well-formed .ensures)
+    ∙ not-false _ (c .before .before .before .if1 .left)) (c .if2 .taken)
 
 returns-3 : tie.Need-returns-3
 returns-3 c =
     let start = c .before .before .before .before .before in
-    take-state (start .args .d) (start .args .run) (sym (c .before .before .before .before .well-formed .ensures) ∙ not-false _ (c .before .before .before .if1 .left)) (c .if2 .left)
+    take-state (start .args .d) (start .args .run) (sym (c .before .before .before .before .well-formed .ensures)
+    ∙ not-false _ (c .before .before .before .if1 .left)) (c .if2 .left)
 
 pub check-state-spec : {M : Type 1} → statement M
 check-state-spec = tie.close (tie.spec well-formed-requires returns returns-2 returns-3)

@@ -1,5 +1,4 @@
 -- `precedes` meets its contract: each test of words is the definition's test of variables.
--- Assumes nothing.
 use mathlib.Core.Path.{sym, _∙_}
 use native.Mathlib.Omega.{arith}
 use borrow.Author.Needs.{needs}
@@ -23,7 +22,8 @@ bit-requires c κs = search needs
 returns-3 : tie.Need-returns-3
 returns-3 c =
     let own = c .before .before .before .before in
-    not-free _ _ _ _ (sym (own .before .sets .ensures) ∙ not-false _ (own .if1 .left)) (c .before .before .before .if2 .left) (sym (c .before .bit .ensures) ∙ c .if3 .taken)
+    not-free _ _ _ _ (sym (own .before .sets .ensures) ∙ not-false _ (own .if1 .left)) (c .before .before .before .if2 .left)
+    (sym (c .before .bit .ensures) ∙ c .if3 .taken)
 
 returns-4 : tie.Need-returns-4
 returns-4 c =

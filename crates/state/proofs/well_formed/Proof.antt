@@ -1,5 +1,4 @@
 -- `well_formed` meets its contract: each test that fails makes the definition false, and the unused levels decide where all hold.
--- Assumes nothing.
 use mathlib.Core.Path.{sym, _∙_}
 use borrow.Author.Needs.{needs}
 use borrow.Author.Tests.{not-true, not-false}
@@ -31,7 +30,8 @@ cast-if4 c = search needs
 returns-4 : tie.Need-returns-4
 returns-4 c =
     let own = c .before .before in
-    too-deep _ (own .before .before .before .if1 .left) (own .before .before .if2 .left) (sym (own .before .sets .ensures) ∙ not-false _ (own .if3 .left)) (c .if4 .taken)
+    too-deep _ (own .before .before .before .if1 .left) (own .before .before .if2 .left)
+    (sym (own .before .sets .ensures) ∙ not-false _ (own .if3 .left)) (c .if4 .taken)
 
 chain-requires : tie.Need-chain-requires
 chain-requires c κs = search needs

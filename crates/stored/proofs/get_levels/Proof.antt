@@ -1,5 +1,4 @@
 -- `get_levels` meets its contract: the levels read so far, with those left, are at each turn those of the whole; the measure is how many are left.
--- Assumes nothing.
 use mathlib.Core.Path.{_≡_, refl, sym, _∙_}
 use native.Mathlib.Omega.{arith}
 use Prim.Native.Nat.{_≤_, _-_}
@@ -64,8 +63,12 @@ loop-less c = search needs
 
 loop-again : tie.Need-loop-again Inv-loop μ-loop
 loop-again c = let l = c .before in
-    let s = l .before in
-    (search needs, simp length-set (l .loop .inv .1), read-turn (s .args .t1) (l .loop .levels) (l .loop .l) (l .loop .inv .1) (c .loop-test .taken) ∙ l .loop .inv .2)
+    let s = l .before in (
+      search needs,
+      simp length-set (l .loop .inv .1),
+      read-turn (s .args .t1) (l .loop .levels) (l .loop .l) (l .loop .inv .1)
+          (c .loop-test .taken) ∙ l .loop .inv .2,
+    )
 
 returns : tie.Need-returns Inv-loop μ-loop
 returns c = let l = c .before in

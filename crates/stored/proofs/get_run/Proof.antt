@@ -1,5 +1,4 @@
 -- `get_run` meets its contract: its parts are the words and those of its callees.
--- Assumes nothing.
 use lib.ListN.{getD}
 use Rattle.stored.specs.Words.{heldRun}
 use Rattle.stored.proofs.Holding.{held-n}

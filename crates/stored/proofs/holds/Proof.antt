@@ -1,5 +1,4 @@
 -- `holds` meets its contract: an n that is too wide makes the definition false, and else the standing decides.
--- Assumes nothing.
 use mathlib.Core.Path.{sym}
 use borrow.Author.Needs.{needs}
 use Rattle.stored.proofs.Holding.{wide-n, standing-decides}

@@ -1,5 +1,4 @@
 -- `load` meets its contract: the run of words that hold one, or else the run of no variables.
--- Assumes nothing.
 use mathlib.Core.Path.{sym, _∙_}
 use borrow.Author.Tests.{not-true, not-false}
 use Rattle.stored.proofs.Holding.{no-run, held-run}

@@ -1,5 +1,4 @@
 -- `put_levels` meets its contract: with the levels that are left, the words are at each turn those of the whole; the measure is how many are left.
--- Assumes nothing.
 use mathlib.Core.Path.{_≡_, refl, sym, _∙_}
 use native.Mathlib.Omega.{arith}
 use Prim.Native.Nat.{_≤_, _-_}

@@ -1,5 +1,4 @@
 -- `standing_of` meets its contract: each arm's number decides the definition's tests.
--- Assumes nothing.
 use mathlib.Core.Path.{sym, ap}
 use borrow.Author.Tests.{ne-eqb}
 use Rattle.stored.specs.Words.{standingOf}

@@ -1,5 +1,4 @@
 -- `words` meets its contract: five stores and the levels' are the stores of the run's words.
--- Assumes nothing.
 use mathlib.Core.Path.{refl}
 use lib.ListN.{replicate, length-map}
 use Rattle.stored.proofs.Storing.{stored-all}
@@ -38,7 +37,8 @@ returns : tie.Need-returns
 returns c =
     let start = c .before .before .before .before .before in
     let levels = simp length-map at (start .good .0 .1 .1 .1 .1 .1 .1 .1 .0 .1 .0 .1) in
-    stored-all (start .args .run) (replicate 101 0) levels refl _ _ _ (c .before .before .number .ensures) (c .before .depth-word .ensures) (c .put-levels .ensures)
+    stored-all (start .args .run) (replicate 101 0) levels refl _ _ _ (c .before .before .number .ensures)
+    (c .before .depth-word .ensures) (c .put-levels .ensures)
 
 pub words-spec : {M : Type 1} → statement M
 words-spec =

@@ -1,5 +1,4 @@
 -- `set_literal` meets its contract by the literal's sign.
--- Assumes nothing.
 use mathlib.Core.Path.{_∙_}
 use borrow.Author.Needs.{needs}
 use Rattle.tally.proofs.Gathering.{sign-true, sign-false}

@@ -1,5 +1,4 @@
 -- `refused_line` meets its contract: the appends are one, and what they append has room.
--- Assumes nothing.
 use mathlib.Core.Path.{ap, _∙_}
 use Prim.Native.Nat.{ℕ}
 use Rattle.text.specs.Texts.{appended}
@@ -36,7 +35,8 @@ append-requires-2 c κs = search needs
 returns : tie.Need-returns
 returns c =
     let number = c .before .before .before in
-    refused-composed (number .before .before .before .before .args .given) (number .before .before .before .empty .result) (number .before .append .result) (c .before .before .decimal .result) (c .append2 .result)
+    refused-composed (number .before .before .before .before .args .given) (number .before .before .before .empty .result) (number .before .append .result)
+    (c .before .before .decimal .result) (c .append2 .result)
     (number .before .before .before .empty .ensures) (number .before .append .ensures)
     (c .before .before .decimal .ensures ∙ ap (λ (x : ℕ). appended (number .before .append .result) (decimal x)) (number .number .ensures))
     (c .append2 .ensures)

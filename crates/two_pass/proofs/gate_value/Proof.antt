@@ -1,5 +1,4 @@
 -- `gate_value` meets its contract: the table's entry is the value, at each kind and each pair of wires.
--- Assumes nothing.
 use borrow.Author.Needs.{needs}
 use Rattle.two_pass.proofs.InPlace.{table-at}
 use Rattle.two_pass.proofs.gate_value.Statement.{statement}

@@ -1,5 +1,4 @@
 -- `run` meets its contract: `Run` holds at each turn, and at the end says that the buffer is filled.
--- Assumes nothing.
 use borrow.Author.Needs.{needs}
 use mathlib.Core.Path.{_≡_, refl, sym, _∙_}
 use mathlib.Core.Bool.{true}
@@ -21,23 +20,36 @@ Inv-loop gates wires₀ n values end i₀ m₀ wires i m = Run bytesOf (bitsOf (
 abbrev μ-loop : tie.MeasureT-loop
 μ-loop gates wires₀ n values end i₀ m₀ wires i m = end - m
 
+-- ---- the places of the code, each from the one behind it
+
+abbrev entered : tie.At-loop Inv-loop μ-loop → tie.Start Inv-loop μ-loop
+entered c = c .before .before .before
+
+abbrev turning : tie.After-shared-slice-known4 Inv-loop μ-loop → tie.In-loop Inv-loop μ-loop
+turning c = c .before .before .before
+
+abbrev turned : tie.After-slice-known3 Inv-loop μ-loop → tie.In-loop Inv-loop μ-loop
+turned c = turning (c .before .before .before)
+
+-- ---- what is known there
+
 -- the gate of a turn may drive its wire
 may-drive : (c : tie.In-loop Inv-loop μ-loop)
-    → let g = c .before .before .before .before .args .gates .now in
+    → let g = entered (c .before) .args .gates .now in
     let l = c .before .loop in
     drives (l .m) (getD g (l .i) 0) (getD g (l .i + 1) 0) (getD g (l .i + 2) 0) ≡ true
 may-drive c =
-    let p = c .before .before .before .before .pre in
+    let p = entered (c .before) .pre in
     and-l _ _ (sym (judged-at (c .before .loop .inv) (p .1 .0) (omega arith)) ∙ p .0)
 
 -- what is known of the gate of a turn
 turn : (c : tie.In-loop Inv-loop μ-loop)
-    → let g = c .before .before .before .before .args .gates .now in
+    → let g = entered (c .before) .args .gates .now in
     let l = c .before .loop in
     (l .i + 3 ≤ length g) × (getD g (l .i) 0 < 3) × (getD g (l .i + 1) 0 < l .m) × (getD g (l .i + 2) 0 < l .m) × (l .m < length (l .wires))
     × ((a : ℕ) → a < l .m → getD (l .wires) a 0 < 2)
 turn c =
-    let s = c .before .before .before .before in
+    let s = entered (c .before) in
     let g = s .args .gates .now in
     let l = c .before .loop in
     let b = drives-below (l .m) (getD g (l .i) 0) (getD g (l .i + 1) 0) (getD g (l .i + 2) 0) (may-drive c) in (
@@ -86,31 +98,31 @@ cast-b : tie.Need-cast-b Inv-loop μ-loop
 cast-b c = omega (arith, c .shared-slice-known4 .given (c .before .before .before .before .loop .i + 2) .fits)
 
 slice-read-gate-value : tie.Need-slice-read-gate-value Inv-loop μ-loop
-slice-read-gate-value c = let t = turn (c .before .before .before .before .before) in omega arith
+slice-read-gate-value c = let t = turn (turning (c .before .before)) in omega arith
 
 slice-read-gate-value-2 : tie.Need-slice-read-gate-value-2 Inv-loop μ-loop
-slice-read-gate-value-2 c = let t = turn (c .before .before .before .before .before .before) in omega arith
+slice-read-gate-value-2 c = let t = turn (turned c) in omega arith
 
 gate-value-requires : tie.Need-gate-value-requires Inv-loop μ-loop
-gate-value-requires c κs = let t = turn (c .before .before .before .before .before .before) in (refl, (t .1, (t .5 _ (t .2), t .5 _ (t .3))))
+gate-value-requires c κs = let t = turn (turned c) in (refl, (t .1, (t .5 _ (t .2), t .5 _ (t .3))))
 
 slice-write-wires : tie.Need-slice-write-wires Inv-loop μ-loop
-slice-write-wires c = let t = turn (c .before .before .before .before .before .before .before) in omega arith
+slice-write-wires c = let t = turn (turned (c .before)) in omega arith
 
 add-i : tie.Need-add-i Inv-loop μ-loop
-add-i c = let t = turn (c .before .before .before .before .before .before .before) in omega arith
+add-i c = let t = turn (turned (c .before)) in omega arith
 
 add-m : tie.Need-add-m Inv-loop μ-loop
-add-m c = let t = turn (c .before .before .before .before .before .before .before) in omega arith
+add-m c = let t = turn (turned (c .before)) in omega arith
 
 loop-less : tie.Need-loop-less Inv-loop μ-loop
 loop-less c = search needs
 
 loop-again : tie.Need-loop-again Inv-loop μ-loop
 loop-again c =
-    let h = c .before .before .before .before .before .before .before in
+    let h = turned (c .before) in
     let l = h .before in
-    again (l .loop .inv) (l .before .before .before .pre .1 .0) (c .gate-value .result) (omega (arith, h .loop-test .taken)) (may-drive h) (c .gate-value .ensures)
+    again (l .loop .inv) (entered l .pre .1 .0) (c .gate-value .result) (omega (arith, h .loop-test .taken)) (may-drive h) (c .gate-value .ensures)
 
 same-length : tie.Need-same-length Inv-loop μ-loop
 same-length c = c .before .loop .inv .size
@@ -118,7 +130,7 @@ same-length c = c .before .loop .inv .size
 returns : tie.Need-returns Inv-loop μ-loop
 returns c =
     let l = c .before in
-    let p = l .before .before .before .pre in
+    let p = entered l .pre in
     all-ran (l .loop .inv) (p .1 .0) (p .0) (omega (arith, c .loop-test .left))
 
 pub run-spec : {M : Type 1} → statement M

@@ -1,5 +1,4 @@
 -- `goes_on` meets its contract: by the standing.
--- Assumes nothing.
 use mathlib.Core.Path.{sym, ap}
 use mathlib.Core.Bool.{false}
 use lib.Dec.{ltb}

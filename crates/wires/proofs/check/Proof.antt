@@ -1,5 +1,4 @@
 -- `check` meets its contract: each test of the code is a condition of the definition, in its order.
--- Assumes nothing.
 use mathlib.Core.Path.{sym, subst, _∙_}
 use Prim.Native.Nat.{ℕ, _≤_, _<_}
 use Rattle.tables.specs.Tables.{Tables, allTables}

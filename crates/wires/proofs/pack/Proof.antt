@@ -1,5 +1,4 @@
 -- `pack` meets its contract: left rows, right rows, public rows and state are stored one behind the other.
--- Assumes nothing.
 use mathlib.Core.Path.{_≡_, sym, _∙_}
 use native.Mathlib.Omega.{arith}
 use lib.ListN.{length}

@@ -1,5 +1,4 @@
 -- `pack_state` meets its contract: each test of the code is a condition of the definition, in its order, and the state's wires are stored at the front.
--- Assumes nothing.
 use mathlib.Core.Path.{_≡_, sym, subst, _∙_}
 use mathlib.Core.Bool.{true, false}
 use Prim.Native.Nat.{ℕ, _≤_, _<_}
@@ -59,7 +58,8 @@ returns-3 c =
     let h = subst (λ (k : ℕ). k ≤ length (s .args .bytes .now)) (at-state-wires .state-wires .ensures) (at-if1 .if1 .left) in
     let f : wellFormed (s .args .run) ≡ true = sym (at-well-formed .well-formed .ensures) ∙ not-false _ (at-if2 .if2 .left) in (
       sym f ∙ state-decided (s .args .run) (s .args .bytes .now) h,
-      at-put-state .put-state .ensures ∙ stored-front (s .args .bytes .now) w (omega (arith, h, state-length (s .args .run .n) (stateOf (s .args .run)))) ∙ state-packed (s .args .run) (s .args .bytes .now) h f,
+      at-put-state .put-state .ensures ∙ stored-front (s .args .bytes .now) w (omega (arith, h, state-length (s .args .run .n) (stateOf (s .args .run))))
+          ∙ state-packed (s .args .run) (s .args .bytes .now) h f,
     )
 
 pub pack-state-spec : {M : Type 1} → statement M

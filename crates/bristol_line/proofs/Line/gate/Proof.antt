@@ -1,5 +1,4 @@
 -- `gate` meets its contract: the kind picks the definition's case.
--- Assumes nothing.
 use mathlib.Core.Path.{_≡_, refl, sym, ap, _∙_}
 use Prim.Native.Nat.{ℕ, zero, suc}
 use Rattle.gates.specs.Gates.{Gate}
@@ -39,7 +38,8 @@ returns-2 c =
 returns-3 : tie.Need-returns-3
 returns-3 c =
     let start = c .before .before .args in
-    c .one-input .ensures ∙ ap (λ (g : Gate). lineOf (gateLine (start .wire) g)) (sym (gate-inv (start .kind) (start .a) (start .b) (c .before .match .rest .0 .1) (c .before .match .rest .1)))
+    c .one-input .ensures ∙ ap (λ (g : Gate). lineOf (gateLine (start .wire) g))
+    (sym (gate-inv (start .kind) (start .a) (start .b) (c .before .match .rest .0 .1) (c .before .match .rest .1)))
 
 pub gate-spec : {M : Type 1} → statement M
 gate-spec =

@@ -1,5 +1,4 @@
 -- `inputs` meets its contract: whether there are public rows picks the definition's case.
--- Assumes nothing.
 use mathlib.Core.Path.{sym, ap, _∙_}
 use mathlib.Core.Bool.{Bool, cond}
 use borrow.Author.Needs.{needs}

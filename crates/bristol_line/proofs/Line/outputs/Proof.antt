@@ -1,5 +1,4 @@
 -- `outputs` meets its contract: its pieces are the line.
--- Assumes nothing.
 use mathlib.Core.Path.{_≡_, ap, ap₂, _∙_}
 use mathlib.Core.List.{List, [], _∷_, _++_, append-assoc}
 use Prim.Native.Nat.{ℕ}
@@ -29,13 +28,16 @@ put-field-requires-3 c κs = search needs
 
 returns : tie.Need-returns
 returns c =
-    let d = c .before .before .before .before .before .before .before .args .d in
-    let state = c .before .before .before .before in
+    let second = c .before .before in
+    let state = second .before .before in
+    let first = state .before in
+    let d = first .before .before .args .d in
     let wires = state .state-wires .result in
     let fields : List ℕ → ℕ → List ℕ → List (List ℕ) = λ count k closing. count ∷ decimal k ∷ closing ∷ [] in
     let pieces : (spaced 2 ++ spaced wires) ++ ended 1 ≡ line (fields (decimal 2) wires (decimal 1)) = simp append-assoc in
     made ((spaced 2 ++ spaced wires) ++ ended 1) (outputLine d) _ _
-    (three-pieces zeros (spaced 2) (spaced wires) (ended 1) _ _ _ _ _ _ (c .before .before .before .before .before .put-field .ensures .1) (c .before .before .put-field2 .ensures .1) (c .put-field3 .ensures .1))
+    (three-pieces zeros (spaced 2) (spaced wires) (ended 1) _ _ _ _ _ _
+    (first .put-field .ensures .1) (second .put-field2 .ensures .1) (c .put-field3 .ensures .1))
     (pieces ∙ ap₂ (λ (count : List ℕ) (k : ℕ). line (fields count k (decimal 1))) (decimal-digit 2 (omega arith)) (state .state-wires .ensures)
     ∙ ap (λ (closing : List ℕ). line (fields (bytes "2") (stateWires (d .n)) closing)) (decimal-digit 1 (omega arith)))
 

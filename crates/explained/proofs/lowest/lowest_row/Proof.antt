@@ -40,7 +40,8 @@ returns c =
     let second = c .before .search2 in
     let first = c .before .before .search in
     let a = start (c .before .before) .args in
-    three-tables (shows 32 (a .t) (a .f) (a .rule)) (rowsIn (a .left .now)) (rowsIn (a .right .now)) (rowsIn (a .public .now)) _ _ (first .result) (second .result) (c .search3 .result)
+    three-tables (shows 32 (a .t) (a .f) (a .rule)) (rowsIn (a .left .now)) (rowsIn (a .right .now)) (rowsIn (a .public .now)) _ _ (first .result)
+    (second .result) (c .search3 .result)
     (omega (arith, table-length (a .left .now) 0 (length (a .left .now) / 2))) (omega (arith, table-length (a .right .now) 0 (length (a .right .now) / 2)))
     (first .ensures) (second .ensures) (c .search3 .ensures)
 

@@ -26,7 +26,8 @@ looked : (c : tie.In-loop Inv-loop μ-loop) → let l = c .before .loop in (l .i
 looked c = let l = c .before .loop in turn (l .i) (length (start c .args .words .now) / 2) (l .found) (c .loop-test .taken)
 
 loop-holds : tie.Need-loop-holds Inv-loop μ-loop
-loop-holds c = let a = c .before .args in (omega arith, searched-start (shows 32 (a .t) (a .f) (a .rule)) (a .words .now) (length (a .words .now) / 2) (a .first) (a .found))
+loop-holds c = let a = c .before .args in
+    (omega arith, searched-start (shows 32 (a .t) (a .f) (a .rule)) (a .words .now) (length (a .words .now) / 2) (a .first) (a .found))
 
 mul-at : tie.Need-mul-at Inv-loop μ-loop
 mul-at c = search needs
@@ -67,7 +68,8 @@ loop-again c =
     let l = t .before .loop in
     let a = start t .args in (
       omega (arith, looked t .0),
-      searched-next (shows 32 (a .t) (a .f) (a .rule)) (a .words .now) (length (a .words .now) / 2) (a .first) (a .found) (l .i) (l .found) (c .number-or .result)
+      searched-next (shows 32 (a .t) (a .f) (a .rule)) (a .words .now) (length (a .words .now) / 2) (a .first) (a .found) (l .i)
+          (l .found) (c .number-or .result)
           (start t .pre .1 .0) (looked t .0) (looked t .1) (c .number-or .ensures) (l .inv .1),
     )
 
@@ -75,7 +77,8 @@ returns : tie.Need-returns Inv-loop μ-loop
 returns c =
     let l = c .before .loop in
     let a = c .before .before .before .args in
-    searched-end (shows 32 (a .t) (a .f) (a .rule)) (a .words .now) (length (a .words .now) / 2) (a .first) (a .found) (l .i) (l .found) (c .loop-test .left) (l .inv .1)
+    searched-end (shows 32 (a .t) (a .f) (a .rule)) (a .words .now) (length (a .words .now) / 2) (a .first) (a .found) (l .i) (l .found)
+    (c .loop-test .left) (l .inv .1)
 
 pub search-spec : {M : Type 1} → statement M
 search-spec =

@@ -1,5 +1,4 @@
 -- `along` meets its contract: what is left to store gives the slots after i steps, and each sum fits.
--- Assumes nothing.
 use mathlib.Core.Path.{_≡_}
 use Prim.Native.Nat.{_-_, _≤_}
 use native.Mathlib.Omega.{arith}
@@ -35,12 +34,20 @@ array-read-here-2 c = omega arith
 mul-here-3 : tie.Need-mul-here-3 Inv-loop μ-loop
 mul-here-3 c =
     let s = c .before .before in
-    omega (arith, step-fits (s .args .t1) (s .args .t2) (s .args .i) (s .pre .0) (s .pre .1) (s .pre .2) (omega arith) (omega arith) (c .before .loop .k) (omega arith))
+    omega (
+      arith,
+      step-fits (s .args .t1) (s .args .t2) (s .args .i) (s .pre .0) (s .pre .1) (s .pre .2) (omega arith) (omega arith)
+          (c .before .loop .k) (omega arith),
+    )
 
 add-here : tie.Need-add-here Inv-loop μ-loop
 add-here c =
     let s = c .before .before in
-    omega (arith, sum-fits (s .args .t1) (s .args .t2) (s .args .i) (s .pre .0) (s .pre .1) (s .pre .2) (omega arith) (omega arith) (c .before .loop .k) (omega arith))
+    omega (
+      arith,
+      sum-fits (s .args .t1) (s .args .t2) (s .args .i) (s .pre .0) (s .pre .1) (s .pre .2) (omega arith) (omega arith)
+          (c .before .loop .k) (omega arith),
+    )
 
 mul-here-4 : tie.Need-mul-here-4 Inv-loop μ-loop
 mul-here-4 c = omega arith
@@ -57,8 +64,12 @@ loop-less c = search needs
 loop-again : tie.Need-loop-again Inv-loop μ-loop
 loop-again c =
     let l = c .before in
-    let s = l .before in
-    (omega arith, simp length-set (l .loop .inv .1), along-more (s .args .t1) (s .args .t2) (l .loop .here) (s .args .i) (l .loop .k) _ (c .loop-test .taken) (l .loop .inv .2))
+    let s = l .before in (
+      omega arith,
+      simp length-set (l .loop .inv .1),
+      along-more (s .args .t1) (s .args .t2) (l .loop .here) (s .args .i) (l .loop .k) _
+          (c .loop-test .taken) (l .loop .inv .2),
+    )
 
 returns : tie.Need-returns Inv-loop μ-loop
 unfolding from

@@ -1,5 +1,4 @@
 -- `cells` meets its contract: each turn places one more cell behind those that stand.
--- Assumes nothing.
 use borrow.Author.Needs.{needs}
 use mathlib.Core.Path.{_≡_, refl, ap, sym}
 use Prim.Native.Nat.{_+_, _*_, _-_, _≤_}
@@ -43,9 +42,10 @@ place-requires c κs =
 
 add-at : tie.Need-add-at Inv-loop μ-loop
 add-at c =
-    let l = c .before .before .before .before .before .before in
+    let at-loop-test = c .before .before .before .before .before in
+    let l = at-loop-test .before in
     let s = l .before .before .before in
-    let t = turns (length (s .args .template .now)) (s .args .n) (l .loop .i) 16 384 (s .pre .0 .1) (s .pre .1 .0 .0) (c .before .before .before .before .before .loop-test .taken) in
+    let t = turns (length (s .args .template .now)) (s .args .n) (l .loop .i) 16 384 (s .pre .0 .1) (s .pre .1 .0 .0) (at-loop-test .loop-test .taken) in
     omega arith
 
 add-i : tie.Need-add-i Inv-loop μ-loop
@@ -62,7 +62,8 @@ loop-again c =
     let s = l .before .before .before in (
       omega arith,
       omega arith,
-      cells-more (gatesIn (s .args .template .now)) (s .args .slots) (s .args .steps) _ (s .args .base) (l .loop .at) (length (s .args .template .now)) (l .loop .i) _ _ _ _ (3 * (l .loop .at - s .args .inputs))
+      cells-more (gatesIn (s .args .template .now)) (s .args .slots) (s .args .steps) _ (s .args .base) (l .loop .at) (length (s .args .template .now))
+          (l .loop .i) _ _ _ _ (3 * (l .loop .at - s .args .inputs))
           (l .loop .inv .2) (sym (length-map (s .args .template .now) _)) (omega arith) (at-along .along .ensures) (l .loop .inv .1) (at-place .place .ensures),
     )
 

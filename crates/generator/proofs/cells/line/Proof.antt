@@ -1,5 +1,4 @@
 -- `line` meets its contract: zeros are cells too, and the others stand behind them.
--- Assumes nothing.
 use mathlib.Core.Path.{refl}
 use Prim.Native.Nat.{_+_, _*_, _-_}
 use native.Mathlib.Omega.{arith}
@@ -33,7 +32,8 @@ returns c =
     let at-cells2 = c .before .before in
     let at-cells = at-cells2 .before .before .before .before in
     let s = at-cells .before .before .before .before .before in
-    line-whole (s .args .zeros) (gatesIn (s .args .template .now)) (s .args .slots) (s .args .steps) (s .args .base) (s .args .n) (s .args .words .now) _ _ (3 * (s .args .base - s .args .inputs)) (3 * (s .args .base + s .args .zeros - s .args .inputs))
+    line-whole (s .args .zeros) (gatesIn (s .args .template .now)) (s .args .slots) (s .args .steps) (s .args .base) (s .args .n) (s .args .words .now) _ _
+    (3 * (s .args .base - s .args .inputs)) (3 * (s .args .base + s .args .zeros - s .args .inputs))
     (at-cells .cells .ensures) (omega arith) (at-cells2 .cells2 .ensures)
 
 pub line-spec : {M : Type 1} → statement M

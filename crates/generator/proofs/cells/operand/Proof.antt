@@ -1,5 +1,4 @@
 -- `operand` meets its contract: the test is the definition's.
--- Assumes nothing.
 use borrow.Author.Tests.{lt-ltb, le-ltb}
 use borrow.Author.Needs.{needs}
 use Rattle.generator.proofs.cells.operand.Statement.{statement}

@@ -1,5 +1,4 @@
 -- `place` meets its contract: each turn stores a gate's three words, and what is left of the template gives the rest.
--- Assumes nothing.
 use borrow.Author.Needs.{needs}
 use Prim.Native.Nat.{_+_, _*_, _-_, _^_, _≤_, _<_}
 use native.Mathlib.Omega.{arith}
@@ -80,7 +79,8 @@ loop-less c = search needs
 loop-again : tie.Need-loop-again Inv-loop μ-loop
 loop-again c =
     let l = c .before .before .before .before in
-    again _ _ _ _ _ _ _ _ (l .loop .inv) (c .before .before .before .loop-test .taken) (c .before .operand .result) (c .second .result) (c .before .operand .ensures) (c .second .ensures)
+    again _ _ _ _ _ _ _ _ (l .loop .inv) (c .before .before .before .loop-test .taken) (c .before .operand .result) (c .second .result)
+    (c .before .operand .ensures) (c .second .ensures)
 
 same-length : tie.Need-same-length Inv-loop μ-loop
 same-length c = c .before .loop .inv .size

@@ -1,5 +1,4 @@
 -- `second` meets its contract: the test is the definition's.
--- Assumes nothing.
 use borrow.Author.Tests.{eq-eqb, ne-eqb}
 use borrow.Author.Needs.{needs}
 use Rattle.generator.proofs.cells.second.Statement.{statement}

@@ -1,5 +1,4 @@
 -- `section` meets its contract: the part of the templates that it lends is the section's template.
--- Assumes nothing.
 use mathlib.Core.Path.{_≡_, refl, subst}
 use mathlib.Core.List.{List}
 use Prim.Native.Nat.{_*_, _-_}
@@ -27,7 +26,8 @@ part-array-end c = search needs
 array-requires : tie.Need-array-requires
 array-requires c κs =
     let a = c .before .before .before .before in
-    let p = part _ refl refl refl (a .args .first) (a .args .end) (a .args .s .template) (a .args .s .size) (a .pre .0 .0) (a .pre .0 .1) (a .pre .1 .named .0) in
+    let p = part _ refl refl refl (a .args .first) (a .args .end) (a .args .s .template) (a .args .s .size) (a .pre .0 .0)
+    (a .pre .0 .1) (a .pre .1 .named .0) in
     ((p .0, p .1), a .pre .1)
 
 same-length : tie.Need-same-length
@@ -37,8 +37,10 @@ returns : tie.Need-returns
 returns c =
     let at-array = c .before .before in
     let a = at-array .before .before .before .before .before in
-    let p = part _ refl refl refl (a .args .first) (a .args .end) (a .args .s .template) (a .args .s .size) (a .pre .0 .0) (a .pre .0 .1) (a .pre .1 .named .0) in
-    subst (λ (t : List Gate). at-array .array .last .0 ≡ sets (a .args .words .now) (3 * (a .args .s .base - a .args .inputs)) (wordsOf (inArray t (a .args .s))))
+    let p = part _ refl refl refl (a .args .first) (a .args .end) (a .args .s .template) (a .args .s .size) (a .pre .0 .0)
+    (a .pre .0 .1) (a .pre .1 .named .0) in
+    subst (λ (t : List Gate). at-array .array .last .0 ≡ sets (a .args .words .now) (3 * (a .args .s .base - a .args .inputs))
+    (wordsOf (inArray t (a .args .s))))
     (p .2) (at-array .array .ensures)
 
 pub section-spec : {M : Type 1} → statement M

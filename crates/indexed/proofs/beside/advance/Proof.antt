@@ -1,5 +1,4 @@
 -- `advance` meets its contract: an open run follows the rule read off its tally, and a closed one stays.
--- Assumes nothing.
 use mathlib.Core.Path.{_≡_}
 use lib.ListN.{length, length-map}
 use Rattle.indexed.proofs.Advancing.{open-advance, satisfied-advance, refuted-advance}

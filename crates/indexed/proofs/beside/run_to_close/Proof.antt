@@ -1,5 +1,4 @@
 -- `run_to_close` meets its contract. The loop's invariant is that of the plain run, and that the tally is exact; the measure is what is left of the budget.
--- Assumes nothing.
 use mathlib.Core.Path.{sym, _∙_}
 use Prim.Native.Nat.{_-_}
 use native.Mathlib.Omega.{arith}

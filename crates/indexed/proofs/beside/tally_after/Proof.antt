@@ -1,5 +1,4 @@
 -- `tally_after` meets its contract: by the rule.
--- Assumes nothing.
 use borrow.Author.Needs.{needs}
 use Rattle.indexed.proofs.beside.tally_after.Statement.{statement}
 use Rattle.indexed.proofs.beside.tally_after.Tie as tie

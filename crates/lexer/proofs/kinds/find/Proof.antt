@@ -1,4 +1,4 @@
--- `find` meets its contract: the run from `i` on ends where the run from `at` on ends. Assumes nothing.
+-- `find` meets its contract: the run from `i` on ends where the run from `at` on ends.
 use mathlib.Core.Path.{_≡_, refl, sym, ap, _∙_}
 use mathlib.Core.Bool.{not}
 use Prim.Native.Nat.{_-_}
@@ -28,7 +28,8 @@ is-kind-requires c κs = search needs
 returns : tie.Need-returns Inv-loop μ-loop
 returns c =
     let l = c .before .before .before .before in
-    sym (end-stop (λ b. not (passes (l .before .before .args .kind) b)) _ _ (c .before .before .before .loop-test .taken) (ap not (sym (c .before .is-kind .ensures) ∙ c .if1 .taken))) ∙ l .loop .inv
+    sym (end-stop (λ b. not (passes (l .before .before .args .kind) b)) _ _ (c .before .before .before .loop-test .taken)
+    (ap not (sym (c .before .is-kind .ensures) ∙ c .if1 .taken))) ∙ l .loop .inv
 
 add-i : tie.Need-add-i Inv-loop μ-loop
 add-i c = search needs
@@ -39,7 +40,8 @@ loop-less c = search needs
 loop-again : tie.Need-loop-again Inv-loop μ-loop
 loop-again c =
     let l = c .before .before .before .before in
-    sym (end-more (λ b. not (passes (l .before .before .args .kind) b)) _ _ (c .before .before .before .loop-test .taken) (ap not (sym (c .before .is-kind .ensures) ∙ c .if1 .left))) ∙ l .loop .inv
+    sym (end-more (λ b. not (passes (l .before .before .args .kind) b)) _ _ (c .before .before .before .loop-test .taken)
+    (ap not (sym (c .before .is-kind .ensures) ∙ c .if1 .left))) ∙ l .loop .inv
 
 returns-2 : tie.Need-returns-2 Inv-loop μ-loop
 returns-2 c = sym (end-out _ _ _ (c .loop-test .left)) ∙ c .before .loop .inv

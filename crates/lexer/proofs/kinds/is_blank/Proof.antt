@@ -1,4 +1,4 @@
--- `is_blank` meets its contract: by the test that held. Assumes nothing.
+-- `is_blank` meets its contract: by the test that held.
 use borrow.Author.Tests.{eq-eqb, ne-eqb}
 use Rattle.lexer.proofs.kinds.is_blank.Statement.{statement}
 use Rattle.lexer.proofs.kinds.is_blank.Tie as tie

@@ -1,4 +1,4 @@
--- `is_kind` meets its contract: at each kind by what its test ensures. Assumes nothing.
+-- `is_kind` meets its contract: at each kind by what its test ensures.
 use borrow.Author.Needs.{needs}
 use Rattle.lexer.proofs.kinds.is_kind.Statement.{statement}
 use Rattle.lexer.proofs.kinds.is_kind.Tie as tie

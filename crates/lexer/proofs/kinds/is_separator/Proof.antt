@@ -1,4 +1,4 @@
--- `is_separator` meets its contract: by what `is_tail` ensures. Assumes nothing.
+-- `is_separator` meets its contract: by what `is_tail` ensures.
 use mathlib.Core.Path.{_∙_, sym}
 use borrow.Author.Needs.{needs}
 use Rattle.lexer.proofs.kinds.is_separator.Statement.{statement}

@@ -1,4 +1,4 @@
--- `is_tail` meets its contract: by what `is_blank` ensures. Assumes nothing.
+-- `is_tail` meets its contract: by what `is_blank` ensures.
 use mathlib.Core.Path.{_∙_, sym}
 use borrow.Author.Needs.{needs}
 use Rattle.lexer.proofs.kinds.is_tail.Statement.{statement}

@@ -1,4 +1,4 @@
--- `skip` meets its contract: the run from `i` on ends where the run from `at` on ends. Assumes nothing.
+-- `skip` meets its contract: the run from `i` on ends where the run from `at` on ends.
 use mathlib.Core.Path.{_≡_, refl, sym, _∙_}
 use Prim.Native.Nat.{_-_}
 use lib.ListN.{length}

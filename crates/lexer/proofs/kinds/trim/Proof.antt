@@ -1,4 +1,4 @@
--- `trim` meets its contract: what stands before `end`, trimmed, is the text trimmed. Assumes nothing.
+-- `trim` meets its contract: what stands before `end`, trimmed, is the text trimmed.
 use mathlib.Core.Path.{_≡_, sym, ap, _∙_}
 use Prim.Native.Nat.{ℕ, _≤_}
 use native.Mathlib.Omega.{arith}
@@ -54,7 +54,8 @@ returns-2 : tie.Need-returns-2 Inv-loop μ-loop
 unfolding trimmed run
 returns-2 c =
     let z : c .before .loop .end ≡ 0 = omega arith in
-    z ∙ sym (ap (λ (i : ℕ). length (trimmed (passes (c .before .before .before .args .kind)) (take i (c .before .before .before .args .text .now)))) z) ∙ ap length (c .before .loop .inv .1)
+    z ∙ sym (ap (λ (i : ℕ). length (trimmed (passes (c .before .before .before .args .kind)) (take i (c .before .before .before .args .text .now)))) z)
+    ∙ ap length (c .before .loop .inv .1)
 
 pub trim-spec : {M : Type 1} → statement M
 trim-spec =

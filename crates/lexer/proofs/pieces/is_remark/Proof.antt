@@ -1,4 +1,4 @@
--- `is_remark` meets its contract: each test that fails is one of the definition's. Assumes nothing.
+-- `is_remark` meets its contract: each test that fails is one of the definition's.
 use mathlib.Core.Path.{sym}
 use mathlib.Core.Bool.{and-false}
 use Prim.Native.Nat.{ℕ, _-_}

@@ -1,4 +1,4 @@
--- `next_part` meets its contract: the piece lies between the two places that `skip` and `find` give. Assumes nothing.
+-- `next_part` meets its contract: the piece lies between the two places that `skip` and `find` give.
 use mathlib.Core.Path.{sym}
 use borrow.Author.Needs.{needs}
 use Rattle.lexer.proofs.Cuts.{first-at, first-none}

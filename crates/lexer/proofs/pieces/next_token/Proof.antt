@@ -1,4 +1,4 @@
--- `next_token` meets its contract: the token goes from the place that `token_start` gives to the next separator. Assumes nothing.
+-- `next_token` meets its contract: the token goes from the place that `token_start` gives to the next separator.
 use mathlib.Core.Path.{sym}
 use borrow.Author.Needs.{needs}
 use Rattle.lexer.proofs.Tokens.{first-at, first-none}

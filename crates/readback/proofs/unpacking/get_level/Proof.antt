@@ -1,5 +1,4 @@
 -- `get_level` meets its contract: its parts are those of its callees.
--- Assumes nothing.
 use native.Mathlib.Omega.{arith}
 use borrow.Author.Needs.{needs}
 use Rattle.readback.proofs.unpacking.get_level.Statement.{statement}

@@ -1,5 +1,4 @@
 -- `get_levels` meets its contract. The loop's invariant: the levels below `l` are read, and `next` is the place behind them.
--- Assumes nothing.
 use mathlib.Core.Path.{_≡_, ap, _∙_}
 use native.Mathlib.Omega.{arith}
 use Prim.Native.Nat.{ℕ, _≤_, _+_, _*_, _-_}
@@ -24,8 +23,15 @@ loop-holds c = (search needs, omega (arith, mul-zero (c .before .args .n + (c .b
 
 get-level-requires : tie.Need-get-level-requires Inv-loop μ-loop
 get-level-requires c κs = let l = c .before in
-    let s = l .before .before in
-    (search needs, omega (arith, l .loop .inv .1, mul-le-mul-left (s .args .n + (s .args .n + s .args .n)) (c .loop-test .taken), mul-suc (s .args .n + (s .args .n + s .args .n)) (l .loop .l)))
+    let s = l .before .before in (
+      search needs,
+      omega (
+        arith,
+        l .loop .inv .1,
+        mul-le-mul-left (s .args .n + (s .args .n + s .args .n)) (c .loop-test .taken),
+        mul-suc (s .args .n + (s .args .n + s .args .n)) (l .loop .l),
+      ),
+    )
 
 mul-levels : tie.Need-mul-levels Inv-loop μ-loop
 mul-levels c = search needs
@@ -39,7 +45,14 @@ mul-next c = search needs
 add-next : tie.Need-add-next Inv-loop μ-loop
 add-next c = let l = c .before .before in
     let s = l .before .before in
-    record { fits = omega (arith, l .loop .inv .1, mul-le-mul-left (s .args .n + (s .args .n + s .args .n)) (c .before .loop-test .taken), mul-suc (s .args .n + (s .args .n + s .args .n)) (l .loop .l)) }
+    record {
+      fits = omega (
+        arith,
+        l .loop .inv .1,
+        mul-le-mul-left (s .args .n + (s .args .n + s .args .n)) (c .before .loop-test .taken),
+        mul-suc (s .args .n + (s .args .n + s .args .n)) (l .loop .l),
+      );
+    }
 
 add-l : tie.Need-add-l Inv-loop μ-loop
 add-l c = search needs
@@ -54,7 +67,8 @@ loop-again c = let l = c .before .before in
     let a : ℕ → Level = λ i. levelFrom (s .args .n) (s .args .bytes .now) (s .args .at + levelAt (s .args .n) i) in (
       search needs,
       omega (arith, l .loop .inv .1, mul-suc w (l .loop .l), ap (λ (k : ℕ). w * k) (add-one (l .loop .l))),
-      array-turn a (l .loop .l) _ _ (omega arith) (l .loop .inv .2) (c .get-level .ensures ∙ ap (levelFrom (s .args .n) (s .args .bytes .now)) (l .loop .inv .1)),
+      array-turn a (l .loop .l) _ _ (omega arith) (l .loop .inv .2)
+          (c .get-level .ensures ∙ ap (levelFrom (s .args .n) (s .args .bytes .now)) (l .loop .inv .1)),
     )
 
 returns : tie.Need-returns Inv-loop μ-loop

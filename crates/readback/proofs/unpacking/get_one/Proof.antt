@@ -1,5 +1,4 @@
 -- `get_one` meets its contract. The loop's invariant: no wire below `i` is set. The measure is how many wires are left.
--- Assumes nothing.
 use mathlib.Core.Path.{_≡_, sym}
 use mathlib.Core.Bool.{false}
 use Prim.Native.Nat.{ℕ, _≤_, _<_, _+_, _-_}
@@ -30,8 +29,11 @@ shared-slice-read-if1 c = search needs
 
 returns : tie.Need-returns Inv-loop μ-loop
 returns c = let l = c .before .before .before in
-    let s = l .before in
-    (sym (lowest-at (λ i. wireIn (s .args .bytes .now) (s .args .at + i)) (s .args .n) (l .loop .i) (c .before .before .loop-test .taken) (eq-eqb _ _ (c .if1 .taken)) (l .loop .inv .1)), omega arith)
+    let s = l .before in (
+      sym (lowest-at (λ i. wireIn (s .args .bytes .now) (s .args .at + i)) (s .args .n) (l .loop .i) (c .before .before .loop-test .taken)
+          (eq-eqb _ _ (c .if1 .taken)) (l .loop .inv .1)),
+      omega arith,
+    )
 
 add-i : tie.Need-add-i Inv-loop μ-loop
 add-i c = search needs
@@ -44,8 +46,11 @@ loop-again c = (search needs, below-more _ _ (c .before .before .before .loop .i
 
 returns-2 : tie.Need-returns-2 Inv-loop μ-loop
 returns-2 c = let l = c .before in
-    let s = l .before in
-    (sym (lowest-none (λ i. wireIn (s .args .bytes .now) (s .args .at + i)) (s .args .n) (λ k h. l .loop .inv .1 k (omega (arith, c .loop-test .left)))), omega arith)
+    let s = l .before in (
+      sym (lowest-none (λ i. wireIn (s .args .bytes .now) (s .args .at + i)) (s .args .n)
+          (λ k h. l .loop .inv .1 k (omega (arith, c .loop-test .left)))),
+      omega arith,
+    )
 
 pub get-one-spec : {M : Type 1} → statement M
 get-one-spec =

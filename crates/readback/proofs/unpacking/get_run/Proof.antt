@@ -1,10 +1,13 @@
 -- `get_run` meets its contract: its callees read the wires where the definition has them.
--- Assumes nothing.
 use native.Mathlib.Omega.{arith}
 use Rattle.readback.proofs.RunRead.{levels-room, run-read}
 use borrow.Author.Needs.{needs}
 use Rattle.readback.proofs.unpacking.get_run.Statement.{statement}
 use Rattle.readback.proofs.unpacking.get_run.Tie as tie
+
+-- the start, from the first wire read
+abbrev start : tie.After-get-one → tie.Start
+start c = c .before .before
 
 add-get-one : tie.Need-add-get-one
 add-get-one c = search needs
@@ -19,8 +22,14 @@ add-get-levels : tie.Need-add-get-levels
 add-get-levels c = search needs
 
 get-levels-requires : tie.Need-get-levels-requires
-get-levels-requires c κs = let s = c .before .before in
-    (search needs, (omega (arith, c .get-one .ensures .1), levels-room (s .args .n) (s .args .bytes .now) (c .get-one .result) (c .get-one .ensures .1) (s .pre .1)))
+get-levels-requires c κs =
+    let s = start c in (
+      search needs,
+      (
+        omega (arith, c .get-one .ensures .1),
+        levels-room (s .args .n) (s .args .bytes .now) (c .get-one .result) (c .get-one .ensures .1) (s .pre .1),
+      ),
+    )
 
 mul-last : tie.Need-mul-last
 mul-last c = search needs
@@ -56,8 +65,13 @@ standing-requires : tie.Need-standing-requires
 standing-requires c κs = search needs
 
 returns : tie.Need-returns
-returns c = let s = c .before .before .before .before .before .before .before .before in
-    run-read (s .args .n) (s .args .bytes .now) _ _ _ _ _ (c .standing .ensures) (c .before .before .before .before .get-set .ensures) (c .before .before .before .get-set2 .ensures) (c .before .before .before .before .before .before .get-one .ensures .0) (c .before .before .before .before .before .get-levels .ensures)
+returns c =
+    let at-sets = c .before .before .before in
+    let at-levels = at-sets .before .before in
+    let at-one = at-levels .before in
+    let s = start at-one in
+    run-read (s .args .n) (s .args .bytes .now) _ _ _ _ _ (c .standing .ensures) (at-sets .before .get-set .ensures) (at-sets .get-set2 .ensures)
+    (at-one .get-one .ensures .0) (at-levels .get-levels .ensures)
 
 pub get-run-spec : {M : Type 1} → statement M
 get-run-spec =

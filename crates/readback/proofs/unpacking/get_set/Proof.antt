@@ -1,5 +1,4 @@
 -- `get_set` meets its contract. The loop's invariant: `word` has the wires from `i` on. The measure is `i`.
--- Assumes nothing.
 use mathlib.Core.Path.{_≡_, sym, ap, _∙_}
 use native.Mathlib.Omega.{arith}
 use mathlib.Core.Bool.{Bool}
@@ -36,12 +35,27 @@ value-requires c κs = search needs
 mul-word : tie.Need-mul-word Inv-loop μ-loop
 mul-word c = let l = c .before .before .before in
     let s = l .before .before in
-    record { fits = omega (arith, l .loop .inv .1, word-room (λ j. wireIn (s .args .bytes .now) (s .args .at + (l .loop .i + j))) (s .args .n) (l .loop .i) (c .before .before .loop-test .taken) (s .pre .0)) }
+    record {
+      fits = omega (
+        arith,
+        l .loop .inv .1,
+        word-room (λ j. wireIn (s .args .bytes .now) (s .args .at + (l .loop .i + j))) (s .args .n) (l .loop .i)
+            (c .before .before .loop-test .taken) (s .pre .0),
+      );
+    }
 
 add-word : tie.Need-add-word Inv-loop μ-loop
 add-word c = let l = c .before .before .before in
     let s = l .before .before in
-    record { fits = omega (arith, l .loop .inv .1, c .value .ensures .1, word-room (λ j. wireIn (s .args .bytes .now) (s .args .at + (l .loop .i + j))) (s .args .n) (l .loop .i) (c .before .before .loop-test .taken) (s .pre .0)) }
+    record {
+      fits = omega (
+        arith,
+        l .loop .inv .1,
+        c .value .ensures .1,
+        word-room (λ j. wireIn (s .args .bytes .now) (s .args .at + (l .loop .i + j))) (s .args .n) (l .loop .i)
+            (c .before .before .loop-test .taken) (s .pre .0),
+      );
+    }
 
 loop-less : tie.Need-loop-less Inv-loop μ-loop
 loop-less c = search needs
@@ -49,8 +63,11 @@ loop-less c = search needs
 loop-again : tie.Need-loop-again Inv-loop μ-loop
 loop-again c = let l = c .before .before .before in
     let s = l .before .before in
-    let p : ℕ → Bool = λ i. wireIn (s .args .bytes .now) (s .args .at + i) in
-    (search needs, ap (λ (x : ℕ). x + 2 * l .loop .word) (c .value .ensures .0) ∙ ap (λ (x : ℕ). digit (p (l .loop .i - 1)) + 2 * x) (l .loop .inv .1) ∙ sym (word-turn p (s .args .n) (l .loop .i) (c .before .before .loop-test .taken) (l .loop .inv .0)))
+    let p : ℕ → Bool = λ i. wireIn (s .args .bytes .now) (s .args .at + i) in (
+      search needs,
+      ap (λ (x : ℕ). x + 2 * l .loop .word) (c .value .ensures .0) ∙ ap (λ (x : ℕ). digit (p (l .loop .i - 1)) + 2 * x) (l .loop .inv .1)
+          ∙ sym (word-turn p (s .args .n) (l .loop .i) (c .before .before .loop-test .taken) (l .loop .inv .0)),
+    )
 
 returns : tie.Need-returns Inv-loop μ-loop
 returns c = let l = c .before in

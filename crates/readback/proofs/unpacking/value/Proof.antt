@@ -1,5 +1,4 @@
 -- `value` meets its contract: the test is the definition's.
--- Assumes nothing.
 use mathlib.Core.Path.{sym, ap}
 use native.Mathlib.Omega.{arith}
 use borrow.Author.Tests.{eq-eqb, ne-eqb}

@@ -54,7 +54,8 @@ unfolding Past
 returns-7 c =
     let s = c .before .before in
     let h = past-least 17 6 (s .args .k) (s .pre .1) (c .before .match .rest) in
-    by-number (s .args .a) _ (s .args .k) (23 + (s .args .k - 23)) (c .split .ensures ∙ split-at (s .args .a) (s .args .k - 23) (omega (arith, h, s .pre .2))) (omega (arith, h))
+    by-number (s .args .a) _ (s .args .k) (23 + (s .args .k - 23))
+    (c .split .ensures ∙ split-at (s .args .a) (s .args .k - 23) (omega (arith, h, s .pre .2))) (omega (arith, h))
 
 pub at-spec : {M : Type 1} → statement M
 at-spec =

@@ -13,7 +13,8 @@ returns-2 c = digits-are (c .before .before .args .n) 1 (omega arith) (powers-be
 
 returns-3 : tie.Need-returns-3
 returns-3 c =
-    digits-are (c .before .before .before .args .n) 2 (omega arith) (powers-below (c .before .before .before .args .n) 1 (c .before .if2 .left)) (λ l. c .if3 .taken)
+    digits-are (c .before .before .before .args .n) 2 (omega arith)
+    (powers-below (c .before .before .before .args .n) 1 (c .before .if2 .left)) (λ l. c .if3 .taken)
 
 returns-4 : tie.Need-returns-4
 returns-4 c =

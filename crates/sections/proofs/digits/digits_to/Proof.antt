@@ -48,8 +48,11 @@ loop-less c = search needs
 
 loop-again : tie.Need-loop-again Inv-loop μ-loop
 loop-again c =
-    let l = c .before .before in
-    (omega arith, digits-more (l .before .args .n) (l .before .args .m) (l .loop .gates) (c .thresholds .result) (l .loop .k) (l .loop .inv .1) (c .thresholds .ensures .0))
+    let l = c .before .before in (
+      omega arith,
+      digits-more (l .before .args .n) (l .before .args .m) (l .loop .gates) (c .thresholds .result) (l .loop .k) (l .loop .inv .1)
+          (c .thresholds .ensures .0),
+    )
 
 returns : tie.Need-returns Inv-loop μ-loop
 returns c =

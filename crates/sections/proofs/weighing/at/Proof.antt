@@ -31,7 +31,8 @@ key-high-requires c κs = search needs
 returns : tie.Need-returns
 returns c =
     let s = c .before .before in
-    by-number (s .args .a) _ (s .args .k) (4 + (s .args .k - 4)) (c .digit .ensures ∙ digit-at (s .args .a) (s .args .k - 4) (omega (arith, s .pre .1, c .before .if1 .taken)))
+    by-number (s .args .a) _ (s .args .k) (4 + (s .args .k - 4))
+    (c .digit .ensures ∙ digit-at (s .args .a) (s .args .k - 4) (omega (arith, s .pre .1, c .before .if1 .taken)))
     (omega (arith, s .pre .1))
 
 returns-2 : tie.Need-returns-2

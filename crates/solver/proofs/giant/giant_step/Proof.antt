@@ -1,5 +1,4 @@
 -- `giant_step` meets its contract: what the rule that applies makes of an open run is the run of the next state, and a closed run stays.
--- Assumes nothing.
 use mathlib.Core.Path.{_≡_, _∙_}
 use lib.ListN.{length, length-map}
 use Rattle.solver.proofs.HeldStep.{open-step, satisfied-stays, refuted-stays}

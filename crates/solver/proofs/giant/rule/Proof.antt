@@ -1,5 +1,4 @@
 -- `rule` meets its contract: accepted buffers are long enough for their fronts, and the rule of the fronts is the tables' rule.
--- Assumes nothing.
 use mathlib.Core.Path.{sym, _∙_}
 use lib.Seq.{length-take-le}
 use Rattle.tables.specs.Tables.{Tables, allTables}

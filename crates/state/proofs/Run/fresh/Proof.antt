@@ -1,5 +1,4 @@
 -- `Run::fresh` meets its contract: the definition computes.
--- Assumes nothing.
 use mathlib.Core.Path.{refl}
 use Rattle.state.specs.State.{runOf}
 use Rattle.state.proofs.Run.fresh.Statement.{statement}

@@ -1,5 +1,4 @@
 -- `lowest` meets its contract: the zeros below a set's lowest row are as many as that row's place.
--- Assumes nothing.
 use mathlib.Core.Path.{sym}
 use native.Mathlib.Omega.{arith}
 use Rattle.words.proofs.Operations.{lowest-trailing}

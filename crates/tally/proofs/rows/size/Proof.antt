@@ -1,5 +1,4 @@
 -- `size` meets its contract: a count of ones counts the rows below 64.
--- Assumes nothing.
 use mathlib.Core.Path.{sym}
 use native.Mathlib.Omega.{arith}
 use lib.Count.{ones-le}

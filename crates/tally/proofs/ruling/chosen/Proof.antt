@@ -1,5 +1,4 @@
 -- `chosen` meets its contract: no variable below the one looked at passes.
--- Assumes nothing.
 use Prim.Native.Nat.{ℕ, _-_, _≤_, _<_}
 use mathlib.Core.Path.{_≡_, sym, _∙_}
 use mathlib.Core.Bool.{Bool, false, _&&_}
@@ -29,7 +28,8 @@ returns c =
     let turn = c .before .before in
     let l = turn .before .loop in
     let x = turn .before .before .args in
-    lowest-here (λ k. bit (x .unset) k && standsIn (x .index .now) k (x .set)) (l .v) (l .inv .1) (turn .loop-test .taken) (sym (c .before .passes .ensures) ∙ c .if1 .taken)
+    lowest-here (λ k. bit (x .unset) k && standsIn (x .index .now) k (x .set)) (l .v) (l .inv .1) (turn .loop-test .taken)
+    (sym (c .before .passes .ensures) ∙ c .if1 .taken)
 
 add-v : tie.Need-add-v Inv-loop μ-loop
 add-v c = search needs

@@ -1,5 +1,4 @@
 -- `passes` meets its contract by its test's two cases.
--- Assumes nothing.
 use mathlib.Core.Path.{sym, _∙_}
 use borrow.Author.Needs.{needs}
 use Rattle.tally.proofs.ruling.passes.Statement.{statement}

@@ -1,5 +1,4 @@
 -- `stands_in` meets its contract word by word.
--- Assumes nothing.
 use mathlib.Core.Bool.{_||_}
 use borrow.Author.Needs.{needs}
 use Rattle.tally.proofs.ruling.stands_in.Statement.{statement}

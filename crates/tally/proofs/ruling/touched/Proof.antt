@@ -1,5 +1,4 @@
 -- `touched` meets its contract, row by row of the 64.
--- Assumes nothing.
 use native.Mathlib.Omega.{arith}
 use Rattle.tally.proofs.RulingLaws.{touched-is}
 use borrow.Author.Needs.{needs}

@@ -1,5 +1,4 @@
 -- `all_free` meets its contract word by word.
--- Assumes nothing.
 use borrow.Author.Needs.{needs}
 use Rattle.tally.proofs.surveying.all_free.Statement.{statement}
 use Rattle.tally.proofs.surveying.all_free.Tie as tie

@@ -1,5 +1,4 @@
 -- `all_met` meets its contract word by word.
--- Assumes nothing.
 use borrow.Author.Needs.{needs}
 use Rattle.tally.proofs.surveying.all_met.Statement.{statement}
 use Rattle.tally.proofs.surveying.all_met.Tie as tie

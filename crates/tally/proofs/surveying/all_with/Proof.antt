@@ -1,5 +1,4 @@
 -- `all_with` meets its contract by the tests' cases.
--- Assumes nothing.
 use mathlib.Core.Path.{_∙_, ap}
 use Rattle.tally.specs.Surveys.{allMet}
 use Prim.Native.Nat.{_+_}

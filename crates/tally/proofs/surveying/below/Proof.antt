@@ -1,5 +1,4 @@
 -- `below` meets its contract by how many of the 64 rows are below the count.
--- Assumes nothing.
 use Rattle.tally.proofs.SeenLaws.{below-none, below-all, below-some, shifted-pos}
 use borrow.Author.Needs.{needs}
 use Rattle.tally.proofs.surveying.below.Statement.{statement}

@@ -1,5 +1,4 @@
 -- `free_with` meets its contract, row by row of the 64.
--- Assumes nothing.
 use native.Mathlib.Omega.{arith}
 use Rattle.tally.proofs.SeenLaws.{free-is}
 use Rattle.tally.proofs.surveying.free_with.Statement.{statement}

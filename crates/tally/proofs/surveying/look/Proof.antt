@@ -1,5 +1,4 @@
 -- `look` meets its contract: before variable v, what is seen is what the variables below v show.
--- Assumes nothing.
 use Prim.Native.Nat.{_-_, _≤_}
 use mathlib.Core.Path.{_≡_}
 use native.Mathlib.Omega.{arith}

@@ -1,5 +1,4 @@
 -- `met_with` meets its contract, row by row of the 64.
--- Assumes nothing.
 use native.Mathlib.Omega.{arith}
 use Rattle.tally.proofs.SeenLaws.{met-is}
 use Rattle.tally.proofs.surveying.met_with.Statement.{statement}

@@ -1,5 +1,4 @@
 -- `Text::decimal` meets its contract. The number falls with each call; the digits of x are those of x / 10 and one more.
--- Assumes nothing.
 use mathlib.Core.Path.{sym, ap, _∙_}
 use Prim.Native.Nat.{ℕ, _+_, _/_, _%_, _<_}
 use native.Mathlib.Omega.{arith}

@@ -1,5 +1,4 @@
 -- `Text::append` meets its contract. The invariant: appending what is left gives what appending the whole gives.
--- Assumes nothing.
 use mathlib.Core.Path.{_≡_, refl, sym, ap, _∙_}
 use mathlib.Core.List.{List}
 use Prim.Native.Nat.{ℕ, _+_, _≤_, _-_}
@@ -45,7 +44,8 @@ loop-again c =
 returns : tie.Need-returns Inv-loop μ-loop
 unfolding appended
 returns c =
-    sym (ap (λ (l : List ℕ). appended (c .before .loop .text) l) (drop-of-length-le (c .before .before .before .args .more .now) {i = c .before .loop .i} (omega arith)))
+    sym (ap (λ (l : List ℕ). appended (c .before .loop .text) l)
+    (drop-of-length-le (c .before .before .before .args .more .now) {i = c .before .loop .i} (omega arith)))
     ∙ c .before .loop .inv .1
 
 pub append-spec : {M : Type 1} → statement M

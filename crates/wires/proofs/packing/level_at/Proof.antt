@@ -1,5 +1,4 @@
 -- `level_at` meets its contract: the test is the definition's.
--- Assumes nothing.
 use borrow.Author.Tests.{lt-ltb, le-ltb}
 use borrow.Author.Needs.{needs}
 use Rattle.wires.proofs.packing.level_at.Statement.{statement}

@@ -1,5 +1,4 @@
 -- `put_level` meets its contract: F stands behind T, and the chosen variable behind F.
--- Assumes nothing.
 use mathlib.Core.Path.{_≡_}
 use native.Mathlib.Omega.{arith}
 use lib.ListN.{length}

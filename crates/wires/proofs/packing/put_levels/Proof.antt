@@ -1,5 +1,4 @@
 -- `put_levels` meets its contract. The loop's invariant: the levels below `l` are stored, and `next` is the place behind them.
--- Assumes nothing.
 use mathlib.Core.Path.{_≡_, ap, _∙_}
 use native.Mathlib.Omega.{arith}
 use Prim.Native.Nat.{ℕ, _≤_, _+_, _*_, _-_}
@@ -42,7 +41,8 @@ loop-again c =
     let s = l .before .before in (
       search needs,
       list-turn _ _ _ _ _ _ _ (l .loop .inv .1) _ _ (λ j. level-length (s .args .n) _ _ _)
-          (at-put-level .put-level .ensures .1 ∙ ap (λ (x : Level). stored (l .loop .bytes) (l .loop .next) (levelBits (s .args .n) x)) (at-level-at .level-at .ensures)) (at-put-level .put-level .ensures .0),
+          (at-put-level .put-level .ensures .1 ∙ ap (λ (x : Level). stored (l .loop .bytes) (l .loop .next) (levelBits (s .args .n) x))
+          (at-level-at .level-at .ensures)) (at-put-level .put-level .ensures .0),
     )
 
 same-length : tie.Need-same-length Inv-loop μ-loop

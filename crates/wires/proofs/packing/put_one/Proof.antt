@@ -1,5 +1,4 @@
 -- `put_one` meets its contract. The loop's invariant: the wires below `i` are stored, and the other bytes stay.
--- Assumes nothing.
 use mathlib.Core.Path.{_≡_, refl, ap, _∙_}
 use Prim.Native.Nat.{ℕ, _≤_, _-_}
 use native.Mathlib.Omega.{arith}

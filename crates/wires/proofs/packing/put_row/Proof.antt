@@ -1,5 +1,4 @@
 -- `put_row` meets its contract: the negative wires stand behind the positive.
--- Assumes nothing.
 use mathlib.Core.Path.{_≡_}
 use native.Mathlib.Omega.{arith}
 use lib.ListN.{length}
@@ -26,8 +25,11 @@ returns : tie.Need-returns
 returns c =
     let q = c .before .before in
     let p = q .before .before .before .before in
-    let s = p .before .before .before in
-    (omega (arith, p .put-set .ensures .0, q .put-set2 .ensures .0), upto-then (s .args .bytes .now) (s .args .at) _ (bit (s .args .row .positive)) (s .args .n) _ (p .put-set .ensures .1) (p .put-set .ensures .0) (q .put-set2 .ensures .1))
+    let s = p .before .before .before in (
+      omega (arith, p .put-set .ensures .0, q .put-set2 .ensures .0),
+      upto-then (s .args .bytes .now) (s .args .at) _ (bit (s .args .row .positive))
+          (s .args .n) _ (p .put-set .ensures .1) (p .put-set .ensures .0) (q .put-set2 .ensures .1),
+    )
 
 pub put-row-spec : {M : Type 1} → statement M
 put-row-spec = tie.close (tie.spec put-set-requires put-set-requires-2 same-length returns)

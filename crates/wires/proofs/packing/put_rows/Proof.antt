@@ -1,5 +1,4 @@
 -- `put_rows` meets its contract. The loop's invariant: the rows below `j` are stored, and `next` is the place behind them.
--- Assumes nothing.
 use mathlib.Core.Path.{_≡_, ap, _∙_}
 use native.Mathlib.Omega.{arith}
 use Prim.Native.Nat.{ℕ, _≤_, _+_, _*_, _-_}
@@ -57,8 +56,11 @@ loop-again : tie.Need-loop-again Inv-loop μ-loop
 loop-again c =
     let at-put-row = c .before .before in
     let l = at-put-row .before .before .before .before .before in
-    let s = l .before .before .before in
-    (search needs, list-turn _ _ _ _ _ _ _ (l .loop .inv .1) _ _ (λ j. row-length (s .args .n) (rowAt (s .args .words .now) j)) (at-put-row .put-row .ensures .1) (at-put-row .put-row .ensures .0))
+    let s = l .before .before .before in (
+      search needs,
+      list-turn _ _ _ _ _ _ _ (l .loop .inv .1) _ _ (λ j. row-length (s .args .n) (rowAt (s .args .words .now) j))
+          (at-put-row .put-row .ensures .1) (at-put-row .put-row .ensures .0),
+    )
 
 same-length : tie.Need-same-length Inv-loop μ-loop
 same-length c = c .before .loop .inv .1 .size
@@ -68,7 +70,8 @@ returns c = let l = c .before in
     let s = l .before .before .before in
     let e : l .loop .j ≡ s .args .rows = omega arith in (
       l .loop .inv .1 .place ∙ ap (λ (k : ℕ). s .args .at + (s .args .n + s .args .n) * k) e,
-      l .loop .inv .1 .bytes ∙ ap (λ (k : ℕ). stored (s .args .bytes .now) (s .args .at) (joined (λ j. rowBits (s .args .n) (rowAt (s .args .words .now) j)) k)) e
+      l .loop .inv .1 .bytes ∙ ap (λ (k : ℕ). stored (s .args .bytes .now) (s .args .at)
+          (joined (λ j. rowBits (s .args .n) (rowAt (s .args .words .now) j)) k)) e
           ∙ ap (stored (s .args .bytes .now) (s .args .at)) (table-joined (s .args .n) (s .args .words .now) (s .args .rows)),
     )
 

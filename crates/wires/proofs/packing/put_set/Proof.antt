@@ -1,5 +1,4 @@
 -- `put_set` meets its contract. The loop's invariant: the wires below `i` are stored, and the other bytes stay.
--- Assumes nothing.
 use mathlib.Core.Path.{_≡_, refl, ap, _∙_}
 use Prim.Native.Nat.{ℕ, _≤_, _-_}
 use native.Mathlib.Omega.{arith}
@@ -51,7 +50,8 @@ loop-again c =
     let s = l .before .before in (
       search needs,
       length-set (l .loop .bytes) _ _ ∙ l .loop .inv .1,
-      stored-wire (s .args .bytes .now) (s .args .at) (bit (s .args .word)) _ (l .loop .i) _ (l .loop .inv .2) (c .byte .ensures ∙ ap digit (c .before .bit .ensures)),
+      stored-wire (s .args .bytes .now) (s .args .at) (bit (s .args .word)) _ (l .loop .i) _ (l .loop .inv .2)
+          (c .byte .ensures ∙ ap digit (c .before .bit .ensures)),
     )
 
 add-result : tie.Need-add-result Inv-loop μ-loop

@@ -1,5 +1,4 @@
 -- `put_standing` meets its contract: two stores in a row.
--- Assumes nothing.
 use mathlib.Core.Path.{ap, _∙_}
 use native.Mathlib.Omega.{arith}
 use lib.ListN.{length-set}
@@ -37,7 +36,9 @@ same-length c = search needs
 
 returns : tie.Need-returns
 returns c = let s = c .before .before .before .before .before in
-    stored-two (s .args .bytes .now) (s .args .at) (isSatisfied (s .args .standing)) (isRefuted (s .args .standing)) _ _ (c .before .before .byte .ensures ∙ ap digit (c .before .before .before .is-satisfied .ensures)) (c .byte2 .ensures ∙ ap digit (c .before .is-refuted .ensures))
+    stored-two (s .args .bytes .now) (s .args .at) (isSatisfied (s .args .standing)) (isRefuted (s .args .standing)) _ _
+    (c .before .before .byte .ensures ∙ ap digit (c .before .before .before .is-satisfied .ensures))
+    (c .byte2 .ensures ∙ ap digit (c .before .is-refuted .ensures))
 
 pub put-standing-spec : {M : Type 1} → statement M
 put-standing-spec =

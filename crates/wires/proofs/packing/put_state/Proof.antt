@@ -1,5 +1,4 @@
 -- `put_state` meets its contract: its parts stand one behind the other.
--- Assumes nothing.
 use mathlib.Core.Path.{sym, ap, _∙_}
 use Prim.Native.Nat.{ℕ, _+_}
 use lib.Dec.{eqb}
