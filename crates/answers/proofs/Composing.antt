@@ -19,17 +19,17 @@ use Rattle.text.proofs.Decimals.{decimal-length, decimal-short}
 use Rattle.solver.specs.declared.Answer.{Answer}
 use Rattle.verdicts.specs.declared.Verdict.{Verdict}
 use Rattle.verdicts.specs.declared.Verdict.the-variants.{Satisfiable, Unsatisfiable, Unknown}
-use Rattle.answers.specs.Printed.{literal, literals, verdictText, answerText, refusalText}
+use Rattle.answers.specs.Printed.{literalText, literals, verdictText, answerText, refusalText}
 
 -- what is left gives what the whole gives, when one literal is appended
-pub literals-next : (t r : Text) (n i model : ℕ) → i < n → r ≡ appended t (literal (i + 1) (bit model i))
+pub literals-next : (t r : Text) (n i model : ℕ) → i < n → r ≡ appended t (literalText (i + 1) (bit model i))
     → appended r (literals (n - (i + 1)) (i + 1) model) ≡ appended t (literals (n - i) i model)
 unfolding literals
 literals-next t r n i model h e =
     let k : n - i ≡ suc (n - (i + 1)) = omega arith in
     ap (λ (x : Text). appended x (literals (n - (i + 1)) (i + 1) model)) e
-    ∙ appended-join t (literal (i + 1) (bit model i)) (literals (n - (i + 1)) (i + 1) model)
-    ∙ ap (λ (j : ℕ). appended t (literal (i + 1) (bit model i) ++ literals (n - (i + 1)) j model)) (add-one i)
+    ∙ appended-join t (literalText (i + 1) (bit model i)) (literals (n - (i + 1)) (i + 1) model)
+    ∙ ap (λ (j : ℕ). appended t (literalText (i + 1) (bit model i) ++ literals (n - (i + 1)) j model)) (add-one i)
     ∙ ap (λ (j : ℕ). appended t (literals j i model)) (sym k)
 
 pub refusal-composed : (r : Refusal) (a b : Text) → a ≡ textOf (refusedLine r) → b ≡ appended a (bytes "s UNKNOWN\n") → b ≡ textOf (refusalText r)
@@ -49,7 +49,7 @@ satisfiable-composed t a b c n model ha hb hc =
     joined = simp append-assoc
 
 -- a literal has at most four bytes
-literal-length : (v : ℕ) (positive : Bool) → v < 100 → length (literal v positive) ≤ 4
+literal-length : (v : ℕ) (positive : Bool) → v < 100 → length (literalText v positive) ≤ 4
 literal-length v true h = omega (arith, decimal-short v h)
 literal-length v false h = omega (arith, decimal-short v h)
 
@@ -59,7 +59,7 @@ literals-length zero i model h = zero-le
 literals-length (suc k) i model h =
     omega (
       arith,
-      length-append (literal (i + 1) (bit model i)) (literals k (suc i) model),
+      length-append (literalText (i + 1) (bit model i)) (literals k (suc i) model),
       literal-length (i + 1) (bit model i) (omega arith),
       literals-length k (suc i) model (omega arith),
     )

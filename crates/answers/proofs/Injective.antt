@@ -32,7 +32,7 @@ use Rattle.state.specs.declared.Standing.{Standing}
 use Rattle.state.specs.declared.Standing.the-variants.{Open, Satisfied, Refuted}
 use Rattle.verdicts.specs.declared.Verdict.{Verdict}
 use Rattle.verdicts.specs.declared.Verdict.the-variants.{Satisfiable, Unsatisfiable, Unknown}
-use Rattle.answers.specs.Printed.{literal, literals, verdictText, answerText, refusalText, solvedText}
+use Rattle.answers.specs.Printed.{literalText, literals, verdictText, answerText, refusalText, solvedText}
 
 -- a number's bytes are 48 and above
 decimal-digits : (x : ℕ) → each (leb 48) (decimal x) ≡ true
@@ -47,7 +47,7 @@ no-minus (d ∷ ds) s t h k e =
 
 -- ---- literals
 
-one-literal : (v : ℕ) (a b : Bool) (s t : List ℕ) → literal v a ++ s ≡ literal v b ++ t → (a ≡ b) × (s ≡ t)
+one-literal : (v : ℕ) (a b : Bool) (s t : List ℕ) → literalText v a ++ s ≡ literalText v b ++ t → (a ≡ b) × (s ≡ t)
 one-literal v true true s t e = (refl, append-cancel-left (bytes " " ++ decimal v) s t e)
 one-literal v false false s t e = (refl, append-cancel-left (bytes " -" ++ decimal v) s t e)
 one-literal v true false s t e = absurd (no-minus (decimal v) s (decimal v ++ t) (decimal-digits v) (decimal-some v) cc)
@@ -58,7 +58,7 @@ literals-parts : (k i a b : ℕ) (s t : List ℕ) → literals (suc k) i a ++ s 
 unfolding literals
 literals-parts k i a b s t e =
     one-literal (i + 1) (bit a i) (bit b i) (literals k (suc i) a ++ s) (literals k (suc i) b ++ t)
-    (sym (append-assoc (literal (i + 1) (bit a i)) (literals k (suc i) a) s) ∙ e ∙ append-assoc (literal (i + 1) (bit b i)) (literals k (suc i) b) t)
+    (sym (append-assoc (literalText (i + 1) (bit a i)) (literals k (suc i) a) s) ∙ e ∙ append-assoc (literalText (i + 1) (bit b i)) (literals k (suc i) b) t)
 
 -- the literals of k variables from bit i on give those bits
 literals-bits : (k i a b : ℕ) (s t : List ℕ) → literals k i a ++ s ≡ literals k i b ++ t → (j : ℕ) → j < k → bit a (i + j) ≡ bit b (i + j)

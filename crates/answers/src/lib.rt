@@ -11,7 +11,7 @@ ghost use Rattle.answers.specs.Printed.{verdictText, answerText, refusal
 
 // The text with a variable more, negative where it is false.
 fn literal(text: Text, variable: u32, positive: bool) -> Text
-    ensures { λ r. ⌜ r ≡ appended text (Printed.literal variable positive) ⌝ }
+    ensures { λ r. ⌜ r ≡ appended text (Printed.literalText variable positive) ⌝ }
 {
     if positive {
         text.append(b" ").decimal(variable as u64)

@@ -14,7 +14,7 @@ use Rattle.refusals.specs.Checks.{outcome}
 use Rattle.dimensions.specs.declared.Dimensions.{Dimensions}
 use Rattle.gates.specs.Memory.{gatesOf}
 use Rattle.bristol.specs.declared.WrittenLines.the-variants as lines
-use Rattle.bristol.specs.Text.{linesOf}
+use Rattle.bristol.specs.Text.{circuitLines}
 use Rattle.bristol.specs.Writing.{circuitChecks, lineAt, linesAt, writtenLines}
 use Rattle.bristol.proofs.Fitting.{fitting-next, fitting-front, fitting-room}
 use Rattle.bristol.proofs.Requests.{taken-lines, refuse-lines, lines-by-room}
@@ -37,18 +37,18 @@ module _ (d : Dimensions) (ws : List ℕ) (i : ℕ) (lent : List ℕ) (k n : ℕ
           let x = lines-by-room d ws i lent h false q .0 in
           record { taken = h; room = ltb-false _ _ q; count = cc; size = cc }
 
-  number : length (linesOf d (gatesOf ws)) ≡ 4 + length ws / 3
+  number : length (circuitLines d (gatesOf ws)) ≡ 4 + length ws / 3
   number = taken-lines d ws (answered .taken)
 
   pub lines-within : n ≤ length lent
-  lines-within = omega (arith, answered .size, fitting-room (length lent) (drop i (linesOf d (gatesOf ws))))
+  lines-within = omega (arith, answered .size, fitting-room (length lent) (drop i (circuitLines d (gatesOf ws))))
 
   pub lines-some : i < 4 + length ws / 3 → 1 ≤ k
-  lines-some h = omega (arith, answered .count, ap length (fitting-next (linesOf d (gatesOf ws)) i (length lent) (omega (arith, number)) (answered .room)))
+  lines-some h = omega (arith, answered .count, ap length (fitting-next (circuitLines d (gatesOf ws)) i (length lent) (omega (arith, number)) (answered .room)))
 
   pub lines-few : i < 4 + length ws / 3 → i + k ≤ 4 + length ws / 3
   lines-few h =
-      let ls = drop i (linesOf d (gatesOf ws)) in
+      let ls = drop i (circuitLines d (gatesOf ws)) in
       let front : k ≡ min k (length ls) = answered .count ∙ ap length (fitting-front (length lent) ls) ∙ length-take (length (linesAt d ws i lent)) ls
       ∙ ap (λ (x : ℕ). min x (length ls)) (sym (answered .count)) in
-      omega (arith, front, number, length-drop i (linesOf d (gatesOf ws)))
+      omega (arith, front, number, length-drop i (circuitLines d (gatesOf ws)))

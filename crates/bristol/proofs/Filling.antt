@@ -21,8 +21,8 @@ use Rattle.gates.specs.Memory.{gatesOf, over}
 use Rattle.bristol.specs.declared.Written.{Written}
 use Rattle.bristol.specs.declared.Written.the-variants as W
 use Rattle.bristol.specs.declared.WrittenLines.the-variants as lines
-use Rattle.bristol.specs.Text.{linesOf}
-use Rattle.bristol.specs.Writing.{circuitChecks, lineAt, written, filled, fitting, linesAt, writtenLines, filledLines}
+use Rattle.bristol.specs.Text.{circuitLines}
+use Rattle.bristol.specs.Writing.{circuitChecks, lineAt, writtenLine, filledLine, fitting, linesAt, writtenLines, filledLines}
 use Rattle.bristol.proofs.Written.{the-type}
 use Rattle.bristol.proofs.Parts.{lent-part, put-back}
 use Rattle.bristol.proofs.Fitting.{fitting-next, fitting-none}
@@ -113,62 +113,64 @@ module _ (ls : List (List ℕ)) (lent : List ℕ) (line : ℕ) where
 -- ---- a turn: the next line is put to the bytes behind those that are put, or it is too long
 
 module _ (d : Dimensions) (ws : List ℕ) (e : outcome (circuitChecks d ws) ≡ Taken) (line : ℕ) (lent bytes : List ℕ) (next at : ℕ)
-    (p : Put (linesOf d (gatesOf ws)) lent line bytes next at) (h : next < length (linesOf d (gatesOf ws))) (r : Written) (out : List ℕ)
-    (hr : r ≡ written d ws next (midOf at (length bytes - at) bytes)) (ho : out ≡ filled d ws next (midOf at (length bytes - at) bytes)) where
-  pub line-more : (k : ℕ) → r ≡ W.Line k → Put (linesOf d (gatesOf ws)) lent line (putMid at (length bytes - at) bytes out) (next + 1) (at + k)
+    (p : Put (circuitLines d (gatesOf ws)) lent line bytes next at) (h : next < length (circuitLines d (gatesOf ws))) (r : Written) (out : List ℕ)
+    (hr : r ≡ writtenLine d ws next (midOf at (length bytes - at) bytes)) (ho : out ≡ filledLine d ws next (midOf at (length bytes - at) bytes)) where
+  pub line-more : (k : ℕ) → r ≡ W.Line k → Put (circuitLines d (gatesOf ws)) lent line (putMid at (length bytes - at) bytes out) (next + 1) (at + k)
   line-more k w =
-      let q = was-put d ws next (drop at bytes) e h k (ap (written d ws next) (sym (lent-part bytes at)) ∙ sym hr ∙ w) in
-      let more = one-more (linesOf d (gatesOf ws)) lent line bytes next at p (lineAt d ws next) (putMid at (length bytes - at) bytes out) h refl (q .1)
-      (put-back bytes at out ∙ ap (λ (x : List ℕ). take at bytes ++ x) (ho ∙ ap (filled d ws next) (lent-part bytes at) ∙ q .2)) in
+      let q = was-put d ws next (drop at bytes) e h k (ap (writtenLine d ws next) (sym (lent-part bytes at)) ∙ sym hr ∙ w) in
+      let more = one-more (circuitLines d (gatesOf ws)) lent line bytes next at p (lineAt d ws next) (putMid at (length bytes - at) bytes out) h refl (q .1)
+      (put-back bytes at out ∙ ap (λ (x : List ℕ). take at bytes ++ x) (ho ∙ ap (filledLine d ws next) (lent-part bytes at) ∙ q .2)) in
       let step : suc next ≡ next + 1 = omega arith in
       rw (step, q .0) at more
 
   pub line-last : OneOf (1 ∷ (2 ∷ [])) (tagOf the-type r)
-      → (putMid at (length bytes - at) bytes out ≡ bytes) × (fitting (length lent - at) (drop next (linesOf d (gatesOf ws))) ≡ [])
+      → (putMid at (length bytes - at) bytes out ≡ bytes) × (fitting (length lent - at) (drop next (circuitLines d (gatesOf ws))) ≡ [])
   line-last t =
       let q = not-put d ws next (drop at bytes) e h
-      (subst (λ (x : Written). OneOf (1 ∷ (2 ∷ [])) (tagOf the-type x)) (hr ∙ ap (written d ws next) (lent-part bytes at)) t) in (
-        put-back bytes at out ∙ ap (λ (x : List ℕ). take at bytes ++ x) (ho ∙ ap (filled d ws next) (lent-part bytes at) ∙ q .1) ∙ take-append-drop at bytes,
-        fitting-none (linesOf d (gatesOf ws)) next (length lent - at) h (omega (arith, length-drop at bytes, p .same, q .0)),
+      (subst (λ (x : Written). OneOf (1 ∷ (2 ∷ [])) (tagOf the-type x)) (hr ∙ ap (writtenLine d ws next) (lent-part bytes at)) t) in (
+        put-back bytes at out ∙ ap (λ (x : List ℕ). take at bytes ++ x) (ho ∙ ap (filledLine d ws next) (lent-part bytes at) ∙ q .1)
+            ∙ take-append-drop at bytes,
+        fitting-none (circuitLines d (gatesOf ws)) next (length lent - at) h (omega (arith, length-drop at bytes, p .same, q .0)),
       )
 
 -- ---- what is answered where the turns stop
 
 module _ (d : Dimensions) (ws : List ℕ) (e : outcome (circuitChecks d ws) ≡ Taken) (line : ℕ) (lent bytes : List ℕ) (next at : ℕ)
-    (p : Put (linesOf d (gatesOf ws)) lent line bytes next at) (z : fitting (length lent - at) (drop next (linesOf d (gatesOf ws))) ≡ []) where
+    (p : Put (circuitLines d (gatesOf ws)) lent line bytes next at) (z : fitting (length lent - at) (drop next (circuitLines d (gatesOf ws))) ≡ []) where
   -- a first line that there is and that has no room: none is put
-  long-first : line < length (linesOf d (gatesOf ws)) → ltb (length lent) (length (lineAt d ws line)) ≡ true → next ≡ line
+  long-first : line < length (circuitLines d (gatesOf ws)) → ltb (length lent) (length (lineAt d ws line)) ≡ true → next ≡ line
   long-first h q = omega (
     arith,
     p .after,
-    put-count (linesOf d (gatesOf ws)) lent line bytes next at p z,
-    ap length (fitting-none (linesOf d (gatesOf ws)) line (length lent) h (ltb-true _ _ q)),
+    put-count (circuitLines d (gatesOf ws)) lent line bytes next at p z,
+    ap length (fitting-none (circuitLines d (gatesOf ws)) line (length lent) h (ltb-true _ _ q)),
   )
 
-  pub lines-put : (next ≡ line → length (linesOf d (gatesOf ws)) ≤ line) → (lines.Lines (next - line) at ≡ writtenLines d ws line lent)
+  pub lines-put : (next ≡ line → length (circuitLines d (gatesOf ws)) ≤ line) → (lines.Lines (next - line) at ≡ writtenLines d ws line lent)
       × (bytes ≡ filledLines d ws line lent)
   lines-put some =
       let q = lines-by-room d ws line lent e false
-      (fits (ltb (length lent) (length (lineAt d ws line))) refl (ltb line (length (linesOf d (gatesOf ws)))) refl) in (
-        ap₂ lines.Lines (put-count (linesOf d (gatesOf ws)) lent line bytes next at p z) (put-length (linesOf d (gatesOf ws)) lent line bytes next at p z)
+      (fits (ltb (length lent) (length (lineAt d ws line))) refl (ltb line (length (circuitLines d (gatesOf ws)))) refl) in (
+        ap₂ lines.Lines (put-count (circuitLines d (gatesOf ws)) lent line bytes next at p z)
+            (put-length (circuitLines d (gatesOf ws)) lent line bytes next at p z)
             ∙ sym (q .0),
-        put-bytes (linesOf d (gatesOf ws)) lent line bytes next at p z ∙ sym (q .1),
+        put-bytes (circuitLines d (gatesOf ws)) lent line bytes next at p z ∙ sym (q .1),
       )
     where
-      fits : (b : Bool) → ltb (length lent) (length (lineAt d ws line)) ≡ b → (c : Bool) → ltb line (length (linesOf d (gatesOf ws))) ≡ c
+      fits : (b : Bool) → ltb (length lent) (length (lineAt d ws line)) ≡ b → (c : Bool) → ltb line (length (circuitLines d (gatesOf ws))) ≡ c
           → ltb (length lent) (length (lineAt d ws line)) ≡ false
       fits false q c r = q
-      fits true q true r = let there : line < length (linesOf d (gatesOf ws)) = ltb-true _ _ r in absurd (omega (arith, some (long-first there q)))
+      fits true q true r = let there : line < length (circuitLines d (gatesOf ws)) = ltb-true _ _ r in absurd (omega (arith, some (long-first there q)))
       fits true q false r =
-          let none : lineAt d ws line ≡ [] = List·getD-eq-default (linesOf d (gatesOf ws)) [] (ltb-false _ _ r) in
+          let none : lineAt d ws line ≡ [] = List·getD-eq-default (circuitLines d (gatesOf ws)) [] (ltb-false _ _ r) in
           absurd (omega (arith, ltb-true (length lent) (length (lineAt d ws line)) q, ap length none))
 
-  pub lines-refused : line < length (linesOf d (gatesOf ws)) → next ≡ line → (lines.Refused LineBuffer ≡ writtenLines d ws line lent)
+  pub lines-refused : line < length (circuitLines d (gatesOf ws)) → next ≡ line → (lines.Refused LineBuffer ≡ writtenLines d ws line lent)
       × (bytes ≡ filledLines d ws line lent)
   unfolding flatten
   lines-refused h none =
       let q = lines-by-room d ws line lent e true (long (ltb (length lent) (length (lineAt d ws line))) refl) in
-      (sym (q .0), put-bytes (linesOf d (gatesOf ws)) lent line bytes next at p z ∙ ap (λ (x : List (List ℕ)). over (flatten x) lent) empty ∙ sym (q .1))
+      (sym (q .0), put-bytes (circuitLines d (gatesOf ws)) lent line bytes next at p z ∙ ap (λ (x : List (List ℕ)). over (flatten x) lent) empty ∙ sym (q .1))
     where
       long : (b : Bool) → ltb (length lent) (length (lineAt d ws line)) ≡ b → ltb (length lent) (length (lineAt d ws line)) ≡ true
       long true q = q
@@ -176,9 +178,9 @@ module _ (d : Dimensions) (ws : List ℕ) (e : outcome (circuitChecks d ws) ≡ 
           absurd (omega (
             arith,
             none,
-            put-count (linesOf d (gatesOf ws)) lent line bytes next at p z,
-            ap length (fitting-next (linesOf d (gatesOf ws)) line (length lent) h (ltb-false _ _ q)),
+            put-count (circuitLines d (gatesOf ws)) lent line bytes next at p z,
+            ap length (fitting-next (circuitLines d (gatesOf ws)) line (length lent) h (ltb-false _ _ q)),
           ))
 
       empty : linesAt d ws line lent ≡ []
-      empty = fitting-none (linesOf d (gatesOf ws)) line (length lent) h (ltb-true _ _ (long (ltb (length lent) (length (lineAt d ws line))) refl))
+      empty = fitting-none (circuitLines d (gatesOf ws)) line (length lent) h (ltb-true _ _ (long (ltb (length lent) (length (lineAt d ws line))) refl))

@@ -15,7 +15,7 @@ use Rattle.gates.proofs.Circuits.{reads, ordered}
 use Rattle.gates.proofs.InMemory.{accepted-length, accepted-ordered, words-gates}
 use Rattle.bristol_line.specs.Lines.{inputFields, inputLine, outputLine}
 use Rattle.bristol_line.proofs.Injective.{size-split, input-split, output-split, gate-split, gate-some, dimensions-injective}
-use Rattle.bristol.specs.Text.{gateLines, linesOf, circuitText}
+use Rattle.bristol.specs.Text.{gateLines, circuitLines, circuitText}
 
 gates-injective : (m : ℕ) (fs gs : List Gate) → m + length fs ≤ 2 ^ 64 → m + length gs ≤ 2 ^ 64 → ordered m fs ≡ true → ordered m gs ≡ true
     → flatten (gateLines m fs) ≡ flatten (gateLines m gs) → fs ≡ gs
@@ -31,7 +31,7 @@ gates-injective m (f ∷ fs) (g ∷ gs) h k p q e =
 -- equal texts have the same second header line and the same gate lines
 header-split : (d e : Dimensions) (fs gs : List Gate) → circuitText d fs ≡ circuitText e gs
     → (inputFields d ≡ inputFields e) × (flatten (gateLines (inputWires d) fs) ≡ flatten (gateLines (inputWires e) gs))
-unfolding circuitText linesOf flatten
+unfolding circuitText circuitLines flatten
 header-split d e fs gs h =
     let s : List ℕ = 10 ∷ flatten (gateLines (inputWires d) fs) in
     let t : List ℕ = 10 ∷ flatten (gateLines (inputWires e) gs) in

@@ -19,8 +19,8 @@ use Rattle.bristol.specs.declared.Written.{Written}
 use Rattle.bristol.specs.declared.Written.the-variants as W
 use Rattle.bristol.specs.declared.WrittenLines.{WrittenLines}
 use Rattle.bristol.specs.declared.WrittenLines.the-variants as lines
-use Rattle.bristol.specs.Text.{linesOf, circuitText}
-use Rattle.bristol.specs.Writing.{circuitChecks, lineAt, written, filled, front, requested, linesAt, writtenLines, filledLines}
+use Rattle.bristol.specs.Text.{circuitLines, circuitText}
+use Rattle.bristol.specs.Writing.{circuitChecks, lineAt, writtenLine, filledLine, frontPut, requested, linesAt, writtenLines, filledLines}
 use Rattle.bristol.proofs.Numbering.{lines-length}
 use Rattle.bristol.proofs.Fitting.{fitting-past, fitting-next, fitting-front, fitting-all}
 use Rattle.bristol.proofs.Requests.{taken-lines, past-last, line-put, lines-by-room}
@@ -63,25 +63,25 @@ module _ (d : Dimensions) (ws : List ℕ) (e : outcome (circuitChecks d ws) ≡ 
   fits : (i : ℕ) → ltb (length (lent i)) (length (lineAt d ws i)) ≡ false
   fits i = le-ltb (length (lent i)) (length (lineAt d ws i)) (room i)
 
-  one-line : (i : ℕ) → front (written d ws i (lent i)) (filled d ws i (lent i)) ≡ flatten (take 1 (drop i (linesOf d (gatesOf ws))))
+  one-line : (i : ℕ) → frontPut (writtenLine d ws i (lent i)) (filledLine d ws i (lent i)) ≡ flatten (take 1 (drop i (circuitLines d (gatesOf ws))))
   unfolding flatten
-  one-line i = go (ltb i (length (linesOf d (gatesOf ws)))) refl
+  one-line i = go (ltb i (length (circuitLines d (gatesOf ws)))) refl
     where
-      go : (b : Bool) → ltb i (length (linesOf d (gatesOf ws))) ≡ b → front (written d ws i (lent i)) (filled d ws i (lent i))
-          ≡ flatten (take 1 (drop i (linesOf d (gatesOf ws))))
+      go : (b : Bool) → ltb i (length (circuitLines d (gatesOf ws))) ≡ b → frontPut (writtenLine d ws i (lent i)) (filledLine d ws i (lent i))
+          ≡ flatten (take 1 (drop i (circuitLines d (gatesOf ws))))
       go true q =
           let p = line-put d ws i (lent i) e (ltb-true _ _ q) in
-          ap₂ front
+          ap₂ frontPut
           (sym (p .0) ∙ ap (λ b. cond b (W.Refused LineBuffer) (W.Line (length (lineAt d ws i)))) (fits i))
           (sym (p .1) ∙ ap (λ b. cond b (lent i) (over (lineAt d ws i) (lent i))) (fits i))
           ∙ take-append-seam (lineAt d ws i) (drop (length (lineAt d ws i)) (lent i)) ∙ sym (append-nil (lineAt d ws i))
-          ∙ ap (λ (x : List (List ℕ)). flatten (take 1 x)) (sym (drop-cons (linesOf d (gatesOf ws)) i [] (ltb-true _ _ q)))
+          ∙ ap (λ (x : List (List ℕ)). flatten (take 1 x)) (sym (drop-cons (circuitLines d (gatesOf ws)) i [] (ltb-true _ _ q)))
       go false q =
-          ap (λ (x : Written). front x (filled d ws i (lent i))) (sym (past-last d ws i (lent i) e (ltb-false _ _ q) .0))
-          ∙ ap (λ (x : List (List ℕ)). flatten (take 1 x)) (sym (drop-of-length-le (linesOf d (gatesOf ws)) (ltb-false _ _ q)))
+          ap (λ (x : Written). frontPut x (filledLine d ws i (lent i))) (sym (past-last d ws i (lent i) e (ltb-false _ _ q) .0))
+          ∙ ap (λ (x : List (List ℕ)). flatten (take 1 x)) (sym (drop-of-length-le (circuitLines d (gatesOf ws)) (ltb-false _ _ q)))
 
   abbrev put : ℕ → List ℕ
-  put j = front (written d ws j (lent j)) (filled d ws j (lent j))
+  put j = frontPut (writtenLine d ws j (lent j)) (filledLine d ws j (lent j))
 
   -- the next number is one more
   in-a-row : (i k : ℕ) → requested d ws lent i k ≡ asked put (λ j. 1) i k
@@ -91,10 +91,10 @@ module _ (d : Dimensions) (ws : List ℕ) (e : outcome (circuitChecks d ws) ≡ 
 
   pub requests-join : (k : ℕ) → 4 + length ws / 3 ≤ k → requested d ws lent 0 k ≡ circuitText d (gatesOf ws)
   unfolding circuitText
-  requests-join k h = in-a-row 0 k ∙ asked-join (linesOf d (gatesOf ws)) put (λ j. 1) one-line (λ i b. omega arith) 0 k (omega (arith, taken-lines d ws e))
+  requests-join k h = in-a-row 0 k ∙ asked-join (circuitLines d (gatesOf ws)) put (λ j. 1) one-line (λ i b. omega arith) 0 k (omega (arith, taken-lines d ws e))
 
   -- and there is no further line
-  pub requests-end : (i : ℕ) → 4 + length ws / 3 ≤ i → (written d ws i (lent i) ≡ W.Past) × (filled d ws i (lent i) ≡ lent i)
+  pub requests-end : (i : ℕ) → 4 + length ws / 3 ≤ i → (writtenLine d ws i (lent i) ≡ W.Past) × (filledLine d ws i (lent i) ≡ lent i)
   requests-end i h =
       let p = past-last d ws i (lent i) e (omega (arith, taken-lines d ws e)) in
       (sym (p .0), sym (p .1))
@@ -124,21 +124,21 @@ module _ (d : Dimensions) (ws : List ℕ) (e : outcome (circuitChecks d ws) ≡ 
   given-lines i = lines-by-room d ws i (lent i) e false (le-ltb (length (lent i)) (length (lineAt d ws i)) (room i))
 
   some-lines : (i : ℕ) → fronts (writtenLines d ws i (lent i)) (filledLines d ws i (lent i))
-      ≡ flatten (take (counted (writtenLines d ws i (lent i))) (drop i (linesOf d (gatesOf ws))))
+      ≡ flatten (take (counted (writtenLines d ws i (lent i))) (drop i (circuitLines d (gatesOf ws))))
   some-lines i =
       let p = given-lines i in
       ap₂ fronts (p .0) (p .1) ∙ take-append-seam (flatten (linesAt d ws i (lent i))) (drop (length (flatten (linesAt d ws i (lent i)))) (lent i))
-      ∙ ap flatten (fitting-front (length (lent i)) (drop i (linesOf d (gatesOf ws))))
-      ∙ ap (λ (x : WrittenLines). flatten (take (counted x) (drop i (linesOf d (gatesOf ws))))) (sym (p .0))
+      ∙ ap flatten (fitting-front (length (lent i)) (drop i (circuitLines d (gatesOf ws))))
+      ∙ ap (λ (x : WrittenLines). flatten (take (counted x) (drop i (circuitLines d (gatesOf ws))))) (sym (p .0))
 
-  one-at-least : (i : ℕ) → i < length (linesOf d (gatesOf ws)) → 1 ≤ counted (writtenLines d ws i (lent i))
-  one-at-least i h = omega (arith, ap counted (given-lines i .0), ap length (fitting-next (linesOf d (gatesOf ws)) i (length (lent i)) h (room i)))
+  one-at-least : (i : ℕ) → i < length (circuitLines d (gatesOf ws)) → 1 ≤ counted (writtenLines d ws i (lent i))
+  one-at-least i h = omega (arith, ap counted (given-lines i .0), ap length (fitting-next (circuitLines d (gatesOf ws)) i (length (lent i)) h (room i)))
 
   -- a request for each line is enough, however many lines each puts
   pub lines-join : (k : ℕ) → 4 + length ws / 3 ≤ k → requestedLines d ws lent 0 k ≡ circuitText d (gatesOf ws)
   unfolding circuitText
   lines-join k h =
-      asked-join (linesOf d (gatesOf ws)) (λ j. fronts (writtenLines d ws j (lent j)) (filledLines d ws j (lent j)))
+      asked-join (circuitLines d (gatesOf ws)) (λ j. fronts (writtenLines d ws j (lent j)) (filledLines d ws j (lent j)))
       (λ j. counted (writtenLines d ws j (lent j)))
       some-lines one-at-least 0 k (omega (arith, taken-lines d ws e))
 
@@ -146,7 +146,7 @@ module _ (d : Dimensions) (ws : List ℕ) (e : outcome (circuitChecks d ws) ≡ 
   pub lines-end : (i : ℕ) → 4 + length ws / 3 ≤ i → (writtenLines d ws i (lent i) ≡ lines.Lines 0 0) × (filledLines d ws i (lent i) ≡ lent i)
   unfolding flatten
   lines-end i h =
-      let none : linesAt d ws i (lent i) ≡ [] = fitting-past (linesOf d (gatesOf ws)) i (length (lent i)) (omega (arith, taken-lines d ws e)) in (
+      let none : linesAt d ws i (lent i) ≡ [] = fitting-past (circuitLines d (gatesOf ws)) i (length (lent i)) (omega (arith, taken-lines d ws e)) in (
         given-lines i .0 ∙ ap (λ (x : List (List ℕ)). lines.Lines (length x) (length (flatten x))) none,
         given-lines i .1 ∙ ap (λ (x : List (List ℕ)). over (flatten x) (lent i)) none,
       )
@@ -156,14 +156,14 @@ module _ (d : Dimensions) (ws : List ℕ) (e : outcome (circuitChecks d ws) ≡ 
 module _ (d : Dimensions) (ws : List ℕ) (e : outcome (circuitChecks d ws) ≡ Taken) (lent : List ℕ)
     (room : length (circuitText d (gatesOf ws)) ≤ length lent) where
   first-fits : length (lineAt d ws 0) ≤ length lent
-  unfolding circuitText linesOf flatten
-  first-fits = omega (arith, room, length-append (lineAt d ws 0) (flatten (drop 1 (linesOf d (gatesOf ws)))))
+  unfolding circuitText circuitLines flatten
+  first-fits = omega (arith, room, length-append (lineAt d ws 0) (flatten (drop 1 (circuitLines d (gatesOf ws)))))
 
-  all-lines : linesAt d ws 0 lent ≡ linesOf d (gatesOf ws)
+  all-lines : linesAt d ws 0 lent ≡ circuitLines d (gatesOf ws)
   unfolding circuitText
-  all-lines = fitting-all (length lent) (linesOf d (gatesOf ws)) room
+  all-lines = fitting-all (length lent) (circuitLines d (gatesOf ws)) room
 
-  pub lines-whole : (writtenLines d ws 0 lent ≡ lines.Lines (length (linesOf d (gatesOf ws))) (length (circuitText d (gatesOf ws))))
+  pub lines-whole : (writtenLines d ws 0 lent ≡ lines.Lines (length (circuitLines d (gatesOf ws))) (length (circuitText d (gatesOf ws))))
       × (filledLines d ws 0 lent ≡ over (circuitText d (gatesOf ws)) lent)
   unfolding circuitText
   lines-whole =

@@ -14,7 +14,7 @@ use Rattle.gates.specs.Memory.{gateOf, gatesOf, accepted}
 use Rattle.gates.proofs.InMemory.{accepted-length}
 use Rattle.bristol_line.specs.Lines.{line, sizeLine, inputLine, outputLine, gateLine}
 use Rattle.bristol_line.proofs.Lengths.{size-length, input-length, output-length, gate-length}
-use Rattle.bristol.specs.Text.{gateLines, linesOf}
+use Rattle.bristol.specs.Text.{gateLines, circuitLines}
 use Rattle.bristol.specs.Writing.{lineAt}
 
 gate-lines : (wire : ℕ) (gs : List Gate) → length (gateLines wire gs) ≡ length gs
@@ -23,11 +23,11 @@ gate-lines wire [] = refl
 gate-lines wire (g ∷ gs) = ap suc (gate-lines (suc wire) gs)
 
 -- four lines and one for each gate
-lines-number : (d : Dimensions) (gs : List Gate) → length (linesOf d gs) ≡ 4 + length gs
-unfolding linesOf
+lines-number : (d : Dimensions) (gs : List Gate) → length (circuitLines d gs) ≡ 4 + length gs
+unfolding circuitLines
 lines-number d gs = omega (arith, gate-lines (inputWires d) gs)
 
-pub lines-of-words : (d : Dimensions) (ws : List ℕ) → accepted (inputWires d) ws ≡ true → length (linesOf d (gatesOf ws)) ≡ 4 + length ws / 3
+pub lines-of-words : (d : Dimensions) (ws : List ℕ) → accepted (inputWires d) ws ≡ true → length (circuitLines d (gatesOf ws)) ≡ 4 + length ws / 3
 lines-of-words d ws e = omega (arith, lines-number d (gatesOf ws), accepted-length (inputWires d) ws e)
 
 -- the line of gate i is that of the three words at 3 i
@@ -60,8 +60,8 @@ gate-lines-length wire [] i = omega arith
 gate-lines-length wire (g ∷ gs) zero = gate-length wire g
 gate-lines-length wire (g ∷ gs) (suc i) = gate-lines-length (suc wire) gs i
 
-pub lines-length : (d : Dimensions) (gs : List Gate) (i : ℕ) → length (getD (linesOf d gs) i []) ≤ 127
-unfolding linesOf
+pub lines-length : (d : Dimensions) (gs : List Gate) (i : ℕ) → length (getD (circuitLines d gs) i []) ≤ 127
+unfolding circuitLines
 lines-length d gs zero = size-length (length gs) (inputWires d + length gs)
 lines-length d gs (suc zero) = input-length d
 lines-length d gs (suc (suc zero)) = output-length d
@@ -72,25 +72,25 @@ lines-length d gs (suc (suc (suc (suc i)))) = gate-lines-length (inputWires d) g
 
 pub lines-first : (d : Dimensions) (ws : List ℕ) (i : ℕ) → accepted (inputWires d) ws ≡ true → i ≡ 0 → lineAt d ws i
     ≡ sizeLine (length ws / 3) (inputWires d + length ws / 3)
-unfolding linesOf
+unfolding circuitLines
 lines-first d ws i a e =
     let count : length (gatesOf ws) ≡ length ws / 3 = omega (arith, accepted-length (inputWires d) ws a) in
     ap (lineAt d ws) e ∙ ap (λ (k : ℕ). sizeLine k (inputWires d + k)) count
 
 pub lines-second : (d : Dimensions) (ws : List ℕ) (i : ℕ) → i ≡ 1 → lineAt d ws i ≡ inputLine d
-unfolding linesOf
+unfolding circuitLines
 lines-second d ws i e = ap (lineAt d ws) e
 
 pub lines-third : (d : Dimensions) (ws : List ℕ) (i : ℕ) → i ≡ 2 → lineAt d ws i ≡ outputLine d
-unfolding linesOf
+unfolding circuitLines
 lines-third d ws i e = ap (lineAt d ws) e
 
 pub lines-blank : (d : Dimensions) (ws : List ℕ) (i : ℕ) → i ≡ 3 → lineAt d ws i ≡ line []
-unfolding linesOf
+unfolding circuitLines
 lines-blank d ws i e = ap (lineAt d ws) e
 
 pub lines-gate : (d : Dimensions) (ws : List ℕ) (i : ℕ) → 4 ≤ i → lineAt d ws i ≡ getD (gateLines (inputWires d) (gatesOf ws)) (i - 4) []
-unfolding linesOf
+unfolding circuitLines
 lines-gate d ws i h =
     let behind : i ≡ suc (suc (suc (suc (i - 4)))) = omega arith in
     ap (lineAt d ws) behind

@@ -26,8 +26,9 @@ use Rattle.bristol.specs.declared.Written.{Written}
 use Rattle.bristol.specs.declared.Written.the-variants as W
 use Rattle.bristol.specs.declared.WrittenLines.{WrittenLines}
 use Rattle.bristol.specs.declared.WrittenLines.the-variants as lines
-use Rattle.bristol.specs.Text.{linesOf}
-use Rattle.bristol.specs.Writing.{circuitChecks, lineAt, checks, written, lineCode, lineNumbers, filled, linesAt, writtenLines, linesCode, linesNumbers}
+use Rattle.bristol.specs.Text.{circuitLines}
+use Rattle.bristol.specs.Writing.{circuitChecks, lineAt, lineChecks, writtenLine, lineCode, lineNumbers, filledLine, linesAt, writtenLines, linesCode}
+use Rattle.bristol.specs.Writing.{linesNumbers}
 use Rattle.bristol.specs.Writing.{filledLines}
 use Rattle.bristol.proofs.Written.{the-type}
 use Rattle.bristol.proofs.Numbering.{lines-of-words}
@@ -58,21 +59,21 @@ module _ (d : Dimensions) (ws : List ℕ) where
       not-false _ (check-passed gates Gates Taken (outcome-parts (sizeChecks d) (check gates Gates ∷ []) e .1))
 
   -- and so many lines
-  pub taken-lines : outcome (circuitChecks d ws) ≡ Taken → length (linesOf d (gatesOf ws)) ≡ 4 + length ws / 3
+  pub taken-lines : outcome (circuitChecks d ws) ≡ Taken → length (circuitLines d (gatesOf ws)) ≡ 4 + length ws / 3
   taken-lines e = lines-of-words d ws (taken-accepted e)
 
   module _ (i : ℕ) (lent : List ℕ) where
     -- what an outcome of the checks leads to
-    by-outcome : (o : Outcome) → outcome (checks d ws i lent) ≡ o
-        → (written d ws i lent ≡ given o (cond (ltb i (length (linesOf d (gatesOf ws)))) (W.Line (length (lineAt d ws i))) W.Past) W.Refused)
-        × (filled d ws i lent ≡ given o (over (lineAt d ws i) lent) (λ r. lent))
+    by-outcome : (o : Outcome) → outcome (lineChecks d ws i lent) ≡ o
+        → (writtenLine d ws i lent ≡ given o (cond (ltb i (length (circuitLines d (gatesOf ws)))) (W.Line (length (lineAt d ws i))) W.Past) W.Refused)
+        × (filledLine d ws i lent ≡ given o (over (lineAt d ws i) lent) (λ r. lent))
     by-outcome o e = (
-      ap (λ (x : Outcome). given x (cond (ltb i (length (linesOf d (gatesOf ws)))) (W.Line (length (lineAt d ws i))) W.Past) W.Refused) e,
+      ap (λ (x : Outcome). given x (cond (ltb i (length (circuitLines d (gatesOf ws)))) (W.Line (length (lineAt d ws i))) W.Past) W.Refused) e,
       ap (λ (x : Outcome). given x (over (lineAt d ws i) lent) (λ r. lent)) e,
     )
 
     -- and for several lines
-    lines-by-outcome : (o : Outcome) → outcome (checks d ws i lent) ≡ o
+    lines-by-outcome : (o : Outcome) → outcome (lineChecks d ws i lent) ≡ o
         → (writtenLines d ws i lent ≡ given o (lines.Lines (length (linesAt d ws i lent)) (length (flatten (linesAt d ws i lent)))) lines.Refused)
         × (filledLines d ws i lent ≡ given o (over (flatten (linesAt d ws i lent)) lent) (λ r. lent))
     lines-by-outcome o e = (
@@ -82,14 +83,14 @@ module _ (d : Dimensions) (ws : List ℕ) where
 
     -- what is given says its number and its values
     module _ (out : List ℕ) where
-      pub with-line : (r : Written) → (r ≡ written d ws i lent) × (out ≡ filled d ws i lent)
-          → (r ≡ written d ws i lent)
-          × ((out ≡ filled d ws i lent) × (lineCode r ∷ lineNumbers r ≡ said (outcome (checks d ws i lent)) (length (lineAt d ws i) ∷ [])))
+      pub with-line : (r : Written) → (r ≡ writtenLine d ws i lent) × (out ≡ filledLine d ws i lent)
+          → (r ≡ writtenLine d ws i lent)
+          × ((out ≡ filledLine d ws i lent) × (lineCode r ∷ lineNumbers r ≡ said (outcome (lineChecks d ws i lent)) (length (lineAt d ws i) ∷ [])))
       with-line r p = (
         p .0,
         (
           p .1,
-          ap says (p .0) ∙ given-said says (outcome (checks d ws i lent)) (at (ltb i all)) W.Refused _
+          ap says (p .0) ∙ given-said says (outcome (lineChecks d ws i lent)) (at (ltb i all)) W.Refused _
               (go (ltb i all) refl) (λ q. refl),
         ),
       )
@@ -98,34 +99,35 @@ module _ (d : Dimensions) (ws : List ℕ) where
           says x = lineCode x ∷ lineNumbers x
 
           all : ℕ
-          all = length (linesOf d (gatesOf ws))
+          all = length (circuitLines d (gatesOf ws))
 
           at : Bool → Written
           at b = cond b (W.Line (length (lineAt d ws i))) W.Past
 
           go : (b : Bool) → ltb i all ≡ b → says (at b) ≡ 0 ∷ (length (lineAt d ws i) ∷ [])
           go true h = refl
-          go false h = ap (λ (l : List ℕ). 0 ∷ (length l ∷ [])) (sym (List·getD-eq-default (linesOf d (gatesOf ws)) [] (ltb-false i all h)))
+          go false h = ap (λ (l : List ℕ). 0 ∷ (length l ∷ [])) (sym (List·getD-eq-default (circuitLines d (gatesOf ws)) [] (ltb-false i all h)))
 
       pub with-lines : (r : WrittenLines) → (r ≡ writtenLines d ws i lent) × (out ≡ filledLines d ws i lent)
           → (r ≡ writtenLines d ws i lent)
           × ((out ≡ filledLines d ws i lent)
-          × (linesCode r ∷ linesNumbers r ≡ said (outcome (checks d ws i lent)) (length (linesAt d ws i lent) ∷ (length (flatten (linesAt d ws i lent)) ∷ []))))
+          × (linesCode r ∷ linesNumbers r ≡ said (outcome (lineChecks d ws i lent))
+          (length (linesAt d ws i lent) ∷ (length (flatten (linesAt d ws i lent)) ∷ []))))
       with-lines r p =
           let says : WrittenLines → List ℕ = λ x. linesCode x ∷ linesNumbers x in (
             p .0,
             (
               p .1,
-              ap says (p .0) ∙ given-said says (outcome (checks d ws i lent))
+              ap says (p .0) ∙ given-said says (outcome (lineChecks d ws i lent))
                   (lines.Lines (length (linesAt d ws i lent)) (length (flatten (linesAt d ws i lent)))) lines.Refused _ refl (λ q. refl),
             ),
           )
 
     module _ (q : Refusal) (e : outcome (circuitChecks d ws) ≡ Refused q) where
-      refused : outcome (checks d ws i lent) ≡ Refused q
+      refused : outcome (lineChecks d ws i lent) ≡ Refused q
       refused = outcome-refused (circuitChecks d ws) (check (ltb (length lent) (length (lineAt d ws i))) LineBuffer ∷ []) q e
 
-      pub refuse-circuit : (W.Refused q ≡ written d ws i lent) × (lent ≡ filled d ws i lent)
+      pub refuse-circuit : (W.Refused q ≡ writtenLine d ws i lent) × (lent ≡ filledLine d ws i lent)
       refuse-circuit = let p = by-outcome (Refused q) refused in (sym (p .0), sym (p .1))
 
       pub refuse-lines : (lines.Refused q ≡ writtenLines d ws i lent) × (lent ≡ filledLines d ws i lent)
@@ -133,38 +135,38 @@ module _ (d : Dimensions) (ws : List ℕ) where
 
     module _ (e : outcome (circuitChecks d ws) ≡ Taken) where
       -- the room decides
-      by-room : (b : Bool) → ltb (length lent) (length (lineAt d ws i)) ≡ b → outcome (checks d ws i lent) ≡ outcome (check b LineBuffer ∷ [])
+      by-room : (b : Bool) → ltb (length lent) (length (lineAt d ws i)) ≡ b → outcome (lineChecks d ws i lent) ≡ outcome (check b LineBuffer ∷ [])
       by-room b h =
           outcome-taken (circuitChecks d ws) (check (ltb (length lent) (length (lineAt d ws i))) LineBuffer ∷ []) e
           ∙ ap (λ (x : Bool). outcome (check x LineBuffer ∷ [])) h
 
-      pub past-last : length (linesOf d (gatesOf ws)) ≤ i → (W.Past ≡ written d ws i lent) × (lent ≡ filled d ws i lent)
+      pub past-last : length (circuitLines d (gatesOf ws)) ≤ i → (W.Past ≡ writtenLine d ws i lent) × (lent ≡ filledLine d ws i lent)
       past-last h =
-          let none : lineAt d ws i ≡ [] = List·getD-eq-default (linesOf d (gatesOf ws)) [] h in
+          let none : lineAt d ws i ≡ [] = List·getD-eq-default (circuitLines d (gatesOf ws)) [] h in
           let p = by-outcome Taken (by-room false (ap (λ (l : List ℕ). ltb (length lent) (length l)) none ∙ le-ltb (length lent) 0 (omega arith))) in
-          let past : ltb i (length (linesOf d (gatesOf ws))) ≡ false = le-ltb _ _ h in
+          let past : ltb i (length (circuitLines d (gatesOf ws))) ≡ false = le-ltb _ _ h in
           (sym (p .0 ∙ ap (λ (b : Bool). cond b (W.Line (length (lineAt d ws i))) W.Past) past), sym (p .1 ∙ ap (λ (l : List ℕ). over l lent) none))
 
       -- a line that there is, put if it fits
-      pub line-put : i < length (linesOf d (gatesOf ws))
-          → (cond (ltb (length lent) (length (lineAt d ws i))) (W.Refused LineBuffer) (W.Line (length (lineAt d ws i))) ≡ written d ws i lent)
-          × (cond (ltb (length lent) (length (lineAt d ws i))) lent (over (lineAt d ws i) lent) ≡ filled d ws i lent)
+      pub line-put : i < length (circuitLines d (gatesOf ws))
+          → (cond (ltb (length lent) (length (lineAt d ws i))) (W.Refused LineBuffer) (W.Line (length (lineAt d ws i))) ≡ writtenLine d ws i lent)
+          × (cond (ltb (length lent) (length (lineAt d ws i))) lent (over (lineAt d ws i) lent) ≡ filledLine d ws i lent)
       line-put h = go (ltb (length lent) (length (lineAt d ws i))) refl
         where
-          there : ltb i (length (linesOf d (gatesOf ws))) ≡ true
+          there : ltb i (length (circuitLines d (gatesOf ws))) ≡ true
           there = lt-ltb _ _ h
 
           go : (b : Bool) → ltb (length lent) (length (lineAt d ws i)) ≡ b
-              → (cond b (W.Refused LineBuffer) (W.Line (length (lineAt d ws i))) ≡ written d ws i lent)
-              × (cond b lent (over (lineAt d ws i) lent) ≡ filled d ws i lent)
+              → (cond b (W.Refused LineBuffer) (W.Line (length (lineAt d ws i))) ≡ writtenLine d ws i lent)
+              × (cond b lent (over (lineAt d ws i) lent) ≡ filledLine d ws i lent)
           go true q = let p = by-outcome (Refused LineBuffer) (by-room true q) in (sym (p .0), sym (p .1))
           go false q =
               let p = by-outcome Taken (by-room false q) in
               (sym (p .0 ∙ ap (λ (b : Bool). cond b (W.Line (length (lineAt d ws i))) W.Past) there), sym (p .1))
 
-      module _ (h : i < length (linesOf d (gatesOf ws))) (end : ℕ) (q : end ≡ length (lineAt d ws i)) where
+      module _ (h : i < length (circuitLines d (gatesOf ws))) (end : ℕ) (q : end ≡ length (lineAt d ws i)) where
         -- a line that is too long
-        pub line-long : length lent < end → (W.Refused LineBuffer ≡ written d ws i lent) × (lent ≡ filled d ws i lent)
+        pub line-long : length lent < end → (W.Refused LineBuffer ≡ writtenLine d ws i lent) × (lent ≡ filledLine d ws i lent)
         line-long f =
             let long : true ≡ ltb (length lent) (length (lineAt d ws i)) = sym (lt-ltb (length lent) (length (lineAt d ws i)) (omega arith)) in (
               ap (λ (b : Bool). cond b (W.Refused LineBuffer) (W.Line (length (lineAt d ws i)))) long ∙ line-put h .0,
@@ -173,7 +175,7 @@ module _ (d : Dimensions) (ws : List ℕ) where
 
         -- a line that is copied
         pub line-copied : (front out : List ℕ) → end ≤ length lent → front ≡ lineAt d ws i → out ≡ take (length front) front ++ drop (length front) lent
-            → (W.Line end ≡ written d ws i lent) × (out ≡ filled d ws i lent)
+            → (W.Line end ≡ writtenLine d ws i lent) × (out ≡ filledLine d ws i lent)
         line-copied front out f e o =
             let fits : false ≡ ltb (length lent) (length (lineAt d ws i)) = sym (le-ltb (length lent) (length (lineAt d ws i)) (omega arith)) in (
               ap W.Line q ∙ ap (λ (b : Bool). cond b (W.Refused LineBuffer) (W.Line (length (lineAt d ws i)))) fits ∙ line-put h .0,
@@ -183,26 +185,26 @@ module _ (d : Dimensions) (ws : List ℕ) where
             )
 
       -- a line that was put had room
-      pub was-put : i < length (linesOf d (gatesOf ws)) → (k : ℕ) → written d ws i lent ≡ W.Line k
-          → (length (lineAt d ws i) ≡ k) × (length (lineAt d ws i) ≤ length lent) × (filled d ws i lent ≡ over (lineAt d ws i) lent)
+      pub was-put : i < length (circuitLines d (gatesOf ws)) → (k : ℕ) → writtenLine d ws i lent ≡ W.Line k
+          → (length (lineAt d ws i) ≡ k) × (length (lineAt d ws i) ≤ length lent) × (filledLine d ws i lent ≡ over (lineAt d ws i) lent)
       was-put h k w = go (ltb (length lent) (length (lineAt d ws i))) refl (line-put h .0) (line-put h .1)
         where
           go : (b : Bool) → ltb (length lent) (length (lineAt d ws i)) ≡ b
-              → cond b (W.Refused LineBuffer) (W.Line (length (lineAt d ws i))) ≡ written d ws i lent
-              → cond b lent (over (lineAt d ws i) lent) ≡ filled d ws i lent
-              → (length (lineAt d ws i) ≡ k) × (length (lineAt d ws i) ≤ length lent) × (filled d ws i lent ≡ over (lineAt d ws i) lent)
+              → cond b (W.Refused LineBuffer) (W.Line (length (lineAt d ws i))) ≡ writtenLine d ws i lent
+              → cond b lent (over (lineAt d ws i) lent) ≡ filledLine d ws i lent
+              → (length (lineAt d ws i) ≡ k) × (length (lineAt d ws i) ≤ length lent) × (filledLine d ws i lent ≡ over (lineAt d ws i) lent)
           go true q x y = absurd (let z : _≡_ {A = ℕ} 0 1 = cc in omega arith)
           go false q x y = (cc, ltb-false _ _ q, sym y)
 
       -- a line that there is and that was not put is too long
-      pub not-put : i < length (linesOf d (gatesOf ws)) → OneOf (1 ∷ (2 ∷ [])) (tagOf the-type (written d ws i lent))
-          → (length lent < length (lineAt d ws i)) × (filled d ws i lent ≡ lent)
+      pub not-put : i < length (circuitLines d (gatesOf ws)) → OneOf (1 ∷ (2 ∷ [])) (tagOf the-type (writtenLine d ws i lent))
+          → (length lent < length (lineAt d ws i)) × (filledLine d ws i lent ≡ lent)
       not-put h t = go (ltb (length lent) (length (lineAt d ws i))) refl (line-put h .0) (line-put h .1)
         where
           go : (b : Bool) → ltb (length lent) (length (lineAt d ws i)) ≡ b
-              → cond b (W.Refused LineBuffer) (W.Line (length (lineAt d ws i))) ≡ written d ws i lent
-              → cond b lent (over (lineAt d ws i) lent) ≡ filled d ws i lent
-              → (length lent < length (lineAt d ws i)) × (filled d ws i lent ≡ lent)
+              → cond b (W.Refused LineBuffer) (W.Line (length (lineAt d ws i))) ≡ writtenLine d ws i lent
+              → cond b lent (over (lineAt d ws i) lent) ≡ filledLine d ws i lent
+              → (length lent < length (lineAt d ws i)) × (filledLine d ws i lent ≡ lent)
           go true q x y = (ltb-true _ _ q, sym y)
           go false q x y = absurd (⊎-elim (λ z. omega arith) (λ z. omega arith) (subst (λ (w : Written). OneOf (1 ∷ (2 ∷ [])) (tagOf the-type w)) (sym x) t))
 

@@ -13,12 +13,12 @@ gateLines wire [] = []
 gateLines wire (g ∷ gs) = gateLine wire g ∷ gateLines (suc wire) gs
 
 -- three header lines, the blank line, a line a gate
-unfoldable pub linesOf : Dimensions → List Gate → List (List ℕ)
+unfoldable pub circuitLines : Dimensions → List Gate → List (List ℕ)
 unfolding gateLines
-linesOf d gates =
+circuitLines d gates =
     sizeLine (length gates) (inputWires d + length gates) ∷ inputLine d ∷ outputLine d ∷ line [] ∷ gateLines (inputWires d) gates
 
 -- the text is its lines, joined
 unfoldable pub circuitText : Dimensions → List Gate → List ℕ
-unfolding linesOf flatten
-circuitText d gates = flatten (linesOf d gates)
+unfolding circuitLines flatten
+circuitText d gates = flatten (circuitLines d gates)

@@ -15,7 +15,7 @@ use Rattle.bristol.specs.declared.Written.{Written}
 use Rattle.bristol.specs.declared.Written.the-variants.{Line, Past, Refused}
 use Rattle.bristol.specs.declared.WrittenLines.{WrittenLines}
 use Rattle.bristol.specs.declared.WrittenLines.the-variants as lines
-use Rattle.bristol.specs.Text.{linesOf}
+use Rattle.bristol.specs.Text.{circuitLines}
 
 -- 1, 2, 9: words that are no gates behind the inputs
 abbrev pub circuitChecks : Dimensions → List ℕ → List Check
@@ -23,17 +23,17 @@ circuitChecks d words = sizeChecks d ++ (check (not (accepted (inputWires d) wor
 
 -- the line of a number, from 0, with its LF; past the last line no byte
 abbrev pub lineAt : Dimensions → List ℕ → ℕ → List ℕ
-lineAt d words number = getD (linesOf d (gatesOf words)) number []
+lineAt d words number = getD (circuitLines d (gatesOf words)) number []
 
 -- 1, 2, 9, then 11: the line is longer than the lent bytes
-abbrev pub checks : Dimensions → List ℕ → ℕ → List ℕ → List Check
-checks d words number lent = circuitChecks d words ++ (check (ltb (length lent) (length (lineAt d words number))) LineBuffer ∷ [])
+abbrev pub lineChecks : Dimensions → List ℕ → ℕ → List ℕ → List Check
+lineChecks d words number lent = circuitChecks d words ++ (check (ltb (length lent) (length (lineAt d words number))) LineBuffer ∷ [])
 
 -- the line's length, or that the number is past the last line, or the refusal
-abbrev pub written : Dimensions → List ℕ → ℕ → List ℕ → Written
-written d words number lent =
-    given (outcome (checks d words number lent))
-    (cond (ltb number (length (linesOf d (gatesOf words)))) (Line (length (lineAt d words number))) Past) Refused
+abbrev pub writtenLine : Dimensions → List ℕ → ℕ → List ℕ → Written
+writtenLine d words number lent =
+    given (outcome (lineChecks d words number lent))
+    (cond (ltb number (length (circuitLines d (gatesOf words)))) (Line (length (lineAt d words number))) Past) Refused
 
 -- what the line writer returns: 0, or 1, 2, 9 or 11 of "Turned back because of the input"
 abbrev pub lineCode : Written → ℕ
@@ -48,19 +48,20 @@ lineNumbers Past = 0 ∷ []
 lineNumbers (Refused r) = []
 
 -- the lent bytes afterwards: the line, then the bytes that stood there; refused, as they were
-abbrev pub filled : Dimensions → List ℕ → ℕ → List ℕ → List ℕ
-filled d words number lent = given (outcome (checks d words number lent)) (over (lineAt d words number) lent) (λ r. lent)
+abbrev pub filledLine : Dimensions → List ℕ → ℕ → List ℕ → List ℕ
+filledLine d words number lent = given (outcome (lineChecks d words number lent)) (over (lineAt d words number) lent) (λ r. lent)
 
 -- what a request put in front of the lent bytes: as many as it says
-abbrev pub front : Written → List ℕ → List ℕ
-front (Line k) bytes = take k bytes
-front Past bytes = []
-front (Refused r) bytes = []
+abbrev pub frontPut : Written → List ℕ → List ℕ
+frontPut (Line k) bytes = take k bytes
+frontPut Past bytes = []
+frontPut (Refused r) bytes = []
 
 -- what k requests in a row put, a line each, from a number on, each with lent bytes of its own
 unfoldable pub requested : Dimensions → List ℕ → (ℕ → List ℕ) → ℕ → ℕ → List ℕ
 requested d words lent i zero = []
-requested d words lent i (suc k) = front (written d words i (lent i)) (filled d words i (lent i)) ++ requested d words lent (suc i) k
+requested d words lent i (suc k) = frontPut (writtenLine d words i (lent i)) (filledLine d words i (lent i))
+    ++ requested d words lent (suc i) k
 
 -- ---- several lines
 
@@ -71,12 +72,12 @@ fitting room (l ∷ ls) = cond (ltb room (length l)) [] (l ∷ fitting (room - l
 
 -- the lines from a number on that fit the lent bytes
 abbrev pub linesAt : Dimensions → List ℕ → ℕ → List ℕ → List (List ℕ)
-linesAt d words number lent = fitting (length lent) (drop number (linesOf d (gatesOf words)))
+linesAt d words number lent = fitting (length lent) (drop number (circuitLines d (gatesOf words)))
 
 -- how many they are and how many bytes they take, or the line writer's refusal
 abbrev pub writtenLines : Dimensions → List ℕ → ℕ → List ℕ → WrittenLines
 writtenLines d words number lent =
-    given (outcome (checks d words number lent))
+    given (outcome (lineChecks d words number lent))
     (lines.Lines (length (linesAt d words number lent)) (length (flatten (linesAt d words number lent)))) lines.Refused
 
 -- what the writer of several lines returns: as the line writer
@@ -92,4 +93,4 @@ linesNumbers (lines.Refused r) = []
 -- the lent bytes afterwards
 abbrev pub filledLines : Dimensions → List ℕ → ℕ → List ℕ → List ℕ
 filledLines d words number lent =
-    given (outcome (checks d words number lent)) (over (flatten (linesAt d words number lent)) lent) (λ r. lent)
+    given (outcome (lineChecks d words number lent)) (over (flatten (linesAt d words number lent)) lent) (λ r. lent)

@@ -14,7 +14,7 @@ ghost use Rattle.gates.specs.Memory as Memory;
 ghost use Rattle.bristol_line.specs.ByValue.{lineOf};
 ghost use Rattle.bristol.specs.Text.{gateLines};
 ghost use Rattle.bristol.specs.Writing as Writing;
-ghost use Rattle.bristol.specs.Writing.{circuitChecks, lineAt, written, lineCode, lineNumbers, filled, linesAt, writtenLines};
+ghost use Rattle.bristol.specs.Writing.{circuitChecks, lineAt, writtenLine, lineCode, lineNumbers, filledLine, linesAt, writtenLines};
 ghost use Rattle.bristol.specs.Writing.{linesCode, linesNumbers, filledLines};
 
 // What became of a line that was asked for: written, with its length; none, the number being past the last line; or why not.
@@ -27,10 +27,10 @@ pub enum Written {
 // Writes the line of a number, from 0, with its LF to the front of the bytes; later bytes stay as they are. Refused, or asked past the last
 // line, it changes no byte.
 pub fn write_line(d: Dimensions, gates: &[u32], line: usize, bytes: &mut [u8]) -> Written
-    ensures { λ r. ⌜ r ≡ written d (now (gates .entry)) line (now (bytes .entry)) ⌝ }
-    ensures { λ _. ⌜ now (bytes .exit) ≡ filled d (now (gates .entry)) line (now (bytes .entry)) ⌝ }
+    ensures { λ r. ⌜ r ≡ writtenLine d (now (gates .entry)) line (now (bytes .entry)) ⌝ }
+    ensures { λ _. ⌜ now (bytes .exit) ≡ filledLine d (now (gates .entry)) line (now (bytes .entry)) ⌝ }
     ensures { λ r.
-        ⌜ lineCode r ∷ lineNumbers r ≡ said (outcome (Writing.checks d (now (gates .entry)) line (now (bytes .entry))))
+        ⌜ lineCode r ∷ lineNumbers r ≡ said (outcome (Writing.lineChecks d (now (gates .entry)) line (now (bytes .entry))))
         (length (lineAt d (now (gates .entry)) line) ∷ []) ⌝ }
 {
     match check(d, gates) {
@@ -56,7 +56,7 @@ pub fn write_lines(d: Dimensions, gates: &[u32], line: usize, bytes: &mut [u8]) 
     ensures { λ r. ⌜ r ≡ writtenLines d (now (gates .entry)) line (now (bytes .entry)) ⌝ }
     ensures { λ _. ⌜ now (bytes .exit) ≡ filledLines d (now (gates .entry)) line (now (bytes .entry)) ⌝ }
     ensures { λ r.
-        ⌜ linesCode r ∷ linesNumbers r ≡ said (outcome (Writing.checks d (now (gates .entry)) line (now (bytes .entry))))
+        ⌜ linesCode r ∷ linesNumbers r ≡ said (outcome (Writing.lineChecks d (now (gates .entry)) line (now (bytes .entry))))
         (length (linesAt d (now (gates .entry)) line (now (bytes .entry)))
         ∷ (length (flatten (linesAt d (now (gates .entry)) line (now (bytes .entry)))) ∷ [])) ⌝ }
 {
@@ -92,8 +92,8 @@ fn put_lines(d: Dimensions, gates: &[u32], line: usize, bytes: &mut [u8]) -> Wri
 fn put_line(d: Dimensions, gates: &[u32], line: usize, bytes: &mut [u8]) -> Written
     requires { ⌜ outcome (circuitChecks d (now gates)) ≡ Taken ⌝ }
     requires { ⌜ line < 4 + length (now gates) / 3 ⌝ }
-    ensures { λ r. ⌜ r ≡ written d (now (gates .entry)) line (now (bytes .entry)) ⌝ }
-    ensures { λ _. ⌜ now (bytes .exit) ≡ filled d (now (gates .entry)) line (now (bytes .entry)) ⌝ }
+    ensures { λ r. ⌜ r ≡ writtenLine d (now (gates .entry)) line (now (bytes .entry)) ⌝ }
+    ensures { λ _. ⌜ now (bytes .exit) ≡ filledLine d (now (gates .entry)) line (now (bytes .entry)) ⌝ }
 {
     let text = line_text(d, gates, line);
     let length = text.length;

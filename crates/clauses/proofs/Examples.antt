@@ -5,16 +5,16 @@ use mathlib.Core.List.{[], _∷_}
 use Prim.Native.Nat.{ℕ}
 use Prim.Native.String.{String}
 use Rattle.lexer.specs.Spelling.{bytes}
-use Rattle.lexer.specs.Pieces.{cut, filled}
+use Rattle.lexer.specs.Pieces.{cut, notEmpty}
 use Rattle.lexer.specs.Blanks.{blanked, tokensPast}
-use Rattle.numbers.specs.Numbers.{digitsAfter, decimalOf, numberOf}
+use Rattle.numbers.specs.Numbers.{digitsAfter, decimalOf, numberRead}
 use Rattle.clauses.specs.Rows.{Literal}
 use Rattle.clauses.specs.Clauses.{Reading, clause, ended, unreadable, clauses}
 use Rattle.clauses.specs.First.{clausesFrom}
 
 -- the clauses of a text over three variables, read from within a line
 reading : String → Reading
-unfolding clauses tokensPast blanked cut filled numberOf decimalOf digitsAfter
+unfolding clauses tokensPast blanked cut notEmpty numberRead decimalOf digitsAfter
 reading s = clausesFrom 3 (bytes s) 0
 
 -- variable i + 1, as it is and with a minus

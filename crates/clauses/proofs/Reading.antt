@@ -13,12 +13,12 @@ use Rattle.lexer.specs.Places.{part, firstOf}
 use Rattle.lexer.specs.Blanks.{tokensPast}
 use Rattle.lexer.proofs.Cuts.{FoundBy}
 use Rattle.lexer.proofs.Tokens.{found}
-use Rattle.numbers.specs.Numbers.{Number, number, malformed, numberOf}
+use Rattle.numbers.specs.Numbers.{Number, number, malformed, numberRead}
 use Rattle.numbers.specs.Held.{numberHeld}
 use Rattle.numbers.specs.declared.Number.the-variants as L
 use Rattle.numbers.proofs.Decimals.{held-value, held-none}
 use Rattle.clauses.specs.Rows.{Literal, rowOf}
-use Rattle.clauses.specs.Clauses.{Reading, clause, ended, unreadable, joined, before, clauses}
+use Rattle.clauses.specs.Clauses.{Reading, clause, ended, unreadable, joinedLiteral, before, clauses}
 use Rattle.clauses.specs.First.{clausesFrom, emptyRow, rowWith, withLiterals, first, clauseCode, clauseNumbers, firstSaid}
 use Rattle.clauses.specs.declared.Row.{Row}
 use Rattle.clauses.specs.declared.Clause.{Clause}
@@ -41,12 +41,13 @@ carried row start (clause ls from to rest) = Read (withLiterals row ls) start to
 carried row start ended = Unreadable
 carried row start unreadable = Unreadable
 
-carried-joined : (row : Row) (start at : ℕ) (l : Literal) (x : Reading) → carried row start (joined l at x) ≡ carried (rowWith (l .minus) (l .bit) row) start x
+carried-joined : (row : Row) (start at : ℕ) (l : Literal) (x : Reading) → carried row start (joinedLiteral l at x)
+    ≡ carried (rowWith (l .minus) (l .bit) row) start x
 carried-joined row start at l (clause ls from to rest) = refl
 carried-joined row start at l ended = refl
 carried-joined row start at l unreadable = refl
 
-first-joined : (start : ℕ) (l : Literal) (x : Reading) → first (joined l start x) ≡ carried emptyRow start (joined l start x)
+first-joined : (start : ℕ) (l : Literal) (x : Reading) → first (joinedLiteral l start x) ≡ carried emptyRow start (joinedLiteral l start x)
 first-joined start l (clause ls from to rest) = refl
 first-joined start l ended = refl
 first-joined start l unreadable = refl
@@ -62,7 +63,7 @@ first-before n t (number s (suc i)) rest =
 
 -- the reading of a token and of what stands behind it
 abbrev tokenThen : ℕ → List ℕ → ℕ → ℕ → Reading
-tokenThen n text from to = before n (record { at = from; bytes = part from to text }) (numberOf (part from to text)) (clausesFrom n text to)
+tokenThen n text from to = before n (record { at = from; bytes = part from to text }) (numberRead (part from to text)) (clausesFrom n text to)
 
 next-is : (n : ℕ) (text : List ℕ) (at from to : ℕ) → FoundBy (tokensPast text) text at from to → clausesFrom n text at ≡ tokenThen n text from to
 unfolding clauses
@@ -82,31 +83,31 @@ pub record Begun (n : ℕ) (text : List ℕ) (at start : ℕ) (row : Row) (from 
 pub begun : (n : ℕ) (text : List ℕ) (at from to : ℕ) → FoundBy (tokensPast text) text at from to → Begun n text at from emptyRow from to
 begun n text at from to F = record {
   whole = sym (ap first (next-is n text at from to F) ∙ first-before n (record { at = from; bytes = part from to text })
-      (numberOf (part from to text)) (clausesFrom n text to));
+      (numberRead (part from to text)) (clausesFrom n text to));
   filled = F .filled;
   within = F .within;
   ends = F .ends;
 }
 
 module _ {n : ℕ} {text : List ℕ} {at start : ℕ} {row : Row} {from to : ℕ} (B : Begun n text at start row from to) where
-  by-number : (x : Number) → numberOf (part from to text) ≡ x
+  by-number : (x : Number) → numberRead (part from to text) ≡ x
       → first (clausesFrom n text at) ≡ carried row start (before n (record { at = from; bytes = part from to text }) x (clausesFrom n text to))
   by-number x e = sym (B .whole)
       ∙ ap (λ (y : Number). carried row start (before n (record { at = from; bytes = part from to text }) y (clausesFrom n text to))) e
 
-  pub not-a-number : numberHeld (numberOf (part from to text)) ≡ L.Malformed → first (clausesFrom n text at) ≡ Unreadable
-  not-a-number e = by-number malformed (held-none (numberOf (part from to text)) e)
+  pub not-a-number : numberHeld (numberRead (part from to text)) ≡ L.Malformed → first (clausesFrom n text at) ≡ Unreadable
+  not-a-number e = by-number malformed (held-none (numberRead (part from to text)) e)
 
-  module _ (minus : Bool) (v : ℕ) (e : numberHeld (numberOf (part from to text)) ≡ L.Value minus v) where
+  module _ (minus : Bool) (v : ℕ) (e : numberHeld (numberRead (part from to text)) ≡ L.Value minus v) where
     pub closes : v ≡ 0 → first (clausesFrom n text at) ≡ Read row start to
     closes z =
-        let x = held-value (numberOf (part from to text)) minus v e in
+        let x = held-value (numberRead (part from to text)) minus v e in
         let q : x .0 ≡ 0 = omega (arith, x .2) in
         by-number (number minus zero) (x .1 ∙ ap (number minus) q) ∙ ap (Read row start) (B .ends)
 
     pub too-high : n < 256 → n < v → first (clausesFrom n text at) ≡ Unreadable
     too-high h l =
-        let x = held-value (numberOf (part from to text)) minus v e in
+        let x = held-value (numberRead (part from to text)) minus v e in
         let i = x .0 - 1 in
         let q : x .0 ≡ suc i = omega (arith, x .2) in
         by-number (number minus (suc i)) (x .1 ∙ ap (number minus) q) ∙ rw (le-ltb i n (omega (arith, x .2)))
@@ -114,7 +115,7 @@ module _ {n : ℕ} {text : List ℕ} {at start : ℕ} {row : Row} {from to : ℕ
     module _ (h : n < 256) (z : v ≡ 0 → ⊥) (l : v ≤ n) where
       joins : first (clausesFrom n text at) ≡ carried (rowWith minus (v - 1) row) start (clausesFrom n text to)
       joins =
-          let x = held-value (numberOf (part from to text)) minus v e in
+          let x = held-value (numberRead (part from to text)) minus v e in
           let i = v - 1 in
           let q : x .0 ≡ suc i = omega (arith, x .2, z) in
           by-number (number minus (suc i)) (x .1 ∙ ap (number minus) q)
@@ -139,7 +140,7 @@ belowAll n (clause ls from to rest) = below n ls && belowAll n rest
 belowAll n ended = true
 belowAll n unreadable = true
 
-joined-below : (n : ℕ) (l : Literal) (at : ℕ) (x : Reading) → ltb (l .bit) n ≡ true → belowAll n x ≡ true → belowAll n (joined l at x) ≡ true
+joined-below : (n : ℕ) (l : Literal) (at : ℕ) (x : Reading) → ltb (l .bit) n ≡ true → belowAll n x ≡ true → belowAll n (joinedLiteral l at x) ≡ true
 joined-below n l at (clause ls from to rest) h e =
     and-i (and-i h (and-l (below n ls) (belowAll n rest) e)) (and-r (below n ls) (belowAll n rest) e)
 joined-below n l at ended h e = refl
@@ -156,7 +157,7 @@ before-below n t (number s (suc i)) rest e =
 pub clauses-below : (n : ℕ) (ts : List Piece) → belowAll n (clauses n ts) ≡ true
 unfolding clauses
 clauses-below n [] = refl
-clauses-below n (t ∷ ts) = before-below n t (numberOf (t .bytes)) (clauses n ts) (clauses-below n ts)
+clauses-below n (t ∷ ts) = before-below n t (numberRead (t .bytes)) (clauses n ts) (clauses-below n ts)
 
 -- ---- the clauses behind the first
 
@@ -183,7 +184,7 @@ module _ (n : ℕ) (text : List ℕ) where
       (λ g. absurd (let k : unreadable ≡ clause ls s e rest = rw g at f in let z : _≡_ {A = ℕ} 0 1 = cc in omega arith))
     where
       go : (y : Reading) → ((ls : List Literal) (s e : ℕ) (rest : Reading) → y ≡ clause ls s e rest → rest ≡ clausesFrom n text e)
-          → joined (record { minus = m; bit = i }) (t .at) y ≡ clause ls s e rest → rest ≡ clausesFrom n text e
+          → joinedLiteral (record { minus = m; bit = i }) (t .at) y ≡ clause ls s e rest → rest ≡ clausesFrom n text e
       go (clause ls′ s′ e′ rest′) ih k =
           let a : rest′ ≡ rest = cc in
           let b : e′ ≡ e = cc in
@@ -196,7 +197,7 @@ module _ (n : ℕ) (text : List ℕ) where
   unfolding clauses
   rest-is [] i h ls s e rest f = absurd (let z : _≡_ {A = ℕ} 0 1 = cc in omega arith)
   rest-is (t ∷ ts) i h ls s e rest f =
-      rest-step t (numberOf (t .bytes)) ts (clauses n ts) ls s e rest (tail-is i t ts h) refl
+      rest-step t (numberRead (t .bytes)) ts (clauses n ts) ls s e rest (tail-is i t ts h) refl
       (λ ls s e rest k. rest-is ts (behind t) (tail-is i t ts h) ls s e rest k) f
 
   -- where the first clause ends, the reading of the rest starts; its row is the definition's where the words have a bit for each variable

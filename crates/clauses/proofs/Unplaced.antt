@@ -6,9 +6,9 @@ use lib.Dec.{ltb}
 use Rattle.words.proofs.Truth.{on}
 use Rattle.lexer.specs.Pieces.{Piece}
 use Rattle.lexer.proofs.Kept.{bytesOf}
-use Rattle.numbers.specs.Numbers.{Number, number, malformed, numberOf}
+use Rattle.numbers.specs.Numbers.{Number, number, malformed, numberRead}
 use Rattle.clauses.specs.Rows.{Literal, rowOf}
-use Rattle.clauses.specs.Clauses.{Reading, clause, ended, unreadable, joined, before, clauses, rowsOf, complete}
+use Rattle.clauses.specs.Clauses.{Reading, clause, ended, unreadable, joinedLiteral, before, clauses, clauseRows, complete}
 use Rattle.clauses.specs.declared.Row.{Row}
 
 -- every place as 0
@@ -23,9 +23,9 @@ nowhere = record { at = 0; bytes = [] }
 -- clauses of tokens that have bytes and no place
 unfoldable clausesOf : ℕ → List (List ℕ) → Reading
 clausesOf n [] = ended
-clausesOf n (w ∷ ws) = before n nowhere (numberOf w) (clausesOf n ws)
+clausesOf n (w ∷ ws) = before n nowhere (numberRead w) (clausesOf n ws)
 
-joined-unplaced : (l : Literal) (at : ℕ) (x : Reading) → unplaced (joined l at x) ≡ joined l 0 (unplaced x)
+joined-unplaced : (l : Literal) (at : ℕ) (x : Reading) → unplaced (joinedLiteral l at x) ≡ joinedLiteral l 0 (unplaced x)
 joined-unplaced l at (clause ls from to rest) = refl
 joined-unplaced l at ended = refl
 joined-unplaced l at unreadable = refl
@@ -41,9 +41,9 @@ before-unplaced n t (number s (suc i)) x =
 clauses-unplaced : (n : ℕ) (ts : List Piece) → unplaced (clauses n ts) ≡ clausesOf n (bytesOf ts)
 unfolding clauses clausesOf
 clauses-unplaced n [] = refl
-clauses-unplaced n (t ∷ ts) = before-unplaced n t (numberOf (t .bytes)) (clauses n ts) ∙ ap (before n nowhere (numberOf (t .bytes))) (clauses-unplaced n ts)
+clauses-unplaced n (t ∷ ts) = before-unplaced n t (numberRead (t .bytes)) (clauses n ts) ∙ ap (before n nowhere (numberRead (t .bytes))) (clauses-unplaced n ts)
 
-rows-unplaced : (x : Reading) → rowsOf (unplaced x) ≡ rowsOf x
+rows-unplaced : (x : Reading) → clauseRows (unplaced x) ≡ clauseRows x
 rows-unplaced (clause ls from to rest) = ap (λ (rs : List Row). rowOf ls ∷ rs) (rows-unplaced rest)
 rows-unplaced ended = refl
 rows-unplaced unreadable = refl
@@ -58,8 +58,8 @@ module _ (n : ℕ) (ts us : List Piece) (same : bytesOf ts ≡ bytesOf us) where
   unplaced-same : unplaced (clauses n ts) ≡ unplaced (clauses n us)
   unplaced-same = clauses-unplaced n ts ∙ ap (clausesOf n) same ∙ sym (clauses-unplaced n us)
 
-  pub rows-same : rowsOf (clauses n ts) ≡ rowsOf (clauses n us)
-  rows-same = sym (rows-unplaced (clauses n ts)) ∙ ap rowsOf unplaced-same ∙ rows-unplaced (clauses n us)
+  pub rows-same : clauseRows (clauses n ts) ≡ clauseRows (clauses n us)
+  rows-same = sym (rows-unplaced (clauses n ts)) ∙ ap clauseRows unplaced-same ∙ rows-unplaced (clauses n us)
 
   pub complete-same : complete (clauses n ts) ≡ complete (clauses n us)
   complete-same = sym (complete-unplaced (clauses n ts)) ∙ ap complete unplaced-same ∙ complete-unplaced (clauses n us)

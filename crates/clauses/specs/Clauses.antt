@@ -4,7 +4,7 @@ use mathlib.Core.Bool.{Bool, true, false, cond}
 use mathlib.Core.List.{List, [], _∷_}
 use lib.Dec.{ltb}
 use Rattle.lexer.specs.Pieces.{Piece, behind}
-use Rattle.numbers.specs.Numbers.{Number, number, malformed, numberOf}
+use Rattle.numbers.specs.Numbers.{Number, number, malformed, numberRead}
 use Rattle.clauses.specs.Rows.{Literal, rowOf}
 use Rattle.clauses.specs.declared.Row.{Row}
 
@@ -16,27 +16,27 @@ pub data Reading : Type 0 where
   unreadable : Reading
 
 -- a literal at a place joins the clause that follows; where none does, its 0 is missing
-abbrev pub joined : Literal → ℕ → Reading → Reading
-joined l at (clause ls from to rest) = clause (l ∷ ls) at to rest
-joined l at ended = unreadable
-joined l at unreadable = unreadable
+abbrev pub joinedLiteral : Literal → ℕ → Reading → Reading
+joinedLiteral l at (clause ls from to rest) = clause (l ∷ ls) at to rest
+joinedLiteral l at ended = unreadable
+joinedLiteral l at unreadable = unreadable
 
 -- a token, as a number, in front of what follows: 0 closes a clause, a variable from 1 to n is a literal
 abbrev pub before : ℕ → Piece → Number → Reading → Reading
 before n t malformed rest = unreadable
 before n t (number s zero) rest = clause [] (t .at) (behind t) rest
-before n t (number s (suc i)) rest = cond (ltb i n) (joined (record { minus = s; bit = i }) (t .at) rest) unreadable
+before n t (number s (suc i)) rest = cond (ltb i n) (joinedLiteral (record { minus = s; bit = i }) (t .at) rest) unreadable
 
 -- the clauses of some tokens
 unfoldable pub clauses : ℕ → List Piece → Reading
 clauses n [] = ended
-clauses n (t ∷ ts) = before n t (numberOf (t .bytes)) (clauses n ts)
+clauses n (t ∷ ts) = before n t (numberRead (t .bytes)) (clauses n ts)
 
 -- the rows of the clauses that could be read
-abbrev pub rowsOf : Reading → List Row
-rowsOf (clause ls from to rest) = rowOf ls ∷ rowsOf rest
-rowsOf ended = []
-rowsOf unreadable = []
+abbrev pub clauseRows : Reading → List Row
+clauseRows (clause ls from to rest) = rowOf ls ∷ clauseRows rest
+clauseRows ended = []
+clauseRows unreadable = []
 
 -- all clauses could be read
 abbrev pub complete : Reading → Bool

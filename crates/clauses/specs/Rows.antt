@@ -21,6 +21,6 @@ rowOf [] = record { positive = 0; negative = 0 }
 rowOf (l ∷ ls) = withLiteral (l .minus) (l .bit) (rowOf ls)
 
 -- rows as words: positive, then negative
-abbrev pub wordsOf : List Row → List ℕ
-wordsOf [] = []
-wordsOf (r ∷ rs) = r .positive ∷ (r .negative ∷ wordsOf rs)
+abbrev pub rowWords : List Row → List ℕ
+rowWords [] = []
+rowWords (r ∷ rs) = r .positive ∷ (r .negative ∷ rowWords rs)

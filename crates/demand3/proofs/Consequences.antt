@@ -27,15 +27,15 @@ use Rattle.solver.specs.declared.Answer.{Answer}
 use Rattle.solver.specs.Step.{step, after}
 use Rattle.answers.specs.Printed.{answerText}
 use Rattle.gates.specs.Memory.{bytesOf}
-use Rattle.two_pass.specs.Evaluation.{filled}
+use Rattle.two_pass.specs.Evaluation.{filledWires}
 use Rattle.wires.specs.Layout.{stateBits}
 use Rattle.wires.specs.Packing.{inputBits}
 use Rattle.netlist.specs.Netlist.{gatesOn}
 use Rattle.netlist.specs.Outputs.{closed, outputBits, outputsIn}
 use Rattle.bristol.specs.declared.Written.the-variants.{Past}
-use Rattle.bristol.specs.Writing.{lineAt, written, requested}
+use Rattle.bristol.specs.Writing.{lineAt, writtenLine, requested}
 use Rattle.repeats.specs.Repeats.{Attempt, Lent, Repeat, circuitWords, marks, lastRun, ended, longEnough, longOnes}
-use Rattle.demand3.specs.Demand3.{rowsIn, historyOf, answerFor, answerIn, textOf, publicIn, Seen, seen, AllAccepts, SamePublic, Demand3}
+use Rattle.demand3.specs.Demand3.{rowsByStep, historyOf, answerFor, answerIn, circuitTextOf, publicIn, Seen, seen, AllAccepts, SamePublic, Demand3}
 
 -- ---- steps, runs and attempts
 
@@ -102,7 +102,7 @@ module _ (d : Dimensions) (x : Demand3 d) where
   -- a closed state goes through the circuit as it is, and its closing wire is 1
   pub closed-stays : (tables : Tables) (s : State) (wires : List ℕ) → wellFormedState (d .n) s ≡ true → closed s ≡ true
       → inputWires d + length (circuitWords d) / 3 ≤ length wires
-      → outputsIn d (circuitWords d) (filled (circuitWords d) (bytesOf (inputBits d tables s)) wires) ≡ bytesOf (stateBits (d .n) s ++ (true ∷ []))
+      → outputsIn d (circuitWords d) (filledWires (circuitWords d) (bytesOf (inputBits d tables s)) wires) ≡ bytesOf (stateBits (d .n) s ++ (true ∷ []))
   unfolding outputBits
   closed-stays tables s wires formed c h =
       x .every-state .steps tables s wires formed h .1
@@ -116,7 +116,7 @@ module _ (d : Dimensions) (x : Demand3 d) where
     whole = historyOf d tables budget attempts
 
     abbrev plain : ℕ → State
-    plain k = after (d .n) (rowsIn d tables) k fresh
+    plain k = after (d .n) (rowsByStep d tables) k fresh
 
     -- after every repeat the run is the plain run's
     pub run-after : (i : ℕ) (none : Repeat) → i < length whole → getD whole i none .run ≡ runOf (d .n) (plain (suc i))
@@ -158,10 +158,11 @@ module _ (d : Dimensions) (x : Demand3 d) where
           ext-getD false (marks whole) l k
           (λ i b. mark-after i (omega (arith, length-map whole (λ (r : Repeat). r .mark))) ∙ h i (omega (arith, k)))
 
-      pub seen-is : (l : List Bool) → marks whole ≡ l → seen d tables budget attempts ≡ (textOf d, a .count, l, answerText (min (d .n) 32) a, publicIn d tables)
+      pub seen-is : (l : List Bool) → marks whole ≡ l → seen d tables budget attempts
+          ≡ (circuitTextOf d, a .count, l, answerText (min (d .n) 32) a, publicIn d tables)
       seen-is l e =
-          ap₂ (λ (k : ℕ) (y : Answer). (textOf d, k, marks whole, answerText (min (d .n) 32) y, publicIn d tables)) number-is answer-is
-          ∙ ap (λ (m : List Bool). (textOf d, a .count, m, answerText (min (d .n) 32) a, publicIn d tables)) e
+          ap₂ (λ (k : ℕ) (y : Answer). (circuitTextOf d, k, marks whole, answerText (min (d .n) 32) y, publicIn d tables)) number-is answer-is
+          ∙ ap (λ (m : List Bool). (circuitTextOf d, a .count, m, answerText (min (d .n) 32) a, publicIn d tables)) e
 
     -- a host can always go on to the end
     pub can-end : (k : ℕ) → answerFor d tables budget .count ≤ k → ended budget (historyOf d tables budget (attempts ++ replicate k (roomy d))) ≡ true
@@ -174,7 +175,7 @@ module _ (d : Dimensions) (x : Demand3 d) where
   module _ (sizes : outcome (sizeChecks d) ≡ Taken) where
     -- it sees the circuit's text, whatever it lends, and is told that there is no more line
     pub host-sees : (tables : ℕ → Tables) (budget : ℕ) (attempts : List Attempt) (lent : ℕ → List ℕ) → Room d lent → (k : ℕ) → 4 + length (gatesOn d) ≤ k
-        → (hosted d tables budget attempts lent k ≡ seen d tables budget attempts) × (written d (circuitWords d) k (lent k) ≡ Past)
+        → (hosted d tables budget attempts lent k ≡ seen d tables budget attempts) × (writtenLine d (circuitWords d) k (lent k) ≡ Past)
     host-sees tables budget attempts lent room k h =
         let s = seen d tables budget attempts in
         let t = x .text sizes lent room k h in

@@ -40,7 +40,8 @@ use Rattle.answers.specs.Printed.{answerText}
 use Rattle.bristol.specs.Writing.{circuitChecks}
 use Rattle.bristol.proofs.Joining.{requests-join, requests-end}
 use Rattle.repeats.specs.Repeats.{Attempt, Repeat, circuitWords, marks, lastRun, ended, longOnes}
-use Rattle.demand3.specs.Demand3.{rowsIn, AllAccepts, SamePublic, historyOf, Follows, answerFor, answerIn, textOf, publicIn, Seen, seen, Demand3}
+use Rattle.demand3.specs.Demand3.{rowsByStep, AllAccepts, SamePublic, historyOf, Follows, answerFor, answerIn, circuitTextOf, publicIn, Seen, seen}
+use Rattle.demand3.specs.Demand3.{Demand3}
 use Rattle.repeats.proofs.Applying.{words-third, words-accepted}
 use Rattle.demand3.proofs.Histories.{closed-open, open-closed, repeated, repeated-length, repeated-at, repeated-marks, repeated-last, number}
 use Rattle.demand3.proofs.Histories.{repeats-are}
@@ -72,11 +73,11 @@ markBy a i = cond (ltb (suc i) (a .count)) false (known (a .verdict))
 
 -- what is seen, by the answer and the public rows
 abbrev seenBy : Dimensions → Answer → (ℕ → List Row) → Seen
-seenBy d a public = (textOf d, a .count, upto (markBy a) (a .count), answerText (min (d .n) 32) a, public)
+seenBy d a public = (circuitTextOf d, a .count, upto (markBy a) (a .count), answerText (min (d .n) 32) a, public)
 
 module _ (d : Dimensions) (tables : ℕ → Tables) (acc : AllAccepts d tables) (budget : ℕ) where
   abbrev rows : ℕ → List Row
-  rows = rowsIn d tables
+  rows = rowsByStep d tables
 
   abbrev final : Ran
   final = runFrom (d .n) rows budget fresh
@@ -178,9 +179,9 @@ module _ (d : Dimensions) (tables : ℕ → Tables) (acc : AllAccepts d tables) 
     shown : ended budget whole ≡ true → seen d tables budget attempts ≡ seenBy d (answerFor d tables budget) (publicIn d tables)
     shown e =
         let a = answerFor d tables budget in
-        ap (λ (j : ℕ). (textOf d, j, marks whole, answerText (min (d .n) 32) (answerIn (d .n) whole), publicIn d tables))
+        ap (λ (j : ℕ). (circuitTextOf d, j, marks whole, answerText (min (d .n) 32) (answerIn (d .n) whole), publicIn d tables))
         (sym (length-map whole (λ (r : Repeat). r .mark)) ∙ ap (λ (x : Answer). x .count) (ends e))
-        ∙ ap₂ (λ (l : List Bool) (x : Answer). (textOf d, a .count, l, answerText (min (d .n) 32) x, publicIn d tables)) (marks-by e) (ends e)
+        ∙ ap₂ (λ (l : List Bool) (x : Answer). (circuitTextOf d, a .count, l, answerText (min (d .n) 32) x, publicIn d tables)) (marks-by e) (ends e)
 
 same-seen : (d : Dimensions) (tables tables′ : ℕ → Tables) → AllAccepts d tables → AllAccepts d tables′ → SamePublic d tables tables′
     → (budget : ℕ) (attempts attempts′ : List Attempt) → answerFor d tables budget ≡ answerFor d tables′ budget

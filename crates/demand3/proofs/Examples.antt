@@ -27,7 +27,7 @@ use Rattle.answers.specs.Printed.{answerText}
 use Rattle.netlist.specs.Netlist.{gatesOn}
 use Rattle.netlist.specs.Outputs.{closed}
 use Rattle.repeats.specs.Repeats.{Attempt, Lent, Otherwise, repeats, lastRun, ended, longOnes}
-use Rattle.demand3.specs.Demand3.{rowsIn, historyOf, answerFor, textOf, Seen, seen, AllAccepts, Demand3}
+use Rattle.demand3.specs.Demand3.{rowsByStep, historyOf, answerFor, circuitTextOf, Seen, seen, AllAccepts, Demand3}
 use Rattle.demand3.proofs.Consequences.{roomy, roomy-ones, marks-are, reached, seen-is, seen-public, Room, hosted, hosts-agree}
 
 abbrev small : Dimensions
@@ -82,14 +82,14 @@ unfolding answerOf freeLiterals padding satisfied bit put any count lowest
 unlike-answer = refl
 
 -- whether step i + 1 of the marked instance, and of the unlike one, closes the run
-marked-closes : (i : ℕ) → i < 3 → closed (after 2 (rowsIn small marked) (suc i) fresh) ≡ getD (false ∷ false ∷ true ∷ []) i false
+marked-closes : (i : ℕ) → i < 3 → closed (after 2 (rowsByStep small marked) (suc i) fresh) ≡ getD (false ∷ false ∷ true ∷ []) i false
 unfolding after freeLiterals padding satisfied bit put any count lowest
 marked-closes zero h = refl
 marked-closes (suc zero) h = refl
 marked-closes (suc (suc zero)) h = refl
 marked-closes (suc (suc (suc i))) h = absurd (omega arith)
 
-unlike-closes : (i : ℕ) → i < 2 → closed (after 2 (rowsIn small unlike) (suc i) fresh) ≡ getD (false ∷ true ∷ []) i false
+unlike-closes : (i : ℕ) → i < 2 → closed (after 2 (rowsByStep small unlike) (suc i) fresh) ≡ getD (false ∷ true ∷ []) i false
 unfolding after freeLiterals padding satisfied bit put any count lowest
 unlike-closes zero h = refl
 unlike-closes (suc zero) h = refl
@@ -98,21 +98,21 @@ unlike-closes (suc (suc i)) h = absurd (omega arith)
 -- ---- the repeats
 
 -- before the first attempt the printed answer is that of no repeat, and not the plain run's
-pub nothing-seen : seen small marked 9 [] ≡ (textOf small, 0, [], answerText 2 (answer 0 Unknown), λ i. [])
+pub nothing-seen : seen small marked 9 [] ≡ (circuitTextOf small, 0, [], answerText 2 (answer 0 Unknown), λ i. [])
 unfolding repeats lastRun runOf
 nothing-seen = refl
 
 module _ (x : Demand3 small) where
   -- three attempts that are long enough, whatever others there are
   pub marked-seen : (attempts : List Attempt) → 3 ≤ longOnes small attempts
-      → seen small marked 9 attempts ≡ (textOf small, 3, false ∷ false ∷ true ∷ [], answerText 2 (answer 3 (Satisfiable 2)), λ i. [])
+      → seen small marked 9 attempts ≡ (circuitTextOf small, 3, false ∷ false ∷ true ∷ [], answerText 2 (answer 3 (Satisfiable 2)), λ i. [])
   marked-seen attempts long =
       seen-is small x marked marked-accepted 9 attempts (answer 3 (Satisfiable 2)) marked-answer long (false ∷ false ∷ true ∷ [])
       (marks-are small x marked marked-accepted 9 attempts (answer 3 (Satisfiable 2)) marked-answer long (false ∷ false ∷ true ∷ []) refl marked-closes)
 
   -- so of three behind one with nothing lent and one that is refused for another cause
   pub turned-back-seen : seen small marked 9 (Lent [] [] 0 ∷ Otherwise State ∷ replicate 3 (roomy small))
-      ≡ (textOf small, 3, false ∷ false ∷ true ∷ [], answerText 2 (answer 3 (Satisfiable 2)), λ i. [])
+      ≡ (circuitTextOf small, 3, false ∷ false ∷ true ∷ [], answerText 2 (answer 3 (Satisfiable 2)), λ i. [])
   turned-back-seen = marked-seen _ (roomy-ones small (Lent [] [] 0 ∷ Otherwise State ∷ []) 3)
 
   module _ (attempts attempts′ : List Attempt) where

@@ -20,7 +20,7 @@ use Rattle.solver.proofs.StepLaws.{step-well-formed}
 use Rattle.wires.specs.Layout.{upto}
 use Rattle.netlist.specs.Outputs.{closed}
 use Rattle.repeats.specs.Repeats.{Attempt, Repeat, returned, marks, lastRun, laterTables, repeats, longEnough, longOnes}
-use Rattle.demand3.specs.Demand3.{rowsIn, AllAccepts}
+use Rattle.demand3.specs.Demand3.{rowsByStep, AllAccepts}
 use Rattle.repeats.proofs.Applying.{comes, attempt-is}
 
 -- ---- closed states and the budgeted run
@@ -62,7 +62,7 @@ module _ (n : ℕ) (rows : ℕ → List Row) where
 module _ (d : Dimensions) where
   -- the first step
   abbrev first : (ℕ → Tables) → State → State
-  first tables s = step (d .n) (rowsIn d tables 0) s
+  first tables s = step (d .n) (rowsByStep d tables 0) s
 
   -- k repeats from a state
   unfoldable pub repeated : (ℕ → Tables) → State → ℕ → List Repeat
@@ -75,26 +75,27 @@ module _ (d : Dimensions) where
   repeated-length tables s (suc k) = ap suc (repeated-length (laterTables tables) (first tables s) k)
 
   pub repeated-at : (tables : ℕ → Tables) (s : State) (k i : ℕ) (none : Repeat) → i < k
-      → getD (repeated tables s k) i none ≡ returned (d .n) (after (d .n) (rowsIn d tables) (suc i) s)
+      → getD (repeated tables s k) i none ≡ returned (d .n) (after (d .n) (rowsByStep d tables) (suc i) s)
   unfolding repeated after
   repeated-at tables s zero i none h = absurd (not-suc-le-zero h)
   repeated-at tables s (suc k) zero none h = refl
   repeated-at tables s (suc k) (suc i) none h = repeated-at (laterTables tables) (first tables s) k i none (le-of-suc-le-suc h)
 
-  pub repeated-marks : (tables : ℕ → Tables) (s : State) (k : ℕ) → marks (repeated tables s k) ≡ upto (λ i. closed (after (d .n) (rowsIn d tables) (suc i) s)) k
+  pub repeated-marks : (tables : ℕ → Tables) (s : State) (k : ℕ) → marks (repeated tables s k)
+      ≡ upto (λ i. closed (after (d .n) (rowsByStep d tables) (suc i) s)) k
   unfolding repeated after upto
   repeated-marks tables s zero = refl
   repeated-marks tables s (suc k) = ap (λ (l : List Bool). closed (first tables s) ∷ l) (repeated-marks (laterTables tables) (first tables s) k)
 
   pub repeated-last : (tables : ℕ → Tables) (s : State) (k : ℕ) → lastRun (runOf (d .n) s) (repeated tables s k)
-      ≡ runOf (d .n) (after (d .n) (rowsIn d tables) k s)
+      ≡ runOf (d .n) (after (d .n) (rowsByStep d tables) k s)
   unfolding repeated after lastRun
   repeated-last tables s zero = refl
   repeated-last tables s (suc k) = repeated-last (laterTables tables) (first tables s) k
 
   -- how many there are
   abbrev pub number : (ℕ → Tables) → List Attempt → ℕ → State → ℕ
-  number tables attempts budget s = min (longOnes d attempts) (runFrom (d .n) (rowsIn d tables) budget s .steps)
+  number tables attempts budget s = min (longOnes d attempts) (runFrom (d .n) (rowsByStep d tables) budget s .steps)
 
   none : (tables : ℕ → Tables) (s : State) (k : ℕ) → k ≡ 0 → [] ≡ repeated tables s k
   unfolding repeated
@@ -110,15 +111,15 @@ module _ (d : Dimensions) where
       ≡ repeated (laterTables tables) (first tables s) (number (laterTables tables) more rest (first tables s)))
       → (c : Bool) → closed (first tables s) ≡ c
       → returned (d .n) (first tables s) ∷ cond c [] (repeats d (laterTables tables) rest (runOf (d .n) (first tables s)) more)
-      ≡ repeated tables s (min (suc (longOnes d more)) (runFrom (d .n) (rowsIn d tables) (suc rest) s .steps))
+      ≡ repeated tables s (min (suc (longOnes d more)) (runFrom (d .n) (rowsByStep d tables) (suc rest) s .steps))
   unfolding repeated
   repeat tables more rest s o h true e =
-      let rows = rowsIn d tables in
+      let rows = rowsByStep d tables in
       let k : min (suc (longOnes d more)) (runFrom (d .n) rows (suc rest) s .steps) ≡ 1 =
       omega (arith, steps-open (d .n) rows rest s o, steps-closed (d .n) (later rows) rest (first tables s) e) in
       ap (repeated tables s) (sym k)
   repeat tables more rest s o h false e =
-      let rows = rowsIn d tables in
+      let rows = rowsByStep d tables in
       let k : min (suc (longOnes d more)) (runFrom (d .n) rows (suc rest) s .steps) ≡ suc (number (laterTables tables) more rest (first tables s)) =
       omega (arith, steps-open (d .n) rows rest s o) in
       ap (λ (l : List Repeat). returned (d .n) (first tables s) ∷ l) (h (closed-open (first tables s .standing) e)) ∙ ap (repeated tables s) (sym k)
@@ -132,7 +133,8 @@ module _ (d : Dimensions) where
   repeats-are (a ∷ more) tables acc (suc rest) s w o =
       attempt-is d (tables 0) (acc 0) s w (λ next. repeats d tables (suc rest) next more) (λ next. repeats d (laterTables tables) rest next more) a
       ∙ go (repeats-are more tables acc (suc rest) s w o)
-      (λ h. repeats-are more (laterTables tables) (λ i. acc (suc i)) rest (first tables s) (step-well-formed (d .n) (rowsIn d tables 0) s w) h) (longEnough d a)
+      (λ h. repeats-are more (laterTables tables) (λ i. acc (suc i)) rest (first tables s)
+      (step-well-formed (d .n) (rowsByStep d tables 0) s w) h) (longEnough d a)
     where
       go : repeats d tables (suc rest) (runOf (d .n) s) more ≡ repeated tables s (number tables more (suc rest) s)
           → (first tables s .standing ≡ Open
@@ -140,6 +142,6 @@ module _ (d : Dimensions) where
           (number (laterTables tables) more rest (first tables s)))
           → (long : Bool) → comes d (tables 0) (acc 0) s w (λ next. repeats d tables (suc rest) next more)
           (λ next. repeats d (laterTables tables) rest next more) long
-          ≡ repeated tables s (min (cond long (suc (longOnes d more)) (longOnes d more)) (runFrom (d .n) (rowsIn d tables) (suc rest) s .steps))
+          ≡ repeated tables s (min (cond long (suc (longOnes d more)) (longOnes d more)) (runFrom (d .n) (rowsByStep d tables) (suc rest) s .steps))
       go same further true = repeat tables more rest s o further (closed (first tables s)) refl
       go same further false = same

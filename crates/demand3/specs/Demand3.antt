@@ -22,14 +22,14 @@ use Rattle.netlist.specs.Outputs.{CarriesOut}
 use Rattle.answers.specs.Printed.{answerText}
 use Rattle.bristol.specs.Text.{circuitText}
 use Rattle.bristol.specs.declared.Written.the-variants.{Past}
-use Rattle.bristol.specs.Writing.{lineAt, written, requested}
+use Rattle.bristol.specs.Writing.{lineAt, writtenLine, requested}
 use Rattle.repeats.specs.Repeats.{Accepts, Attempt, Repeat, returned, circuitWords, marks, lastRun, repeats, ended, longOnes}
 
 -- ---- history
 
 -- the rows at each step
-abbrev pub rowsIn : Dimensions → (ℕ → Tables) → ℕ → List Row
-rowsIn d tables = λ i. rowsOf d (tables i)
+abbrev pub rowsByStep : Dimensions → (ℕ → Tables) → ℕ → List Row
+rowsByStep d tables = λ i. rowsOf d (tables i)
 
 -- the attempts from the fresh run on
 abbrev pub historyOf : Dimensions → (ℕ → Tables) → ℕ → List Attempt → List Repeat
@@ -37,14 +37,14 @@ historyOf d tables budget attempts = repeats d tables budget (runOf (d .n) fresh
 
 -- repeat i, of at most the budget, returned the state after i + 1 giant steps
 pub record Follows (d : Dimensions) (tables : ℕ → Tables) (budget : ℕ) (h : List Repeat) : Type 0 where
-  pub each : (i : ℕ) (none : Repeat) → i < length h → getD h i none ≡ returned (d .n) (after (d .n) (rowsIn d tables) (suc i) fresh)
+  pub each : (i : ℕ) (none : Repeat) → i < length h → getD h i none ≡ returned (d .n) (after (d .n) (rowsByStep d tables) (suc i) fresh)
   pub most : length h ≤ budget
 
 -- ---- end
 
 -- the budgeted run's answer
 abbrev pub answerFor : Dimensions → (ℕ → Tables) → ℕ → Answer
-answerFor d tables budget = answerOf (d .n) (rowsIn d tables) budget
+answerFor d tables budget = answerOf (d .n) (rowsByStep d tables) budget
 
 -- the answer that repeats give: how many marks there are, and the verdict and model of the last one's run
 abbrev pub answerIn : ℕ → List Repeat → Answer
@@ -53,8 +53,8 @@ answerIn n h = let last = lastRun (runOf n fresh) h in record { count = length (
 -- ---- secrecy
 
 -- the circuit's text
-abbrev pub textOf : Dimensions → List ℕ
-textOf d = circuitText d (gatesOf (circuitWords d))
+abbrev pub circuitTextOf : Dimensions → List ℕ
+circuitTextOf d = circuitText d (gatesOf (circuitWords d))
 
 -- the public rows at each step
 abbrev pub publicIn : Dimensions → (ℕ → Tables) → ℕ → List Row
@@ -67,7 +67,7 @@ Seen = List ℕ × ℕ × List Bool × List ℕ × (ℕ → List Row)
 -- what is seen of the repeats, the answer being the one that they give; the public rows too, since everybody knows them
 abbrev pub seen : Dimensions → (ℕ → Tables) → ℕ → List Attempt → Seen
 seen d tables budget attempts =
-    let h = historyOf d tables budget attempts in (textOf d, length h, marks h, answerText (min (d .n) 32) (answerIn (d .n) h), publicIn d tables)
+    let h = historyOf d tables budget attempts in (circuitTextOf d, length h, marks h, answerText (min (d .n) 32) (answerIn (d .n) h), publicIn d tables)
 
 -- ---- the demand
 
@@ -93,7 +93,7 @@ pub record Demand3 (d : Dimensions) : Type 0 where
   -- the writer, asked for line 0, 1, 2, … with room for each, puts lines that joined are the text, and says then that it has no more
   pub text : outcome (sizeChecks d) ≡ Taken
       → (lent : ℕ → List ℕ) → ((i : ℕ) → length (lineAt d (circuitWords d) i) ≤ length (lent i)) → (k : ℕ) → 4 + length (gatesOn d) ≤ k
-      → (requested d (circuitWords d) lent 0 k ≡ textOf d) × (written d (circuitWords d) k (lent k) ≡ Past)
+      → (requested d (circuitWords d) lent 0 k ≡ circuitTextOf d) × (writtenLine d (circuitWords d) k (lent k) ≡ Past)
   -- two pairs of tables with the same public rows, wherever their replacements fell, under one budget that agree in verdict, model and
   -- count,
   -- each with attempts of its own

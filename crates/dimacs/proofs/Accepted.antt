@@ -20,8 +20,8 @@ use Rattle.refusals.proofs.Outcomes.{refused-taken, check-passed}
 use Rattle.dimensions.specs.Sizes.{mostVariables, mostRows}
 use Rattle.header.specs.Header.{headerOf}
 use Rattle.header.proofs.Limits.{header-either}
-use Rattle.clauses.specs.Rows.{wordsOf}
-use Rattle.clauses.specs.Clauses.{Reading, clause, ended, unreadable, clauses, rowsOf, complete}
+use Rattle.clauses.specs.Rows.{rowWords}
+use Rattle.clauses.specs.Clauses.{Reading, clause, ended, unreadable, clauses, clauseRows, complete}
 use Rattle.clauses.proofs.Literals.{below, row-lt}
 use Rattle.clauses.proofs.Reading.{belowAll, clauses-below}
 use Rattle.dimacs.specs.Text.{refused, bodyOf, fromHeader, tableOf}
@@ -33,7 +33,8 @@ use Rattle.dimacs.proofs.ThreeTexts.{given-taken, outcome-is, by-outcom
 
 -- ---- every row is below 2 ^ n
 
-rows-lt : (n : ℕ) (x : Reading) → belowAll n x ≡ true → (zs : List ℕ) → ((i : ℕ) → getD zs i 0 < 2 ^ n) → (i : ℕ) → getD (wordsOf (rowsOf x) ++ zs) i 0 < 2 ^ n
+rows-lt : (n : ℕ) (x : Reading) → belowAll n x ≡ true → (zs : List ℕ) → ((i : ℕ) → getD zs i 0 < 2 ^ n) → (i : ℕ)
+    → getD (rowWords (clauseRows x) ++ zs) i 0 < 2 ^ n
 rows-lt n (clause ls from to rest) e zs h zero = row-lt n false ls (and-l (below n ls) (belowAll n rest) e)
 rows-lt n (clause ls from to rest) e zs h (suc zero) = row-lt n true ls (and-l (below n ls) (belowAll n rest) e)
 rows-lt n (clause ls from to rest) e zs h (suc (suc i)) = rows-lt n rest (and-r (below n ls) (belowAll n rest) e) zs h i
@@ -64,15 +65,15 @@ refused-fine least r e = absurd (refused-taken e)
 
 body-fine : (least n m : ℕ) (ts : List Piece) → (1 ≤ n) × (n ≤ mostVariables) → (least ≤ m) × (m ≤ mostRows) → Fine least (bodyOf n m (clauses n ts))
 body-fine least n m ts hn hm =
-    on (complete (clauses n ts) && eqb (length (rowsOf (clauses n ts))) m)
-    (λ c. let k : length (rowsOf (clauses n ts)) ≡ m = eqb-true _ m (and-r (complete (clauses n ts)) _ c) in
+    on (complete (clauses n ts) && eqb (length (clauseRows (clauses n ts))) m)
+    (λ c. let k : length (clauseRows (clauses n ts)) ≡ m = eqb-true _ m (and-r (complete (clauses n ts)) _ c) in
     rw c (λ e. record {
       variables-low = hn .0;
       variables-high = hn .1;
       rows-low = omega (arith, hm .0);
       rows-high = omega (arith, hm .1);
-      sized = simp (length-append, length-replicate) (omega (arith, words-length (rowsOf (clauses n ts)), hm .1));
-      no-high-bit = let z = 256 - 2 * length (rowsOf (clauses n ts)) in rows-lt n (clauses n ts) (clauses-below n ts) (replicate z 0) (zeros-lt n z);
+      sized = simp (length-append, length-replicate) (omega (arith, words-length (clauseRows (clauses n ts)), hm .1));
+      no-high-bit = let z = 256 - 2 * length (clauseRows (clauses n ts)) in rows-lt n (clauses n ts) (clauses-below n ts) (replicate z 0) (zeros-lt n z);
     }))
     (λ c. rw c (refused-fine least R.Text))
 

@@ -19,7 +19,7 @@ use Rattle.refusals.specs.declared.Outcome.{Outcome}
 use Rattle.refusals.specs.declared.Outcome.the-variants.{Taken, Refused}
 use Rattle.header.specs.Header.{headerOf}
 use Rattle.header.proofs.Limits.{header-either}
-use Rattle.clauses.specs.Clauses.{Reading, clauses, rowsOf, complete}
+use Rattle.clauses.specs.Clauses.{Reading, clauses, clauseRows, complete}
 use Rattle.dimacs.specs.Text.{bodyOf, fromHeader, tableOf}
 use Rattle.dimacs.specs.ThreeTexts.{textsOutcome, textTables}
 use Rattle.dimacs.specs.declared.Table.{Table}
@@ -30,7 +30,7 @@ abbrev pub oneOf : ℕ → ℕ
 oneOf k = digit (eqb k 0) + digit (eqb k 1) + digit (eqb k 2) + digit (eqb k 5)
 
 body-ending : (n m : ℕ) (x : Reading) → oneOf (codeOf (bodyOf n m x .outcome)) ≡ 1
-body-ending n m x = on (complete x && eqb (length (rowsOf x)) m) (λ c. rw c) (λ c. rw c)
+body-ending n m x = on (complete x && eqb (length (clauseRows x)) m) (λ c. rw c) (λ c. rw c)
 
 header-ending : (least : ℕ) (text : List ℕ) (end : ℕ) → oneOf (codeOf (fromHeader text end (headerOf least text .sizes) .outcome)) ≡ 1
 header-ending least text end =

@@ -9,8 +9,8 @@ use Rattle.words.specs.Sameness.{same}
 use Rattle.lexer.specs.Spelling.{bytes}
 use Rattle.lexer.specs.Bytes.{run, trimmed}
 use Rattle.lexer.specs.Remarks.{linesOf, kept, withoutRemarks}
-use Rattle.lexer.specs.Pieces.{cut, filled, partsFrom}
-use Rattle.numbers.specs.Numbers.{digitsAfter, decimalOf, numberOf}
+use Rattle.lexer.specs.Pieces.{cut, notEmpty, partsFrom}
+use Rattle.numbers.specs.Numbers.{digitsAfter, decimalOf, numberRead}
 use Rattle.refusals.specs.Numbers.{codeOf}
 use Rattle.header.specs.Header.{pastRemarks, headerOf}
 use Rattle.clauses.specs.Clauses.{clauses}
@@ -18,7 +18,7 @@ use Rattle.dimacs.specs.Text.{tableOf}
 
 -- the outcome, n, the row count and the first four words of a text with the least row count that it may have
 meaningOf : ℕ → String → List ℕ
-unfolding tableOf withoutRemarks linesOf kept headerOf pastRemarks partsFrom cut filled run trimmed same clauses numberOf decimalOf digitsAfter put
+unfolding tableOf withoutRemarks linesOf kept headerOf pastRemarks partsFrom cut notEmpty run trimmed same clauses numberRead decimalOf digitsAfter put
 meaningOf least s = let t = tableOf least (bytes s) in codeOf (t .outcome) ∷ (t .n ∷ (t .rows ∷ take 4 (t .words)))
 
 -- of a station's text

@@ -12,8 +12,8 @@ use types.Run.{OneOf}
 use denote.Enum.Declared.{tagOf}
 use Rattle.refusals.specs.declared.Refusal.the-variants.{Text}
 use Rattle.refusals.specs.declared.Outcome.the-variants.{Taken}
-use Rattle.clauses.specs.Rows.{wordsOf}
-use Rattle.clauses.specs.Clauses.{Reading, clause, ended, unreadable, rowsOf, complete}
+use Rattle.clauses.specs.Rows.{rowWords}
+use Rattle.clauses.specs.Clauses.{Reading, clause, ended, unreadable, clauseRows, complete}
 use Rattle.dimacs.specs.Text.{refused, bodyOf}
 use Rattle.clauses.specs.First.{clausesFrom, first}
 use Rattle.clauses.specs.declared.Row.{Row}
@@ -56,9 +56,9 @@ is-ended unreadable h = absurd (let z : _≡_ {A = ℕ} 0 1 = cc in omega arith)
 -- ---- words
 
 words-more : (w : List ℕ) (k : ℕ) (r : Row) (rs : List Row)
-    → sets w (2 * k) (wordsOf (r ∷ rs)) ≡ sets (set (set w (2 * k) (r .positive)) (2 * k + 1) (r .negative)) (2 * (k + 1)) (wordsOf rs)
+    → sets w (2 * k) (rowWords (r ∷ rs)) ≡ sets (set (set w (2 * k) (r .positive)) (2 * k + 1) (r .negative)) (2 * (k + 1)) (rowWords rs)
 words-more w k r rs =
-    ap₂ (λ (i j : ℕ). sets (set (set w (2 * k) (r .positive)) i (r .negative)) j (wordsOf rs)) (omega arith) (omega arith)
+    ap₂ (λ (i j : ℕ). sets (set (set w (2 * k) (r .positive)) i (r .negative)) j (rowWords rs)) (omega arith) (omega arith)
 
 zeros : ℕ → List ℕ
 zeros n = replicate n 0
@@ -69,18 +69,18 @@ drop-zeros n zero = let q : n ≡ n - 0 = omega arith in ap zeros q
 drop-zeros zero (suc k) = let q : 0 ≡ 0 - suc k = omega arith in ap zeros q
 drop-zeros (suc n) (suc k) = let q : n - k ≡ suc n - suc k = omega arith in drop-zeros n k ∙ ap zeros q
 
-pub words-length : (rs : List Row) → length (wordsOf rs) ≡ 2 * length rs
+pub words-length : (rs : List Row) → length (rowWords rs) ≡ 2 * length rs
 words-length [] = refl
 words-length (r ∷ rs) = omega (arith, words-length rs)
 
-words-all : (z : ℕ) (rs : List Row) → 2 * length rs ≤ z → sets (replicate z 0) 0 (wordsOf rs) ≡ wordsOf rs ++ replicate (z - 2 * length rs) 0
+words-all : (z : ℕ) (rs : List Row) → 2 * length rs ≤ z → sets (replicate z 0) 0 (rowWords rs) ≡ rowWords rs ++ replicate (z - 2 * length rs) 0
 unfolding zeros
 words-all z rs h =
-    sets-eq (wordsOf rs) (zeros z) 0 (omega (arith, words-length rs, length-replicate {A = ℕ} z 0))
-    ∙ ap (λ (l : List ℕ). wordsOf rs ++ l) (drop-zeros z (0 + length (wordsOf rs))
-    ∙ (let q : z - (0 + length (wordsOf rs)) ≡ z - 2 * length rs = omega (arith, words-length rs) in ap zeros q))
+    sets-eq (rowWords rs) (zeros z) 0 (omega (arith, words-length rs, length-replicate {A = ℕ} z 0))
+    ∙ ap (λ (l : List ℕ). rowWords rs ++ l) (drop-zeros z (0 + length (rowWords rs))
+    ∙ (let q : z - (0 + length (rowWords rs)) ≡ z - 2 * length rs = omega (arith, words-length rs) in ap zeros q))
 
-counts-length : (m : ℕ) (x : Reading) → counts m x ≡ true → length (rowsOf x) ≡ m
+counts-length : (m : ℕ) (x : Reading) → counts m x ≡ true → length (clauseRows x) ≡ m
 counts-length zero (clause ls s e rest) h = absurd (false≢true h)
 counts-length zero ended h = refl
 counts-length zero unreadable h = absurd (false≢true h)
@@ -89,7 +89,7 @@ counts-length (suc m) ended h = absurd (false≢true h)
 counts-length (suc m) unreadable h = absurd (false≢true h)
 
 -- counting the clauses one by one
-counts-is : (m : ℕ) (x : Reading) → complete x && eqb (length (rowsOf x)) m ≡ counts m x
+counts-is : (m : ℕ) (x : Reading) → complete x && eqb (length (clauseRows x)) m ≡ counts m x
 counts-is zero (clause ls s e rest) = rw eqb·suc-zero (and-false (complete rest))
 counts-is zero ended = refl
 counts-is zero unreadable = refl
@@ -104,7 +104,7 @@ pub record Filling (n m : ℕ) (text : List ℕ) (start : ℕ) (words : List ℕ
   pub low : k ≤ m
   pub sized : length words ≡ 256
   pub counted : counts (m - k) (clausesFrom n text at) ≡ counts m (clausesFrom n text start)
-  pub filled : sets words (2 * k) (wordsOf (rowsOf (clausesFrom n text at))) ≡ sets (replicate 256 0) 0 (wordsOf (rowsOf (clausesFrom n text start)))
+  pub filled : sets words (2 * k) (rowWords (clauseRows (clausesFrom n text at))) ≡ sets (replicate 256 0) 0 (rowWords (clauseRows (clausesFrom n text start)))
 
 pub empty : (n m : ℕ) (text : List ℕ) (start : ℕ) → Filling n m text start (replicate 256 0) start 0
 empty n m text start =
@@ -122,9 +122,9 @@ module _ {n m : ℕ} {text : List ℕ} {start : ℕ} {words : List ℕ} {at k : 
         low = omega arith;
         sized = simp length-set (F .sized);
         counted = sym (ap (counts (m - k)) (x .1) ∙ ap (λ (i : ℕ). counts i (clause (x .0) s e rest)) left) ∙ F .counted;
-        filled = sym (words-more words k r (rowsOf rest))
-            ∙ sym (ap (λ (y : Row). sets words (2 * k) (wordsOf (y ∷ rowsOf rest))) (x .2))
-            ∙ sym (ap (λ (y : Reading). sets words (2 * k) (wordsOf (rowsOf y))) (x .1)) ∙ F .filled;
+        filled = sym (words-more words k r (clauseRows rest))
+            ∙ sym (ap (λ (y : Row). sets words (2 * k) (rowWords (y ∷ clauseRows rest))) (x .2))
+            ∙ sym (ap (λ (y : Reading). sets words (2 * k) (rowWords (clauseRows y))) (x .1)) ∙ F .filled;
       }
 
   -- a clause that is missing or cannot be read
@@ -148,9 +148,9 @@ module _ {n m : ℕ} {text : List ℕ} {start : ℕ} {words : List ℕ} {at k : 
         let x = clausesFrom n text start in
         let last = is-ended (clausesFrom n text at) e in
         let all : counts m x ≡ true = sym none-left ∙ ap (counts 0) last in
-        let rows : length (rowsOf x) ≡ m = counts-length m x all in
-        let fill : words ≡ sets (replicate 256 0) 0 (wordsOf (rowsOf x)) =
-        sym (ap (λ (y : Reading). sets words (2 * k) (wordsOf (rowsOf y))) last) ∙ F .filled in
+        let rows : length (clauseRows x) ≡ m = counts-length m x all in
+        let fill : words ≡ sets (replicate 256 0) 0 (rowWords (clauseRows x)) =
+        sym (ap (λ (y : Reading). sets words (2 * k) (rowWords (clauseRows y))) last) ∙ F .filled in
         rw (counts-is m x ∙ all)
         (ap₂ (λ (i : ℕ) (l : List ℕ). record { outcome = Taken; n = n; rows = i; words = l }) (sym rows)
-        (fill ∙ words-all 256 (rowsOf x) (omega arith)))
+        (fill ∙ words-all 256 (clauseRows x) (omega arith)))

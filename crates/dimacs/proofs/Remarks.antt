@@ -7,7 +7,7 @@ use lib.Dec.{eqb}
 use lib.ListN.{length, drop}
 use Rattle.lexer.specs.Bytes.{isSeparator}
 use Rattle.lexer.specs.Remarks.{withoutRemarks}
-use Rattle.lexer.specs.Pieces.{Piece, cut, filled, partsFrom, tokensFrom}
+use Rattle.lexer.specs.Pieces.{Piece, cut, notEmpty, partsFrom, tokensFrom}
 use Rattle.lexer.specs.Blanks.{tokensPast}
 use Rattle.lexer.proofs.Kept.{bytesOf, same-tokens}
 use Rattle.refusals.specs.declared.Refusal.the-variants.{Text}
@@ -19,7 +19,7 @@ use Rattle.clauses.specs.declared.Row.{Row}
 use Rattle.clauses.specs.Clauses.{clauses}
 use Rattle.clauses.specs.First.{clausesFrom}
 use Rattle.clauses.proofs.Unplaced.{rows-same, complete-same}
-use Rattle.dimacs.specs.Text.{refused, accepted, bodyOf, fromHeader, plainTable}
+use Rattle.dimacs.specs.Text.{refused, acceptedTable, bodyOf, fromHeader, plainTable}
 use Rattle.dimacs.specs.declared.Table.{Table}
 
 -- what a header leads to, its clauses read in the text as it stands
@@ -30,7 +30,7 @@ standing text end (S.Of n m) = bodyOf n m (clausesFrom n text end)
 -- tokens of the same bytes have the same table
 same-body : (n m : ℕ) (ts us : List Piece) → bytesOf ts ≡ bytesOf us → bodyOf n m (clauses n ts) ≡ bodyOf n m (clauses n us)
 same-body n m ts us e =
-    ap₂ (λ (c : Bool) (rs : List Row). cond (c && eqb (length rs) m) (accepted n rs) (refused Text)) (complete-same n ts us e) (rows-same n ts us e)
+    ap₂ (λ (c : Bool) (rs : List Row). cond (c && eqb (length rs) m) (acceptedTable n rs) (refused Text)) (complete-same n ts us e) (rows-same n ts us e)
 
 module _ (least : ℕ) (text : List ℕ) where
   tokens-same : bytesOf (tokensFrom (withoutRemarks text) (headerOf least (withoutRemarks text) .end)) ≡ bytesOf (tokensPast text (headerOf least text .end))
@@ -38,7 +38,7 @@ module _ (least : ℕ) (text : List ℕ) where
   tokens-same =
       let i = headerOf least (withoutRemarks text) .end in
       let end = headerOf least text .end in
-      ap (λ (l : List ℕ). bytesOf (filled (cut isSeparator i l))) (header-same least text .rest) ∙ same-tokens end i (drop end text)
+      ap (λ (l : List ℕ). bytesOf (notEmpty (cut isSeparator i l))) (header-same least text .rest) ∙ same-tokens end i (drop end text)
 
   by-sizes : (x : Sizes) → fromHeader (withoutRemarks text) (headerOf least (withoutRemarks text) .end) x ≡ standing text (headerOf least text .end) x
   by-sizes (S.Refused r) = refl

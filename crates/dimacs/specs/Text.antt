@@ -14,8 +14,8 @@ use Rattle.header.specs.declared.Sizes.{Sizes}
 use Rattle.header.specs.declared.Sizes.the-variants as S
 use Rattle.header.specs.Header.{headerOf}
 use Rattle.clauses.specs.declared.Row.{Row}
-use Rattle.clauses.specs.Rows.{wordsOf}
-use Rattle.clauses.specs.Clauses.{Reading, clauses, rowsOf, complete}
+use Rattle.clauses.specs.Rows.{rowWords}
+use Rattle.clauses.specs.Clauses.{Reading, clauses, clauseRows, complete}
 use Rattle.dimacs.specs.declared.Table.{Table}
 
 -- a refusal has no n and no rows
@@ -23,12 +23,12 @@ abbrev pub refused : Refusal → Table
 refused r = record { outcome = Refused r; n = 0; rows = 0; words = replicate 256 0 }
 
 -- a table of rows; the words past them are zero
-abbrev pub accepted : ℕ → List Row → Table
-accepted n rs = record { outcome = Taken; n = n; rows = length rs; words = wordsOf rs ++ replicate (256 - 2 * length rs) 0 }
+abbrev pub acceptedTable : ℕ → List Row → Table
+acceptedTable n rs = record { outcome = Taken; n = n; rows = length rs; words = rowWords rs ++ replicate (256 - 2 * length rs) 0 }
 
 -- exactly m clauses that can all be read
 abbrev pub bodyOf : ℕ → ℕ → Reading → Table
-bodyOf n m reading = cond (complete reading && eqb (length (rowsOf reading)) m) (accepted n (rowsOf reading)) (refused Text)
+bodyOf n m reading = cond (complete reading && eqb (length (clauseRows reading)) m) (acceptedTable n (clauseRows reading)) (refused Text)
 
 -- what a header leads to: its refusal, or the clauses behind its line
 abbrev pub fromHeader : List ℕ → ℕ → Sizes → Table

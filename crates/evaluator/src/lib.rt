@@ -9,15 +9,15 @@ ghost use lib.ListN.{length, take};
 ghost use Rattle.refusals.specs.Checks.{outcome};
 ghost use Rattle.gates.specs.Gates.{wiresOf};
 ghost use Rattle.gates.specs.Memory as Memory;
-ghost use Rattle.two_pass.specs.Evaluation.{checks, filled};
+ghost use Rattle.two_pass.specs.Evaluation.{evaluationChecks, filledWires};
 ghost use Rattle.evaluator.specs.Held.{held, plain};
 use refusals::Outcome;
 use refusals::Refusal;
 
 // Fills the front of the wires with the inputs and then each gate's value; later bytes stay as they are. Refused, it changes no byte.
 pub fn evaluate(gates: &[u32], inputs: &[u8], wires: &mut [u8]) -> Outcome
-    ensures { λ r. ⌜ r ≡ outcome (checks (now (gates .entry)) (now (inputs .entry)) (now (wires .entry))) ⌝ }
-    ensures { λ _. ⌜ now (wires .exit) ≡ filled (now (gates .entry)) (now (inputs .entry)) (now (wires .entry)) ⌝ }
+    ensures { λ r. ⌜ r ≡ outcome (evaluationChecks (now (gates .entry)) (now (inputs .entry)) (now (wires .entry))) ⌝ }
+    ensures { λ _. ⌜ now (wires .exit) ≡ filledWires (now (gates .entry)) (now (inputs .entry)) (now (wires .entry)) ⌝ }
 {
     let end = inputs.len() + gates.len() / 3;
     // Few wires do not repay a trial's array. The giant step's largest circuit has 217,129 without public rows and 317,481 with them:
@@ -35,8 +35,8 @@ pub fn evaluate(gates: &[u32], inputs: &[u8], wires: &mut [u8]) -> Outcome
 fn try_out(gates: &[u32], inputs: &[u8], wires: &mut [u8]) -> Outcome
     requires { ⌜ length (now inputs) + length (now gates) / 3 ≤ 221184 ⌝ }
     requires { ⌜ Memory.bits (now inputs) ≡ true ⌝ }
-    ensures { λ r. ⌜ r ≡ outcome (checks (now (gates .entry)) (now (inputs .entry)) (now (wires .entry))) ⌝ }
-    ensures { λ _. ⌜ now (wires .exit) ≡ filled (now (gates .entry)) (now (inputs .entry)) (now (wires .entry)) ⌝ }
+    ensures { λ r. ⌜ r ≡ outcome (evaluationChecks (now (gates .entry)) (now (inputs .entry)) (now (wires .entry))) ⌝ }
+    ensures { λ _. ⌜ now (wires .exit) ≡ filledWires (now (gates .entry)) (now (inputs .entry)) (now (wires .entry)) ⌝ }
 {
     let mut own = [0u8; 221184];
     try_in(gates, inputs, &mut own, wires)
@@ -46,8 +46,8 @@ fn try_out(gates: &[u32], inputs: &[u8], wires: &mut [u8]) -> Outcome
 fn try_out_large(gates: &[u32], inputs: &[u8], wires: &mut [u8]) -> Outcome
     requires { ⌜ length (now inputs) + length (now gates) / 3 ≤ 319488 ⌝ }
     requires { ⌜ Memory.bits (now inputs) ≡ true ⌝ }
-    ensures { λ r. ⌜ r ≡ outcome (checks (now (gates .entry)) (now (inputs .entry)) (now (wires .entry))) ⌝ }
-    ensures { λ _. ⌜ now (wires .exit) ≡ filled (now (gates .entry)) (now (inputs .entry)) (now (wires .entry)) ⌝ }
+    ensures { λ r. ⌜ r ≡ outcome (evaluationChecks (now (gates .entry)) (now (inputs .entry)) (now (wires .entry))) ⌝ }
+    ensures { λ _. ⌜ now (wires .exit) ≡ filledWires (now (gates .entry)) (now (inputs .entry)) (now (wires .entry)) ⌝ }
 {
     let mut own = [0u8; 319488];
     try_in(gates, inputs, &mut own, wires)
@@ -57,8 +57,8 @@ fn try_out_large(gates: &[u32], inputs: &[u8], wires: &mut [u8]) -> Outcome
 fn try_in(gates: &[u32], inputs: &[u8], scratch: &mut [u8], wires: &mut [u8]) -> Outcome
     requires { ⌜ length (now inputs) + length (now gates) / 3 ≤ length (now scratch) ⌝ }
     requires { ⌜ Memory.bits (now inputs) ≡ true ⌝ }
-    ensures { λ r. ⌜ r ≡ outcome (checks (now (gates .entry)) (now (inputs .entry)) (now (wires .entry))) ⌝ }
-    ensures { λ _. ⌜ now (wires .exit) ≡ filled (now (gates .entry)) (now (inputs .entry)) (now (wires .entry)) ⌝ }
+    ensures { λ r. ⌜ r ≡ outcome (evaluationChecks (now (gates .entry)) (now (inputs .entry)) (now (wires .entry))) ⌝ }
+    ensures { λ _. ⌜ now (wires .exit) ≡ filledWires (now (gates .entry)) (now (inputs .entry)) (now (wires .entry)) ⌝ }
 {
     let n = inputs.len();
     let count = n + gates.len() / 3;

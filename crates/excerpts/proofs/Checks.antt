@@ -19,12 +19,12 @@ use Rattle.tables.specs.Acceptance.{tableChecks}
 use Rattle.tables.proofs.Accepted.{Accepted, accepted}
 use Rattle.dimacs.specs.declared.Table.{Table}
 use Rattle.dimacs.specs.Text.{tableOf}
-use Rattle.excerpts.specs.Excerpts.{readChecks, ofSizes, hasClause, textChecks, excerptChecks}
+use Rattle.excerpts.specs.Excerpts.{outcomeChecks, ofSizes, hasClause, textChecks, excerptChecks}
 
 -- ---- two texts
 
 -- a text's check is its refusal
-read-outcome : (t : Table) → outcome (readChecks t) ≡ t .outcome
+read-outcome : (t : Table) → outcome (outcomeChecks t) ≡ t .outcome
 read-outcome t = go (t .outcome)
   where
     go : (o : Outcome) → outcome (given o [] (λ r. check true r ∷ [])) ≡ o
@@ -37,18 +37,18 @@ module _ (d : Dimensions) (l r : Table) (number : ℕ) where
   last = check (not (eqb (l .n) (r .n))) TextsDiffer ∷ check (not (hasClause d l r number)) NoClause ∷ []
 
   pub left-refused : (q : Refusal) → l .outcome ≡ Refused q → Refused q ≡ outcome (textChecks d l r number)
-  left-refused q e = sym (outcome-refused (readChecks l) (readChecks r ++ last) q (read-outcome l ∙ e))
+  left-refused q e = sym (outcome-refused (outcomeChecks l) (outcomeChecks r ++ last) q (read-outcome l ∙ e))
 
   module _ (left-taken : l .outcome ≡ Taken) where
-    after-left : outcome (textChecks d l r number) ≡ outcome (readChecks r ++ last)
-    after-left = outcome-taken (readChecks l) (readChecks r ++ last) (read-outcome l ∙ left-taken)
+    after-left : outcome (textChecks d l r number) ≡ outcome (outcomeChecks r ++ last)
+    after-left = outcome-taken (outcomeChecks l) (outcomeChecks r ++ last) (read-outcome l ∙ left-taken)
 
     pub right-refused : (q : Refusal) → r .outcome ≡ Refused q → Refused q ≡ outcome (textChecks d l r number)
-    right-refused q e = sym (after-left ∙ outcome-refused (readChecks r) last q (read-outcome r ∙ e))
+    right-refused q e = sym (after-left ∙ outcome-refused (outcomeChecks r) last q (read-outcome r ∙ e))
 
     module _ (right-taken : r .outcome ≡ Taken) where
       after-right : outcome (textChecks d l r number) ≡ outcome last
-      after-right = after-left ∙ outcome-taken (readChecks r) last (read-outcome r ∙ right-taken)
+      after-right = after-left ∙ outcome-taken (outcomeChecks r) last (read-outcome r ∙ right-taken)
 
       pub differ : (l .n ≡ r .n → ⊥) → Refused TextsDiffer ≡ outcome (textChecks d l r number)
       differ h = sym (after-right ∙ rw (ne-eqb (l .n) (r .n) h))
@@ -62,7 +62,7 @@ module _ (d : Dimensions) (l r : Table) (number : ℕ) where
 
   has-clause : outcome (textChecks d l r number) ≡ Taken → hasClause d l r number ≡ true
   has-clause e =
-      let both = outcome-parts (readChecks r) last (outcome-parts (readChecks l) (readChecks r ++ last) e .1) .1 in
+      let both = outcome-parts (outcomeChecks r) last (outcome-parts (outcomeChecks l) (outcomeChecks r ++ last) e .1) .1 in
       not-false (hasClause d l r number)
       (check-passed (not (hasClause d l r number)) NoClause Taken (checks-taken (not (eqb (l .n) (r .n))) TextsDiffer _ both))
 

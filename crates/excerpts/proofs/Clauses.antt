@@ -16,13 +16,13 @@ use Rattle.lexer.specs.Pieces.{Piece, behind}
 use Rattle.lexer.specs.Places.{part, firstOf}
 use Rattle.lexer.specs.Blanks.{tokensPast}
 use Rattle.lexer.proofs.Tokens.{found}
-use Rattle.numbers.specs.Numbers.{Number, number, malformed, numberOf}
+use Rattle.numbers.specs.Numbers.{Number, number, malformed, numberRead}
 use Rattle.header.specs.declared.Sizes.{Sizes}
 use Rattle.header.specs.declared.Sizes.the-variants as sizes
 use Rattle.header.specs.declared.Header.{Header}
 use Rattle.header.specs.Header.{headerOf}
 use Rattle.clauses.specs.Rows.{Literal, rowOf}
-use Rattle.clauses.specs.Clauses.{Reading, clause, ended, unreadable, joined, before, clauses}
+use Rattle.clauses.specs.Clauses.{Reading, clause, ended, unreadable, joinedLiteral, before, clauses}
 use Rattle.clauses.specs.First.{clausesFrom, emptyRow, withLiterals, first}
 use Rattle.clauses.specs.declared.Row.{Row}
 use Rattle.clauses.specs.declared.Clause.{Clause}
@@ -47,7 +47,7 @@ module _ (n : ℕ) (text : List ℕ) where
   earlier i j ended h l = tt
   earlier i j unreadable h l = tt
 
-  joined-lies : (i : ℕ) (l : Literal) (at : ℕ) (x : Reading) → i ≤ at → LiesFrom text at x → LiesFrom text i (joined l at x)
+  joined-lies : (i : ℕ) (l : Literal) (at : ℕ) (x : Reading) → i ≤ at → LiesFrom text at x → LiesFrom text i (joinedLiteral l at x)
   joined-lies i l at (clause ls from to rest) h k = (h, omega (arith, k .0, k .1), k .2, k .3)
   joined-lies i l at ended h k = tt
   joined-lies i l at unreadable h k = tt
@@ -68,7 +68,7 @@ module _ (n : ℕ) (text : List ℕ) where
       let F = found text i (t .at) (behind t) (sym (ap firstOf h)) in
       let both : t ∷ ts ≡ record { at = t .at; bytes = part (t .at) (behind t) text } ∷ tokensPast text (behind t) = h ∙ F .pieces in
       let tail : ts ≡ tokensPast text (behind t) = cc both in
-      before-lies i t (numberOf (t .bytes)) (clauses n ts) (F .past) (F .filled) (F .within) (clauses-lie ts (behind t) tail)
+      before-lies i t (numberRead (t .bytes)) (clauses n ts) (F .past) (F .filled) (F .within) (clauses-lie ts (behind t) tail)
 
 -- ---- clause k of a text
 

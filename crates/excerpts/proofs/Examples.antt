@@ -8,9 +8,9 @@ use Rattle.words.specs.Sameness.{same}
 use Rattle.lexer.specs.Spelling.{bytes}
 use Rattle.lexer.specs.Bytes.{run, trimmed}
 use Rattle.lexer.specs.Remarks.{linesOf, kept, withoutRemarks}
-use Rattle.lexer.specs.Pieces.{cut, filled, partsFrom}
+use Rattle.lexer.specs.Pieces.{cut, notEmpty, partsFrom}
 use Rattle.lexer.specs.Blanks.{blanked, tokensPast}
-use Rattle.numbers.specs.Numbers.{digitsAfter, decimalOf, numberOf}
+use Rattle.numbers.specs.Numbers.{digitsAfter, decimalOf, numberRead}
 use Rattle.header.specs.Header.{pastRemarks, headerOf}
 use Rattle.clauses.specs.Clauses.{clauses}
 use Rattle.dimacs.specs.Text.{tableOf}
@@ -44,14 +44,14 @@ tooShort = allTables (5 ∷ (2 ∷ (0 ∷ []))) (2 ∷ (0 ∷ [])) (1 ∷ (0 ∷
 
 -- the bytes of a row's clause
 excerpt : Tables → String → String → ℕ → List ℕ
-unfolding clauseBytes clauseOf skip tokensPast blanked tableOf withoutRemarks linesOf kept headerOf pastRemarks partsFrom cut filled run trimmed same clauses
-    numberOf decimalOf digitsAfter put allBelow
+unfolding clauseBytes clauseOf skip tokensPast blanked tableOf withoutRemarks linesOf kept headerOf pastRemarks partsFrom cut notEmpty run trimmed same clauses
+    numberRead decimalOf digitsAfter put allBelow
 excerpt t l r number = clauseBytes sizes t (bytes l) (bytes r) number
 
 -- what asking for its place says: 0, station, start and length, or the refusal
 place : Tables → String → String → ℕ → List ℕ
-unfolding placed clausePlace clauseOf skip tokensPast blanked tableOf withoutRemarks linesOf kept headerOf pastRemarks partsFrom cut filled run trimmed same
-    clauses numberOf decimalOf digitsAfter put allBelow
+unfolding placed clausePlace clauseOf skip tokensPast blanked tableOf withoutRemarks linesOf kept headerOf pastRemarks partsFrom cut notEmpty run trimmed same
+    clauses numberRead decimalOf digitsAfter put allBelow
 place t l r number = let p = placed sizes t (bytes l) (bytes r) number in placedCode p ∷ placedNumbers p
 
 -- ---- bytes and places

@@ -14,8 +14,8 @@ use Rattle.lexer.specs.Blanks.{tokensPast}
 use Rattle.header.specs.declared.Sizes.{Sizes}
 use Rattle.header.specs.declared.Sizes.the-variants as sizes
 use Rattle.header.specs.Header.{headerOf}
-use Rattle.clauses.specs.Rows.{rowOf, wordsOf}
-use Rattle.clauses.specs.Clauses.{Reading, clause, ended, unreadable, rowsOf, complete}
+use Rattle.clauses.specs.Rows.{rowOf, rowWords}
+use Rattle.clauses.specs.Clauses.{Reading, clause, ended, unreadable, clauseRows, complete}
 use Rattle.clauses.specs.First.{clausesFrom}
 use Rattle.dimacs.specs.declared.Table.{Table}
 use Rattle.dimacs.specs.Text.{tableOf}
@@ -38,15 +38,15 @@ next-row p q words k =
     ap₂ (λ (i j : ℕ). record { positive = getD (p ∷ (q ∷ words)) i 0; negative = getD (p ∷ (q ∷ words)) j 0 }) a b
 
 -- clause k has row k of the clauses' rows
-clause-shown : (station : ℕ) (text zeros : List ℕ) (k i : ℕ) (x : Reading) → LiesFrom text i x → k < length (rowsOf x)
-    → Shown station (skip k x) (rowAt (wordsOf (rowsOf x) ++ zeros) k)
+clause-shown : (station : ℕ) (text zeros : List ℕ) (k i : ℕ) (x : Reading) → LiesFrom text i x → k < length (clauseRows x)
+    → Shown station (skip k x) (rowAt (rowWords (clauseRows x) ++ zeros) k)
 unfolding skip
 clause-shown station text zeros zero i (clause ls from to rest) l h =
     let p = rowOf ls .positive in
     let q = rowOf ls .negative in
     rw (eq-eqb p p refl, eq-eqb q q refl) (omega (arith, l .1))
 clause-shown station text zeros (suc k) i (clause ls from to rest) l h =
-    subst (Shown station (skip k rest)) (sym (next-row (rowOf ls .positive) (rowOf ls .negative) (wordsOf (rowsOf rest) ++ zeros) k))
+    subst (Shown station (skip k rest)) (sym (next-row (rowOf ls .positive) (rowOf ls .negative) (rowWords (clauseRows rest) ++ zeros) k))
     (clause-shown station text zeros k 0 rest (l .3) (omega arith))
 clause-shown station text zeros k i ended l h = absurd (omega arith)
 clause-shown station text zeros k i unreadable l h = absurd (omega arith)
@@ -62,8 +62,8 @@ module _ (station : ℕ) (text : List ℕ) (k : ℕ) where
   by-sizes (sizes.Of n m) =
       let end = headerOf 1 text .end in
       let x = clausesFrom n text end in
-      on (complete x && eqb (length (rowsOf x)) m)
-      (λ e. rw e (λ taken h. clause-shown station text (replicate (256 - 2 * length (rowsOf x)) 0) k end x
+      on (complete x && eqb (length (clauseRows x)) m)
+      (λ e. rw e (λ taken h. clause-shown station text (replicate (256 - 2 * length (clauseRows x)) 0) k end x
       (clauses-lie n text (tokensPast text end) end refl) h))
       (λ e. rw e (λ taken h. absurd (refused-taken taken)))
 

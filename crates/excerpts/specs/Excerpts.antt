@@ -29,8 +29,8 @@ use Rattle.excerpts.specs.declared.Placed.the-variants as placed′
 -- ---- when it is given
 
 -- what reading a text is refused with: 1, 2 or 5
-abbrev pub readChecks : Table → List Check
-readChecks t = given (t .outcome) [] (λ r. check true r ∷ [])
+abbrev pub outcomeChecks : Table → List Check
+outcomeChecks t = given (t .outcome) [] (λ r. check true r ∷ [])
 
 -- a text has these n and row count
 abbrev pub ofSizes : Table → ℕ → ℕ → Bool
@@ -44,7 +44,8 @@ hasClause d l r number =
 -- 1, 2, 5 of the left text, of the right text; 6 where they differ in n; 17
 abbrev pub textChecks : Dimensions → Table → Table → ℕ → List Check
 textChecks d l r number =
-    readChecks l ++ (readChecks r ++ (check (not (eqb (l .n) (r .n))) TextsDiffer ∷ check (not (hasClause d l r number)) NoClause ∷ []))
+    outcomeChecks l ++ (outcomeChecks r
+    ++ (check (not (eqb (l .n) (r .n))) TextsDiffer ∷ check (not (hasClause d l r number)) NoClause ∷ []))
 
 -- 1, 2, 4, 3 of the tables, then the texts'
 abbrev pub excerptChecks : Dimensions → Tables → List ℕ → List ℕ → ℕ → List Check

@@ -14,7 +14,7 @@ use Rattle.tables.specs.Tables.{Tables}
 use Rattle.tables.specs.Rows.{freeIn, rowsOf}
 use Rattle.tables.specs.Acceptance.{lowRow, tableChecks}
 use Rattle.tables.proofs.Accepted.{accepted}
-use Rattle.occurrences.specs.Index.{literal}
+use Rattle.occurrences.specs.Index.{holdsLiteral}
 use Rattle.state.specs.State.{State}
 use Rattle.scan.specs.declared.Rule.{Rule}
 use Rattle.scan.specs.declared.Rule.the-variants as rules
@@ -39,7 +39,7 @@ module _ (n k : ℕ) (wide : n ≤ k) (t f : ℕ) where
   shows-alike : (by : Rule) (r : Row) → lowRow n r ≡ true → shows k t f by r ≡ shows n t f by r
   shows-alike rules.AllSatisfied r low = refl
   shows-alike rules.Conflict r low = with-alike n k wide t f 0 r low
-  shows-alike (rules.Unit v positive) r low = ap (λ (b : Bool). (b && freeIn r t f v) && literal positive v r) (with-alike n k wide t f 1 r low)
+  shows-alike (rules.Unit v positive) r low = ap (λ (b : Bool). (b && freeIn r t f v) && holdsLiteral positive v r) (with-alike n k wide t f 1 r low)
   shows-alike (rules.Choice v) r low = refl
 
   row-alike : (by : Rule) (rows : List Row) → allRows (lowRow n) rows ≡ true → lowestRow (shows k t f by) rows ≡ lowestRow (shows n t f by) rows

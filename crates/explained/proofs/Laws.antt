@@ -11,7 +11,7 @@ use Rattle.words.specs.Sets.{bit}
 use Rattle.words.proofs.Truth.{and-r, and-i}
 use Rattle.tables.specs.declared.Row.{Row}
 use Rattle.tables.specs.Rows.{free, holds}
-use Rattle.occurrences.specs.Index.{literal}
+use Rattle.occurrences.specs.Index.{holdsLiteral}
 use Rattle.state.specs.declared.Level.{Level}
 use Rattle.state.specs.declared.Standing.{Standing}
 use Rattle.state.specs.declared.Standing.the-variants.{Open, Satisfied, Refuted}
@@ -66,7 +66,7 @@ module _ (n : ℕ) (rows : List Row) (s : State) where
 -- ---- the row named is there
 
 -- the one free literal's sign is the one taken
-held : (r : Row) (v : ℕ) (a positive : Bool) → a && holds r v ≡ true → positive ≡ bit (r .positive) v → literal positive v r ≡ true
+held : (r : Row) (v : ℕ) (a positive : Bool) → a && holds r v ≡ true → positive ≡ bit (r .positive) v → holdsLiteral positive v r ≡ true
 held r v a true h e = sym e
 held r v a false h e = ap (λ (b : Bool). b || bit (r .negative) v) e ∙ and-r a (holds r v) h
 

@@ -9,7 +9,7 @@ use Rattle.dimensions.specs.declared.Dimensions.{Dimensions}
 use Rattle.tables.specs.declared.Row.{Row}
 use Rattle.tables.specs.Tables.{Tables}
 use Rattle.tables.specs.Rows.{rowsOf}
-use Rattle.occurrences.specs.Index.{literal}
+use Rattle.occurrences.specs.Index.{holdsLiteral}
 use Rattle.state.specs.declared.Level.{Level}
 use Rattle.state.specs.declared.Run.{Run}
 use Rattle.state.specs.State.{State, stateOf, ifOpen}
@@ -36,7 +36,7 @@ lowestRow p rows = lowestFrom 1 p rows
 abbrev pub shows : ℕ → ℕ → ℕ → Rule → Row → Bool
 shows n t f rules.AllSatisfied r = false
 shows n t f rules.Conflict r = unsatisfiedWith 0 n t f r
-shows n t f (rules.Unit v positive) r = forces n t f v r && literal positive v r
+shows n t f (rules.Unit v positive) r = forces n t f v r && holdsLiteral positive v r
 shows n t f (rules.Choice v) r = false
 
 -- ---- what a step tells

@@ -6,14 +6,14 @@ ghost use mathlib.Core.Bool.{cond};
 ghost use mathlib.Core.List.{_++_};
 ghost use Prim.Native.Nat.{_≤_};
 ghost use lib.ListN.{length};
-ghost use Rattle.occurrences.specs.Index.{literal};
+ghost use Rattle.occurrences.specs.Index.{holdsLiteral};
 ghost use Rattle.scan.specs.Rules.{rowsIn};
 ghost use Rattle.explained.specs.Explanation as Explanation;
 ghost use Rattle.explained.specs.Search.{foundOr};
 
 // Whether the row holds the variable with this sign.
 fn holds(row: Row, variable: u32, positive: bool) -> bool
-    ensures { λ r. ⌜ r ≡ literal positive variable row ⌝ }
+    ensures { λ r. ⌜ r ≡ holdsLiteral positive variable row ⌝ }
 {
     if positive {
         return words::bit(row.positive, variable);

@@ -26,7 +26,7 @@ use Rattle.sections.specs.declared.Addresses.{Addresses}
 use Rattle.sections.specs.Addressing.{digitsFor, addresses, addressesOn}
 use Rattle.netlist.specs.Outputs.{CarriesOut}
 use Rattle.netlist.specs.Netlist.{circuit, gatesFor, gatesOn}
-use Rattle.generator.specs.Generation.{generatorChecks, generated, generatedCode, generatedNumbers, written, Carried}
+use Rattle.generator.specs.Generation.{generatorChecks, generated, generatedCode, generatedNumbers, writtenWords, Carried}
 use Rattle.netlist.proofs.EveryState.{gates-carry-out}
 use Rattle.netlist.proofs.Counts.{circuit-length}
 use Rattle.generator.proofs.Room.{gates-few}
@@ -40,9 +40,9 @@ module _ (d : Dimensions) (words : List ℕ) where
   bufferChecks = check (ltb (length words) (3 * ceiling d)) GateBuffer ∷ []
 
   -- what is given says its number and its values
-  pub with-said : (r : Generated) (w : List ℕ) → (r ≡ generated d words) × ((w ≡ written d words) × Carried d r w)
+  pub with-said : (r : Generated) (w : List ℕ) → (r ≡ generated d words) × ((w ≡ writtenWords d words) × Carried d r w)
       → (r ≡ generated d words)
-      × ((w ≡ written d words)
+      × ((w ≡ writtenWords d words)
       × (Carried d r w × (generatedCode r ∷ generatedNumbers r ≡ said (outcome (generatorChecks d words)) (length (gatesOn d) ∷ []))))
   with-said r w p =
       let says : Generated → List ℕ = λ x. generatedCode x ∷ generatedNumbers x in
@@ -50,14 +50,14 @@ module _ (d : Dimensions) (words : List ℕ) where
 
   -- what follows from the outcome
   by-outcome : (o : Outcome) → outcome (generatorChecks d words) ≡ o
-      → (given o (Of (length (gatesOn d))) Refused ≡ generated d words) × (given o (over (wordsOf (gatesOn d)) words) (λ r. words) ≡ written d words)
+      → (given o (Of (length (gatesOn d))) Refused ≡ generated d words) × (given o (over (wordsOf (gatesOn d)) words) (λ r. words) ≡ writtenWords d words)
   by-outcome o e = (
     ap (λ (x : Outcome). given x (Of (length (gatesOn d))) Refused) (sym e),
     ap (λ (x : Outcome). given x (over (wordsOf (gatesOn d)) words) (λ r. words)) (sym e),
   )
 
   pub refuse-size : (r : Refusal) → outcome (sizeChecks d) ≡ Not r
-      → (Refused r ≡ generated d words) × ((words ≡ written d words) × Carried d (Refused r) words)
+      → (Refused r ≡ generated d words) × ((words ≡ writtenWords d words) × Carried d (Refused r) words)
   unfolding bufferChecks
   refuse-size r e =
       let t = by-outcome (Not r) (outcome-refused (sizeChecks d) bufferChecks r e) in
@@ -65,7 +65,7 @@ module _ (d : Dimensions) (words : List ℕ) where
 
   module _ (e : outcome (sizeChecks d) ≡ Taken) where
     pub refuse-buffer : length words < 3 * ceiling d → (Refused GateBuffer ≡ generated d words)
-        × ((words ≡ written d words) × Carried d (Refused GateBuffer) words)
+        × ((words ≡ writtenWords d words) × Carried d (Refused GateBuffer) words)
     unfolding bufferChecks
     refuse-buffer h =
         let t = by-outcome (Not GateBuffer) (outcome-taken (sizeChecks d) bufferChecks e ∙ rw (lt-ltb _ _ h)) in
@@ -73,7 +73,7 @@ module _ (d : Dimensions) (words : List ℕ) where
 
     pub taken : 3 * ceiling d ≤ length words → (r : ℕ) (w : List ℕ) → r ≡ length (circuit (addressesOn d))
         → w ≡ sets words 0 (wordsOf (circuit (addressesOn d)))
-        → (Of r ≡ generated d words) × ((w ≡ written d words) × Carried d (Of r) w)
+        → (Of r ≡ generated d words) × ((w ≡ writtenWords d words) × Carried d (Of r) w)
     unfolding bufferChecks gatesFor
     taken h r w er ew =
         let g = circuit (addressesOn d) in

@@ -33,8 +33,8 @@ generatedNumbers (Of count) = count ∷ []
 generatedNumbers (Refused r) = []
 
 -- the words afterwards: the gates, then what stood there; refused, as they were
-abbrev pub written : Dimensions → List ℕ → List ℕ
-written d words = given (outcome (generatorChecks d words)) (over (wordsOf (gatesOn d)) words) (λ r. words)
+abbrev pub writtenWords : Dimensions → List ℕ → List ℕ
+writtenWords d words = given (outcome (generatorChecks d words)) (over (wordsOf (gatesOn d)) words) (λ r. words)
 
 -- where the call is taken, the words that it says it wrote carry out the giant step
 abbrev pub Carried : Dimensions → Generated → List ℕ → Type 0

@@ -22,7 +22,7 @@ ghost use Rattle.netlist.specs.Arrays.{rows};
 ghost use Rattle.netlist.specs.Netlist.{circuit, gatesOn};
 ghost use Rattle.generator.specs.Storing.{gatesAt};
 ghost use Rattle.generator.specs.Generation as Generation;
-ghost use Rattle.generator.specs.Generation.{generatorChecks, generatedCode, generatedNumbers, written, Carried};
+ghost use Rattle.generator.specs.Generation.{generatorChecks, generatedCode, generatedNumbers, writtenWords, Carried};
 
 // How many gates were written, or why none.
 pub enum Generated {
@@ -33,7 +33,7 @@ pub enum Generated {
 // Writes the circuit of these dimensions from the front of the words; later words stay as they are. Refused, it changes no word.
 pub fn generate(d: Dimensions, words: &mut [u32]) -> Generated
     ensures { λ r. ⌜ r ≡ Generation.generated d (now (words .entry)) ⌝ }
-    ensures { λ _. ⌜ now (words .exit) ≡ written d (now (words .entry)) ⌝ }
+    ensures { λ _. ⌜ now (words .exit) ≡ writtenWords d (now (words .entry)) ⌝ }
     ensures { λ r. ⌜ Carried d r (now (words .exit)) ⌝ }
     ensures { λ r.
         ⌜ generatedCode r ∷ generatedNumbers r ≡ said (Checks.outcome (generatorChecks d (now (words .entry))))

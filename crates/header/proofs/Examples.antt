@@ -6,8 +6,8 @@ use Prim.Native.String.{String}
 use Rattle.words.specs.Sameness.{same}
 use Rattle.lexer.specs.Spelling.{bytes}
 use Rattle.lexer.specs.Bytes.{run, trimmed}
-use Rattle.lexer.specs.Pieces.{cut, filled, partsFrom}
-use Rattle.numbers.specs.Numbers.{digitsAfter, decimalOf, numberOf}
+use Rattle.lexer.specs.Pieces.{cut, notEmpty, partsFrom}
+use Rattle.numbers.specs.Numbers.{digitsAfter, decimalOf, numberRead}
 use Rattle.refusals.specs.declared.Refusal.{Refusal}
 use Rattle.refusals.specs.declared.Refusal.the-variants.{Variables, RowCount, Text}
 use Rattle.header.specs.Header.{pastRemarks, headerOf, sizesSaid}
@@ -16,12 +16,12 @@ use Rattle.header.specs.declared.Sizes.the-variants.{Of, Refused}
 
 -- in a station's text
 header : String → Header
-unfolding headerOf pastRemarks partsFrom cut filled run trimmed same numberOf decimalOf digitsAfter
+unfolding headerOf pastRemarks partsFrom cut notEmpty run trimmed same numberRead decimalOf digitsAfter
 header s = headerOf 1 (bytes s)
 
 -- in that of the public rest rules
 publicHeader : String → Header
-unfolding headerOf pastRemarks partsFrom cut filled run trimmed same numberOf decimalOf digitsAfter
+unfolding headerOf pastRemarks partsFrom cut notEmpty run trimmed same numberRead decimalOf digitsAfter
 publicHeader s = headerOf 0 (bytes s)
 
 abbrev sizes : ℕ → ℕ → ℕ → Header

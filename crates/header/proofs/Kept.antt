@@ -14,7 +14,7 @@ use borrow.Author.Tests.{eqb-true, eqb-false, ltb-true, ltb-false}
 use Rattle.words.proofs.Truth.{on}
 use Rattle.lexer.specs.Bytes.{isLineFeed, run, trimmed}
 use Rattle.lexer.specs.Remarks.{withoutRemarks}
-use Rattle.lexer.specs.Pieces.{cut, filled, linesFrom, partsFrom}
+use Rattle.lexer.specs.Pieces.{cut, notEmpty, linesFrom, partsFrom}
 use Rattle.lexer.specs.Places.{runEnd, part}
 use Rattle.lexer.specs.Blanks.{start, line}
 use Rattle.lexer.proofs.Runs.{end-ge}
@@ -104,7 +104,7 @@ module _ (least : ℕ) (text : List ℕ) where
 
   -- a text of remarks alone
   none : NoLine text 0 → Same
-  unfolding headerOf pastRemarks cut trimmed run partsFrom filled keptFrom
+  unfolding headerOf pastRemarks cut trimmed run partsFrom notEmpty keptFrom
   none (e, k) =
       same [] (record { sizes = Refused Text; end = 0 }) (record { sizes = Refused Text; end = length text })
       (kept-is text ∙ k) refl (ap (headed least text) e) refl (sym (rw (drop-of-length-le {A = ℕ} text {i = length text} (omega arith))))

@@ -11,7 +11,7 @@ use Rattle.lexer.specs.Spelling.{bytes}
 use Rattle.words.specs.Sameness.{same}
 use Rattle.lexer.specs.Bytes.{isBlank, isTail, trimmed}
 use Rattle.lexer.specs.Pieces.{Piece, linesFrom, partsFrom}
-use Rattle.numbers.specs.Numbers.{Number, number, malformed, numberOf}
+use Rattle.numbers.specs.Numbers.{Number, number, malformed, numberRead}
 use Rattle.numbers.specs.Held.{held, numberHeld}
 use Rattle.numbers.specs.declared.Number.the-variants as L
 use Rattle.numbers.proofs.Decimals.{held-value, held-none}
@@ -19,7 +19,7 @@ use Rattle.dimensions.specs.Sizes.{mostVariables, mostRows}
 use Rattle.refusals.specs.declared.Refusal.the-variants.{Variables, RowCount, Text}
 use Rattle.header.specs.declared.Sizes.{Sizes}
 use Rattle.header.specs.declared.Sizes.the-variants.{Of, Refused}
-use Rattle.header.specs.Header.{pastRemarks, beyond, judged, twoNumbers, headerParts, headed, headerOf}
+use Rattle.header.specs.Header.{pastRemarks, beyond, judgedSizes, twoNumbers, headerParts, headed, headerOf}
 
 -- what is not beyond its limits is within them
 pub within : (least most : ℕ) (s : Bool) (v : ℕ) → beyond least most s v ≡ false → (least ≤ v) × (v ≤ most)
@@ -49,7 +49,8 @@ module _ (least most : ℕ) (s : Bool) (v : ℕ) where
   held-within : most ≤ 999 → beyond least most s v ≡ false → held v ≡ v
   held-within h e = omega (arith, within least most s v e .1)
 
-judged-held : (least : ℕ) (s t : Bool) (v w : ℕ) → least ≤ 1000 → judged least (number s (held v)) (number t (held w)) ≡ judged least (number s v) (number t w)
+judged-held : (least : ℕ) (s t : Bool) (v w : ℕ) → least ≤ 1000 → judgedSizes least (number s (held v)) (number t (held w))
+    ≡ judgedSizes least (number s v) (number t w)
 judged-held least s t v w h =
     let n-held = beyond-held 1 mostVariables s v (omega arith) (omega arith) in
     let m-held = beyond-held least mostRows t w h (omega arith) in
@@ -62,29 +63,29 @@ judged-held least s t v w h =
 -- ---- two parts as they are read
 
 module _ (least : ℕ) (n m : List ℕ) where
-  pub no-n : numberHeld (numberOf n) ≡ L.Malformed → judged least (numberOf n) (numberOf m) ≡ Refused Text
-  no-n e = rw (held-none (numberOf n) e)
+  pub no-n : numberHeld (numberRead n) ≡ L.Malformed → judgedSizes least (numberRead n) (numberRead m) ≡ Refused Text
+  no-n e = rw (held-none (numberRead n) e)
 
-  pub no-m : numberHeld (numberOf m) ≡ L.Malformed → judged least (numberOf n) (numberOf m) ≡ Refused Text
-  no-m e = ap (judged least (numberOf n)) (held-none (numberOf m) e) ∙ go (numberOf n)
+  pub no-m : numberHeld (numberRead m) ≡ L.Malformed → judgedSizes least (numberRead n) (numberRead m) ≡ Refused Text
+  no-m e = ap (judgedSizes least (numberRead n)) (held-none (numberRead m) e) ∙ go (numberRead n)
     where
-      go : (x : Number) → judged least x malformed ≡ Refused Text
+      go : (x : Number) → judgedSizes least x malformed ≡ Refused Text
       go malformed = refl
       go (number s v) = refl
 
-  pub both : least ≤ 1000 → (s t : Bool) (v w : ℕ) → numberHeld (numberOf n) ≡ L.Value s v → numberHeld (numberOf m) ≡ L.Value t w
-      → judged least (number s v) (number t w) ≡ judged least (numberOf n) (numberOf m)
+  pub both : least ≤ 1000 → (s t : Bool) (v w : ℕ) → numberHeld (numberRead n) ≡ L.Value s v → numberHeld (numberRead m) ≡ L.Value t w
+      → judgedSizes least (number s v) (number t w) ≡ judgedSizes least (numberRead n) (numberRead m)
   both h s t v w e f =
-      let x = held-value (numberOf n) s v e in
-      let y = held-value (numberOf m) t w f in
-      ap₂ (λ (a b : ℕ). judged least (number s a) (number t b)) (sym (x .2)) (sym (y .2))
-      ∙ judged-held least s t (x .0) (y .0) h ∙ sym (ap₂ (judged least) (x .1) (y .1))
+      let x = held-value (numberRead n) s v e in
+      let y = held-value (numberRead m) t w f in
+      ap₂ (λ (a b : ℕ). judgedSizes least (number s a) (number t b)) (sym (x .2)) (sym (y .2))
+      ∙ judged-held least s t (x .0) (y .0) h ∙ sym (ap₂ (judgedSizes least) (x .1) (y .1))
 
 -- ---- whatever holds of refusals 1, 2 and 5 and of n and m within their limits holds of a header
 
 module _ (least : ℕ) (P : Sizes → Type 0) (text-refused : P (Refused Text)) (n-refused : P (Refused Variables)) (m-refused : P (Refused RowCount))
     (taken : (n m : ℕ) → (1 ≤ n) × (n ≤ mostVariables) → (least ≤ m) × (m ≤ mostRows) → P (Of n m)) where
-  judged-either : (x y : Number) → P (judged least x y)
+  judged-either : (x y : Number) → P (judgedSizes least x y)
   judged-either malformed y = text-refused
   judged-either (number s n) malformed = text-refused
   judged-either (number s n) (number t m) =
@@ -97,7 +98,7 @@ module _ (least : ℕ) (P : Sizes → Type 0) (text-refused : P (Refused Text)) 
   two-either : (ps : List Piece) → P (twoNumbers least ps)
   two-either [] = text-refused
   two-either (n ∷ []) = text-refused
-  two-either (n ∷ (m ∷ [])) = judged-either (numberOf (n .bytes)) (numberOf (m .bytes))
+  two-either (n ∷ (m ∷ [])) = judged-either (numberRead (n .bytes)) (numberRead (m .bytes))
   two-either (n ∷ (m ∷ (x ∷ xs))) = text-refused
 
   parts-either : (ps : List Piece) → P (headerParts least ps)

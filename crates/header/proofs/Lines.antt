@@ -12,7 +12,7 @@ use borrow.Author.Tests.{eq-eqb, ne-eqb, eqb-true}
 use Rattle.words.proofs.Truth.{on}
 use Rattle.lexer.specs.Bytes.{isLineFeed, run, trimmed}
 use Rattle.lexer.specs.Remarks.{isRemark}
-use Rattle.lexer.specs.Pieces.{cut, filled, linesFrom, partsFrom}
+use Rattle.lexer.specs.Pieces.{cut, notEmpty, linesFrom, partsFrom}
 use Rattle.lexer.specs.Places.{runEnd, part}
 use Rattle.refusals.specs.declared.Refusal.the-variants.{Text}
 use Rattle.lexer.proofs.Runs.{end-le}
@@ -71,7 +71,7 @@ module _ (text : List ℕ) (at : ℕ) where
   no-line h = rw (drop-of-length-le text h)
 
   pub empty-line : (least : ℕ) → length text ≤ at → at ≤ length text → headed least text (linesFrom text at) ≡ headed least text []
-  unfolding cut trimmed run partsFrom filled
+  unfolding cut trimmed run partsFrom notEmpty
   empty-line least h k =
       let e : at + 0 ≡ length text = omega arith in
       rw (drop-of-length-le text h) (ap (λ (i : ℕ). record { sizes = Refused Text; end = i }) e)

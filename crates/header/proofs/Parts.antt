@@ -11,9 +11,9 @@ use Rattle.lexer.specs.Bytes.{isBlank}
 use Rattle.lexer.specs.Pieces.{Piece, partsFrom}
 use Rattle.lexer.specs.Places.{part}
 use Rattle.lexer.proofs.Cuts.{Found}
-use Rattle.numbers.specs.Numbers.{numberOf}
+use Rattle.numbers.specs.Numbers.{numberRead}
 use Rattle.refusals.specs.declared.Refusal.the-variants.{Text}
-use Rattle.header.specs.Header.{judged, twoNumbers, headerParts}
+use Rattle.header.specs.Header.{judgedSizes, twoNumbers, headerParts}
 use Rattle.header.specs.declared.Sizes.the-variants.{Refused}
 
 module _ (least : ℕ) (line : List ℕ) where
@@ -60,5 +60,5 @@ module _ (least : ℕ) (line : List ℕ) where
         pub three-sizes : (x xe : ℕ) → Found isBlank line me x xe → twoNumbers least (partsAt at) ≡ Refused Text
         three-sizes x xe X = rw (N .pieces, M .pieces, X .pieces)
 
-        pub two-sizes : partsAt me ≡ [] → twoNumbers least (partsAt at) ≡ judged least (numberOf (part n ne line)) (numberOf (part m me line))
+        pub two-sizes : partsAt me ≡ [] → twoNumbers least (partsAt at) ≡ judgedSizes least (numberRead (part n ne line)) (numberRead (part m me line))
         two-sizes e = rw (N .pieces, M .pieces, e)

@@ -12,7 +12,7 @@ use Rattle.words.specs.Sameness.{same}
 use Rattle.lexer.specs.Bytes.{isBlank, isTail, trimmed}
 use Rattle.lexer.specs.Remarks.{isRemark}
 use Rattle.lexer.specs.Pieces.{Piece, behind, linesFrom, partsFrom}
-use Rattle.numbers.specs.Numbers.{Number, number, malformed, numberOf}
+use Rattle.numbers.specs.Numbers.{Number, number, malformed, numberRead}
 use Rattle.dimensions.specs.Sizes.{mostVariables, mostRows}
 use Rattle.refusals.specs.Numbers.{numberOf as refusalNumber}
 use Rattle.refusals.specs.Checks.{Check, check, outcome, given}
@@ -35,16 +35,16 @@ abbrev pub limitChecks : ℕ → Bool → ℕ → Bool → ℕ → List Check
 limitChecks least s n t m = check (beyond 1 mostVariables s n) Variables ∷ check (beyond least mostRows t m) RowCount ∷ []
 
 -- n and m must both be well-formed; n is judged first, then m
-abbrev pub judged : ℕ → Number → Number → Sizes
-judged least malformed m = Refused Text
-judged least (number s n) malformed = Refused Text
-judged least (number s n) (number t m) = given (outcome (limitChecks least s n t m)) (Of n m) Refused
+abbrev pub judgedSizes : ℕ → Number → Number → Sizes
+judgedSizes least malformed m = Refused Text
+judgedSizes least (number s n) malformed = Refused Text
+judgedSizes least (number s n) (number t m) = given (outcome (limitChecks least s n t m)) (Of n m) Refused
 
 -- n and m, and no more
 abbrev pub twoNumbers : ℕ → List Piece → Sizes
 twoNumbers least [] = Refused Text
 twoNumbers least (n ∷ []) = Refused Text
-twoNumbers least (n ∷ (m ∷ [])) = judged least (numberOf (n .bytes)) (numberOf (m .bytes))
+twoNumbers least (n ∷ (m ∷ [])) = judgedSizes least (numberRead (n .bytes)) (numberRead (m .bytes))
 twoNumbers least (n ∷ (m ∷ (x ∷ xs))) = Refused Text
 
 -- `p` at the line's first byte, `cnf`, n and m

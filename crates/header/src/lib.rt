@@ -9,8 +9,9 @@ ghost use Prim.Native.Nat.{_≤_};
 ghost use lib.ListN.{length};
 ghost use Rattle.lexer.specs.Bytes.{isBlank};
 ghost use Rattle.lexer.specs.Pieces.{partsFrom};
-ghost use Rattle.numbers.specs.Numbers.{number, numberOf};
-ghost use Rattle.header.specs.Header.{beyond, judged, twoNumbers, headerParts, sizesOf, headerOf, sizesSaid, headerSaid, HeaderFrom};
+ghost use Rattle.numbers.specs.Numbers.{number, numberRead};
+ghost use Rattle.header.specs.Header.{beyond, judgedSizes, twoNumbers, headerParts, sizesOf, headerOf, sizesSaid, headerSaid};
+ghost use Rattle.header.specs.Header.{HeaderFrom};
 
 // n and m, or 1, 2 or 5.
 pub enum Sizes {
@@ -33,7 +34,7 @@ fn is_beyond(least: u64, most: u64, minus: bool, v: u32) -> bool
 
 // Two numbers as n and m, where both are within their limits.
 fn judge(s: bool, v: u32, t: bool, w: u32, least: u8) -> Sizes
-    ensures { λ r. ⌜ r ≡ judged least (number s v) (number t w) ⌝ }
+    ensures { λ r. ⌜ r ≡ judgedSizes least (number s v) (number t w) ⌝ }
 {
     if is_beyond(1, Dimensions::VARIABLES, s, v) {
         return Sizes::Refused(Refusal::Variables);
@@ -48,7 +49,7 @@ fn judge(s: bool, v: u32, t: bool, w: u32, least: u8) -> Sizes
 
 // Two parts as n and m, where both are well-formed.
 fn read_both(n: &[u8], m: &[u8], least: u8) -> Sizes
-    ensures { λ r. ⌜ r ≡ judged least (numberOf (now (n .entry))) (numberOf (now (m .entry))) ⌝ }
+    ensures { λ r. ⌜ r ≡ judgedSizes least (numberRead (now (n .entry))) (numberRead (now (m .entry))) ⌝ }
 {
     let Number::Value(s, v) = numbers::read_number(n) else {
         return Sizes::Refused(Refusal::Text);

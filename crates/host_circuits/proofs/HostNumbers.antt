@@ -23,7 +23,7 @@ use Rattle.stored.specs.Words.{runIn}
 use Rattle.wires.specs.Packing.{packChecks, packed}
 use Rattle.generator.specs.declared.Generated.{Generated}
 use Rattle.generator.specs.declared.Generated.the-variants as generated′
-use Rattle.generator.specs.Generation.{generated, written, Carried}
+use Rattle.generator.specs.Generation.{generated, writtenWords, Carried}
 use Rattle.codes.proofs.AsBytes.{asBytes, taken-same, on-numbers}
 use Rattle.host_circuits.specs.Circuits.{sizeNumbers, sizesGiven}
 
@@ -40,7 +40,7 @@ module _ (d : Dimensions) (q : Refusal) (h : outcome (sizeChecks d) ≡ Refused 
     generate-refused : generated d words ≡ generated′.Refused q
     generate-refused = rw room-refused
 
-    gates-refused : written d words ≡ words
+    gates-refused : writtenWords d words ≡ words
     gates-refused = rw room-refused
 
   module _ (tables : Tables) (run : Run) (bytes : List ℕ) where
@@ -76,8 +76,8 @@ module _ (asked d : Dimensions) (e : d ≡ asBytes asked) where
     pub generate-is : (g : Generated) → g ≡ generated d words → g ≡ generated asked words
     generate-is = on-numbers asked (λ x. generated x words) generated′.Refused (λ x q h. generate-refused x q h words) d e
 
-    pub gates-are : (after : List ℕ) → after ≡ written d words → after ≡ written asked words
-    gates-are = on-numbers asked (λ x. written x words) (λ q. words) (λ x q h. gates-refused x q h words) d e
+    pub gates-are : (after : List ℕ) → after ≡ writtenWords d words → after ≡ writtenWords asked words
+    gates-are = on-numbers asked (λ x. writtenWords x words) (λ q. words) (λ x q h. gates-refused x q h words) d e
 
     -- the gates that are written carry out the giant step of the sizes that were asked for
     pub carried-is : (after : List ℕ) (g : Generated) → g ≡ generated d words → Carried d g after → Carried asked (generated asked words) after

@@ -7,7 +7,7 @@ ghost use mathlib.Core.Path.{_≡_};
 ghost use lib.ListN.{length};
 ghost use Rattle.refusals.specs.Checks.{outcome};
 ghost use Rattle.dimensions.specs.Sizes.{dimensions, sizeChecks};
-ghost use Rattle.two_pass.specs.Evaluation.{checks, filled};
+ghost use Rattle.two_pass.specs.Evaluation.{evaluationChecks, filledWires};
 ghost use Rattle.generator.specs.Generation as Generation;
 ghost use Rattle.generator.specs.Generation.{generatedCode, generatedNumbers};
 ghost use Rattle.wires.specs.Packing.{packChecks, packed};
@@ -58,7 +58,8 @@ pub extern "C" fn forkhemit_generate(
     count: &mut [u64; 1],
 ) -> u8
     ensures { λ r. ⌜ r ≡ generatedCode (Generation.generated (dimensions n «left_rows» «right_rows» «public_rows») (now (gates .entry))) ⌝ }
-    ensures { λ _. ⌜ now (gates .exit) ≡ Generation.written (dimensions n «left_rows» «right_rows» «public_rows») (now (gates .entry)) ⌝ }
+    ensures { λ _.
+        ⌜ now (gates .exit) ≡ Generation.writtenWords (dimensions n «left_rows» «right_rows» «public_rows») (now (gates .entry)) ⌝ }
     ensures { λ _.
         ⌜ now (count .exit) ≡ numbersOr (generatedNumbers (Generation.generated (dimensions n «left_rows» «right_rows» «public_rows»)
         (now (gates .entry)))) (now (count .entry)) ⌝ }
@@ -105,8 +106,8 @@ pub extern "C" fn forkhemit_pack(
 // Fills the front of the wires with the inputs and then each gate's value; 9 or 10 where it is turned back, and then no byte changes.
 #[no_mangle]
 pub extern "C" fn forkhemit_evaluate(gates: &[u32], inputs: &[u8], wires: &mut [u8]) -> u8
-    ensures { λ r. ⌜ r ≡ codeOf (outcome (checks (now (gates .entry)) (now (inputs .entry)) (now (wires .entry)))) ⌝ }
-    ensures { λ _. ⌜ now (wires .exit) ≡ filled (now (gates .entry)) (now (inputs .entry)) (now (wires .entry)) ⌝ }
+    ensures { λ r. ⌜ r ≡ codeOf (outcome (evaluationChecks (now (gates .entry)) (now (inputs .entry)) (now (wires .entry)))) ⌝ }
+    ensures { λ _. ⌜ now (wires .exit) ≡ filledWires (now (gates .entry)) (now (inputs .entry)) (now (wires .entry)) ⌝ }
 {
     codes::code(evaluator::evaluate(gates, inputs, wires))
 }

@@ -26,7 +26,7 @@ use Rattle.indexed.specs.declared.SteppedIndexed.{SteppedIndexed}
 use Rattle.indexed.specs.Entries.{indexAfter, counted, indexedChecks, steppedBy, steppedIndexed}
 use Rattle.stored.specs.Words.{runIn}
 use Rattle.codes.proofs.AsBytes.{asBytes, on-numbers}
-use Rattle.host_indexed.specs.Steps.{stepIn}
+use Rattle.host_indexed.specs.Steps.{indexedStepIn}
 
 -- ---- refused sizes
 
@@ -69,7 +69,7 @@ module _ (asked d : Dimensions) (e : d ≡ asBytes asked) (tables : Tables) wher
       ∙ ap (λ (x : Run). counted asked tables x) held
 
   pub step-is : (index words number : List ℕ) (run : Run) → run ≡ runIn words
-      → (s : SteppedIndexed) → s ≡ steppedIndexed d tables index run (getD number 0 0) → s ≡ stepIn asked tables index words number
+      → (s : SteppedIndexed) → s ≡ steppedIndexed d tables index run (getD number 0 0) → s ≡ indexedStepIn asked tables index words number
   step-is index words number run held s r =
       let k = getD number 0 0 in
       on-numbers asked (λ x. steppedIndexed x tables index run k) (λ q. record { outcome = Refused q; run = run; number = k })

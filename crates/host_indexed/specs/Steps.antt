@@ -9,5 +9,5 @@ use Rattle.indexed.specs.Entries.{steppedIndexed}
 use Rattle.stored.specs.Words.{runIn}
 
 -- index, run and number in lent words; the number is the one word of its array
-abbrev pub stepIn : Dimensions → Tables → List ℕ → List ℕ → List ℕ → SteppedIndexed
-stepIn d tables index run number = steppedIndexed d tables index (runIn run) (getD number 0 0)
+abbrev pub indexedStepIn : Dimensions → Tables → List ℕ → List ℕ → List ℕ → SteppedIndexed
+indexedStepIn d tables index run number = steppedIndexed d tables index (runIn run) (getD number 0 0)

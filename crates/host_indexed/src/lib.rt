@@ -15,7 +15,7 @@ ghost use Rattle.solver.specs.Entries.{solved, solvedCode, solvedNumbers};
 ghost use Rattle.indexed.specs.Entries.{indexAfter, counted, countedCode, countedNumbers};
 ghost use Rattle.stored.specs.Words.{runIn};
 ghost use Rattle.lent.specs.Lent.{numbersOr, storedIf};
-ghost use Rattle.host_indexed.specs.Steps.{stepIn};
+ghost use Rattle.host_indexed.specs.Steps.{indexedStepIn};
 
 // The index of three tables; 1, 2, 4 or 3 where it is turned back.
 #[no_mangle]
@@ -87,18 +87,18 @@ pub extern "C" fn forkhemit_step_indexed(
     number: &mut [u64; 1],
 ) -> u8
     ensures { λ r.
-        ⌜ r ≡ codeOf (stepIn (dimensions n «left_rows» «right_rows» «public_rows»)
+        ⌜ r ≡ codeOf (indexedStepIn (dimensions n «left_rows» «right_rows» «public_rows»)
         (allTables (now (left .entry)) (now (right .entry)) (now (public .entry))) (now (index .entry)) (now (run .entry))
         (now (number .entry)) .outcome) ⌝ }
     ensures { λ _.
-        ⌜ now (run .exit) ≡ storedIf (stepIn (dimensions n «left_rows» «right_rows» «public_rows»)
+        ⌜ now (run .exit) ≡ storedIf (indexedStepIn (dimensions n «left_rows» «right_rows» «public_rows»)
         (allTables (now (left .entry)) (now (right .entry)) (now (public .entry))) (now (index .entry)) (now (run .entry))
         (now (number .entry)) .outcome)
-        (stepIn (dimensions n «left_rows» «right_rows» «public_rows»)
+        (indexedStepIn (dimensions n «left_rows» «right_rows» «public_rows»)
         (allTables (now (left .entry)) (now (right .entry)) (now (public .entry))) (now (index .entry)) (now (run .entry))
         (now (number .entry)) .run) (now (run .entry)) ⌝ }
     ensures { λ _.
-        ⌜ now (number .exit) ≡ stepIn (dimensions n «left_rows» «right_rows» «public_rows»)
+        ⌜ now (number .exit) ≡ indexedStepIn (dimensions n «left_rows» «right_rows» «public_rows»)
         (allTables (now (left .entry)) (now (right .entry)) (now (public .entry))) (now (index .entry)) (now (run .entry))
         (now (number .entry)) .number ∷ [] ⌝ }
 {

@@ -17,22 +17,22 @@ use Rattle.bristol.specs.declared.Written.{Written}
 use Rattle.bristol.specs.declared.Written.the-variants as written′
 use Rattle.bristol.specs.declared.WrittenLines.{WrittenLines}
 use Rattle.bristol.specs.declared.WrittenLines.the-variants as lines′
-use Rattle.bristol.specs.Writing.{checks, lineAt, written, filled, writtenLines, filledLines}
+use Rattle.bristol.specs.Writing.{lineChecks, lineAt, writtenLine, filledLine, writtenLines, filledLines}
 use Rattle.codes.proofs.AsBytes.{asBytes, on-numbers}
 
 module _ (words : List ℕ) (line : ℕ) (lent : List ℕ) where
   -- ---- refused sizes
 
   module _ (d : Dimensions) (q : Refusal) (h : outcome (sizeChecks d) ≡ Refused q) where
-    line-checked : outcome (checks d words line lent) ≡ Refused q
+    line-checked : outcome (lineChecks d words line lent) ≡ Refused q
     line-checked =
         outcome-refused (sizeChecks d)
         (check (not (accepted (inputWires d) words)) Gates ∷ (check (ltb (length lent) (length (lineAt d words line))) LineBuffer ∷ [])) q h
 
-    line-refused : written d words line lent ≡ written′.Refused q
+    line-refused : writtenLine d words line lent ≡ written′.Refused q
     line-refused = rw line-checked
 
-    line-kept : filled d words line lent ≡ lent
+    line-kept : filledLine d words line lent ≡ lent
     line-kept = rw line-checked
 
     lines-refused : writtenLines d words line lent ≡ lines′.Refused q
@@ -44,11 +44,11 @@ module _ (words : List ℕ) (line : ℕ) (lent : List ℕ) where
   -- ---- any sizes
 
   module _ (asked d : Dimensions) (e : d ≡ asBytes asked) where
-    pub line-is : (w : Written) → w ≡ written d words line lent → w ≡ written asked words line lent
-    line-is = on-numbers asked (λ x. written x words line lent) written′.Refused line-refused d e
+    pub line-is : (w : Written) → w ≡ writtenLine d words line lent → w ≡ writtenLine asked words line lent
+    line-is = on-numbers asked (λ x. writtenLine x words line lent) written′.Refused line-refused d e
 
-    pub line-bytes-are : (after : List ℕ) → after ≡ filled d words line lent → after ≡ filled asked words line lent
-    line-bytes-are = on-numbers asked (λ x. filled x words line lent) (λ q. lent) line-kept d e
+    pub line-bytes-are : (after : List ℕ) → after ≡ filledLine d words line lent → after ≡ filledLine asked words line lent
+    line-bytes-are = on-numbers asked (λ x. filledLine x words line lent) (λ q. lent) line-kept d e
 
     pub lines-are : (w : WrittenLines) → w ≡ writtenLines d words line lent → w ≡ writtenLines asked words line lent
     lines-are = on-numbers asked (λ x. writtenLines x words line lent) lines′.Refused lines-refused d e

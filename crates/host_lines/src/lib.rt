@@ -47,13 +47,13 @@ pub extern "C" fn forkhemit_write_line(
     length: &mut [u64; 1],
 ) -> u8
     ensures { λ r.
-        ⌜ r ≡ lineCode (Writing.written (dimensions n «left_rows» «right_rows» «public_rows»)
+        ⌜ r ≡ lineCode (Writing.writtenLine (dimensions n «left_rows» «right_rows» «public_rows»)
         (now (gates .entry)) line (now (bytes .entry))) ⌝ }
     ensures { λ _.
-        ⌜ now (bytes .exit) ≡ Writing.filled (dimensions n «left_rows» «right_rows» «public_rows»)
+        ⌜ now (bytes .exit) ≡ Writing.filledLine (dimensions n «left_rows» «right_rows» «public_rows»)
         (now (gates .entry)) line (now (bytes .entry)) ⌝ }
     ensures { λ _.
-        ⌜ now (length .exit) ≡ numbersOr (lineNumbers (Writing.written (dimensions n «left_rows» «right_rows» «public_rows»)
+        ⌜ now (length .exit) ≡ numbersOr (lineNumbers (Writing.writtenLine (dimensions n «left_rows» «right_rows» «public_rows»)
         (now (gates .entry)) line (now (bytes .entry)))) (now (length .entry)) ⌝ }
 {
     let d = codes::dimensions(n, left_rows, right_rows, public_rows);

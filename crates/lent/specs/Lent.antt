@@ -5,7 +5,7 @@ use lib.Seq.{sets}
 use Rattle.refusals.specs.Checks.{given}
 use Rattle.refusals.specs.declared.Outcome.{Outcome}
 use Rattle.state.specs.declared.Run.{Run}
-use Rattle.stored.specs.Words.{wordsOf}
+use Rattle.stored.specs.Words.{runWords}
 
 -- values over the front of a buffer, as many as it has room for
 abbrev pub front : List ℕ → List ℕ → List ℕ
@@ -18,4 +18,4 @@ numbersOr (x ∷ xs) lent = x ∷ xs
 
 -- the run's words where the call is taken; else what stood there
 abbrev pub storedIf : Outcome → Run → List ℕ → List ℕ
-storedIf o run lent = given o (wordsOf run) (λ r. lent)
+storedIf o run lent = given o (runWords run) (λ r. lent)

@@ -10,7 +10,7 @@ use lib.ListN.{length, drop, take, getD, drop-of-length-le, length-drop, length-
 use lib.Seq.{drop-cons, drop-drop}
 use borrow.Author.Tests.{ltb-true, ltb-false}
 use Rattle.lexer.specs.Bytes.{run}
-use Rattle.lexer.specs.Pieces.{Piece, cut, filled, partsFrom}
+use Rattle.lexer.specs.Pieces.{Piece, cut, notEmpty, partsFrom}
 use Rattle.lexer.specs.Places.{runEnd, part, firstOf}
 use Rattle.lexer.specs.declared.pieces.Piece.the-variants.{At, Nothing}
 use Rattle.words.proofs.Truth.{on}
@@ -44,25 +44,25 @@ cut-first p at (b ∷ bs) =
     (λ e. rw (e, cut-first p (suc at) bs, add-suc, suc-add))
 
 -- what is behind a piece has the pieces of the text that follows it
-filled-later : (p : ℕ → Bool) (at : ℕ) (bs : List ℕ) → run (λ b. not (p b)) bs ≡ 0 → filled (later p at bs) ≡ filled (cut p at bs)
-unfolding cut filled
+filled-later : (p : ℕ → Bool) (at : ℕ) (bs : List ℕ) → run (λ b. not (p b)) bs ≡ 0 → notEmpty (later p at bs) ≡ notEmpty (cut p at bs)
+unfolding cut notEmpty
 filled-later p at [] h = refl
 filled-later p at (b ∷ bs) h = on (p b) (λ e. rw e) (λ e. absurd (true≢false (sym (ap not e) ∙ no-run (λ b. not (p b)) b bs h)))
 
 -- bytes to cut at, in front, do not count
-pub skip-run : (p : ℕ → Bool) (at : ℕ) (bs : List ℕ) → filled (cut p at bs) ≡ filled (cut p (at + run p bs) (drop (run p bs) bs))
-unfolding cut filled run
+pub skip-run : (p : ℕ → Bool) (at : ℕ) (bs : List ℕ) → notEmpty (cut p at bs) ≡ notEmpty (cut p (at + run p bs) (drop (run p bs) bs))
+unfolding cut notEmpty run
 skip-run p at [] = refl
 skip-run p at (b ∷ bs) =
     on (p b)
-    (λ e. rw (e, filled) (skip-run p (suc at) bs ∙ rw (add-suc, suc-add)))
+    (λ e. rw (e, notEmpty) (skip-run p (suc at) bs ∙ rw (add-suc, suc-add)))
     (λ e. rw (e, add-zero at, e))
 
 pub one-piece : (p : ℕ → Bool) (at b : ℕ) (bs : List ℕ) → p b ≡ false
-    → filled (cut p at (b ∷ bs))
+    → notEmpty (cut p at (b ∷ bs))
     ≡ record { at = at; bytes = take (run (λ b. not (p b)) (b ∷ bs)) (b ∷ bs) }
-    ∷ filled (cut p (at + run (λ b. not (p b)) (b ∷ bs)) (drop (run (λ b. not (p b)) (b ∷ bs)) (b ∷ bs)))
-unfolding filled run
+    ∷ notEmpty (cut p (at + run (λ b. not (p b)) (b ∷ bs)) (drop (run (λ b. not (p b)) (b ∷ bs)) (b ∷ bs)))
+unfolding notEmpty run
 one-piece p at b bs e =
     let o = run-over (λ b. not (p b)) (b ∷ bs) in
     rw (cut-first p at (b ∷ bs), e) (ap (λ (l : List Piece). record { at = at; bytes = b ∷ take (run (λ b. not (p b)) bs) bs } ∷ l)
@@ -77,10 +77,10 @@ behind-part text s e h k = simp (length-take, length-drop) (omega arith)
 module _ (p : ℕ → Bool) (text : List ℕ) (at : ℕ) where
   skipped : partsFrom p text at ≡ partsFrom p text (runEnd p text at)
   unfolding runEnd partsFrom
-  skipped = skip-run p at (drop at text) ∙ ap (λ (l : List ℕ). filled (cut p (at + run p (drop at text)) l)) (drop-drop (run p (drop at text)) at text)
+  skipped = skip-run p at (drop at text) ∙ ap (λ (l : List ℕ). notEmpty (cut p (at + run p (drop at text)) l)) (drop-drop (run p (drop at text)) at text)
 
   none-left : length text ≤ runEnd p text at → partsFrom p text at ≡ []
-  unfolding filled cut partsFrom
+  unfolding notEmpty cut partsFrom
   none-left h = skipped ∙ rw (drop-of-length-le text h)
 
   pub stops : runEnd p text at < length text → p (getD text (runEnd p text at) 0) ≡ false
@@ -97,13 +97,13 @@ module _ (p : ℕ → Bool) (text : List ℕ) (at : ℕ) where
     unfolding runEnd partsFrom
     next =
         let k = run (λ b. not (p b)) (drop s text) in
-        let one : filled (cut p s (drop s text)) ≡ record { at = s; bytes = take k (drop s text) } ∷ filled (cut p (s + k) (drop k (drop s text)))
+        let one : notEmpty (cut p s (drop s text)) ≡ record { at = s; bytes = take k (drop s text) } ∷ notEmpty (cut p (s + k) (drop k (drop s text)))
         = rw (drop-cons text s 0 h) (one-piece p s (getD text s 0) (drop (suc s) text) stop) in
         let width : k ≡ e - s = omega (arith, he) in
-        skipped ∙ ap (λ (x : ℕ). filled (cut p x (drop x text))) (sym hs) ∙ one
+        skipped ∙ ap (λ (x : ℕ). notEmpty (cut p x (drop x text))) (sym hs) ∙ one
         ∙ ap₂ (λ (b : List ℕ) (l : List Piece). record { at = s; bytes = b } ∷ l)
         (ap (λ (i : ℕ). take i (drop s text)) width)
-        (ap (λ (l : List ℕ). filled (cut p (s + k) l)) (drop-drop k s text) ∙ ap (λ (x : ℕ). filled (cut p x (drop x text))) (sym he))
+        (ap (λ (l : List ℕ). notEmpty (cut p (s + k) l)) (drop-drop k s text) ∙ ap (λ (x : ℕ). notEmpty (cut p x (drop x text))) (sym he))
 
     end-within : e ≤ length text
     end-within = omega (arith, he, end-le (λ b. not (p b)) text s (omega arith))

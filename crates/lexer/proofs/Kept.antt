@@ -9,8 +9,8 @@ use borrow.Author.Tests.{eqb-true, ne-eqb}
 use Rattle.words.proofs.Truth.{on}
 use Rattle.lexer.specs.Bytes.{isSeparator, isLineFeed, run}
 use Rattle.lexer.specs.Remarks.{ahead, linesOf, kept, withoutRemarks}
-use Rattle.lexer.specs.Pieces.{Piece, cut, filled}
-use Rattle.lexer.specs.Blanks.{Standing, start, line, remark, after, blanked}
+use Rattle.lexer.specs.Pieces.{Piece, cut, notEmpty}
+use Rattle.lexer.specs.Blanks.{Standing, start, line, remark, standingBehind, blanked}
 
 -- whether a byte is left out: a remark's are, with its LF
 abbrev leftOut : Standing → ℕ → Bool
@@ -21,7 +21,7 @@ leftOut remark b = true
 -- bytes without the remarks among them, from where the first stands
 unfoldable pub keptFrom : Standing → List ℕ → List ℕ
 keptFrom s [] = []
-keptFrom s (b ∷ bs) = cond (leftOut s b) (keptFrom (after s b) bs) (b ∷ keptFrom (after s b) bs)
+keptFrom s (b ∷ bs) = cond (leftOut s b) (keptFrom (standingBehind s b) bs) (b ∷ keptFrom (standingBehind s b) bs)
 
 -- ---- by lines and by bytes
 
@@ -158,17 +158,17 @@ module _ (p : ℕ → Bool) where
 
   -- ---- pieces without their places
 
-  filled-bytes : (q : Piece) (qs : List Piece) → bytesOf (filled (q ∷ qs)) ≡ filledWords (q .bytes) (bytesOf (filled qs))
-  unfolding filled
+  filled-bytes : (q : Piece) (qs : List Piece) → bytesOf (notEmpty (q ∷ qs)) ≡ filledWords (q .bytes) (bytesOf (notEmpty qs))
+  unfolding notEmpty
   filled-bytes q qs = go (q .bytes) refl
     where
-      go : (w : List ℕ) → q .bytes ≡ w → bytesOf (elim w [ [] ↦ filled qs | b ∷ bs ↦ q ∷ filled qs ]) ≡ filledWords w (bytesOf (filled qs))
+      go : (w : List ℕ) → q .bytes ≡ w → bytesOf (elim w [ [] ↦ notEmpty qs | b ∷ bs ↦ q ∷ notEmpty qs ]) ≡ filledWords w (bytesOf (notEmpty qs))
       go [] e = refl
-      go (b ∷ bs) e = ap (λ (x : List ℕ). x ∷ bytesOf (filled qs)) e
+      go (b ∷ bs) e = ap (λ (x : List ℕ). x ∷ bytesOf (notEmpty qs)) e
 
   cut-words : (at : ℕ) (bs : List ℕ)
-      → (q : Piece) × (qs : List Piece) × (cut p at bs ≡ q ∷ qs) × (q .bytes ≡ words bs .word) × (bytesOf (filled qs) ≡ words bs .later)
-  unfolding cut words filled
+      → (q : Piece) × (qs : List Piece) × (cut p at bs ≡ q ∷ qs) × (q .bytes ≡ words bs .word) × (bytesOf (notEmpty qs) ≡ words bs .later)
+  unfolding cut words notEmpty
   cut-words at [] = (record { at = at; bytes = [] }, [], refl, refl, refl)
   cut-words at (b ∷ bs) =
       let (q, qs, c, w, m) = cut-words (suc at) bs in
@@ -176,12 +176,13 @@ module _ (p : ℕ → Bool) where
       (λ e. (record { at = at; bytes = [] }, q ∷ qs, rw (e, c), rw e, rw e (filled-bytes q qs ∙ ap₂ filledWords w m)))
       (λ e. (record { at = at; bytes = b ∷ q .bytes }, qs, rw (e, c), rw e (more b w), rw e m))
 
-  pieces-words : (at : ℕ) (bs : List ℕ) → bytesOf (filled (cut p at bs)) ≡ all (words bs)
+  pieces-words : (at : ℕ) (bs : List ℕ) → bytesOf (notEmpty (cut p at bs)) ≡ all (words bs)
   pieces-words at bs =
       let (q, qs, c, w, m) = cut-words at bs in
-      ap (λ (x : List Piece). bytesOf (filled x)) c ∙ filled-bytes q qs ∙ ap₂ filledWords w m
+      ap (λ (x : List Piece). bytesOf (notEmpty x)) c ∙ filled-bytes q qs ∙ ap₂ filledWords w m
 
-pub same-tokens : (at i : ℕ) (bs : List ℕ) → bytesOf (filled (cut isSeparator i (keptFrom line bs))) ≡ bytesOf (filled (cut isSeparator at (blanked line bs)))
+pub same-tokens : (at i : ℕ) (bs : List ℕ) → bytesOf (notEmpty (cut isSeparator i (keptFrom line bs)))
+    ≡ bytesOf (notEmpty (cut isSeparator at (blanked line bs)))
 unfolding SameWords
 same-tokens at i bs =
     pieces-words isSeparator i (keptFrom line bs) ∙ ap all (sym (same-words isSeparator refl refl bs .0)) ∙ sym (pieces-words isSeparator at (blanked line bs))

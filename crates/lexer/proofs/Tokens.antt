@@ -10,9 +10,9 @@ use lib.Seq.{drop-cons, drop-drop}
 use borrow.Author.Tests.{eqb-true, ltb-true, ltb-false}
 use Rattle.words.proofs.Truth.{on}
 use Rattle.lexer.specs.Bytes.{isSeparator, run}
-use Rattle.lexer.specs.Pieces.{Piece, cut, filled}
+use Rattle.lexer.specs.Pieces.{Piece, cut, notEmpty}
 use Rattle.lexer.specs.Places.{runEnd, part, firstOf}
-use Rattle.lexer.specs.Blanks.{Standing, line, inRemark, after, blanked, tokensPast, tokenStart}
+use Rattle.lexer.specs.Blanks.{Standing, line, inRemark, standingBehind, blanked, tokensPast, tokenStart}
 use Rattle.lexer.specs.declared.pieces.Piece.the-variants.{At, Nothing}
 use Rattle.lexer.proofs.Runs.{end-le}
 use Rattle.lexer.proofs.Cuts.{run-over, no-run, skip-run, one-piece, behind-part, FoundBy}
@@ -53,8 +53,8 @@ unfolding blanked run
 separators-drop s [] = refl
 separators-drop s (b ∷ bs) =
     on (inRemark s b)
-    (λ e. rw e (rw e at (separators-drop (after s b) bs)))
-    (λ e. on (isSeparator b) (λ w. rw (e, w) (rw e at (separators-drop (after s b) bs))) (λ w. rw (e, w)))
+    (λ e. rw e (rw e at (separators-drop (standingBehind s b) bs)))
+    (λ e. on (isSeparator b) (λ w. rw (e, w) (rw e at (separators-drop (standingBehind s b) bs))) (λ w. rw (e, w)))
 
 -- ---- the tokens of a text from a place on
 
@@ -67,17 +67,17 @@ module _ (text : List ℕ) (at : ℕ) where
 
   skip-token : tokensPast text at ≡ tokensPast text (tokenStart text at)
   unfolding tokenStart tokensPast
-  skip-token = skip-run isSeparator at rest ∙ ap (λ (l : List ℕ). filled (cut isSeparator (at + run isSeparator rest) l)) behind-start
+  skip-token = skip-run isSeparator at rest ∙ ap (λ (l : List ℕ). notEmpty (cut isSeparator (at + run isSeparator rest) l)) behind-start
 
   no-token : length text ≤ tokenStart text at → tokensPast text at ≡ []
-  unfolding tokensPast blanked filled cut
+  unfolding tokensPast blanked notEmpty cut
   no-token h = skip-token ∙ rw (drop-of-length-le text h)
 
   stops : tokenStart text at < length text → isSeparator (getD text (tokenStart text at) 0) ≡ false
   unfolding tokenStart blanked
   stops h =
       let k = run isSeparator rest in
-      no-run isSeparator (getD text (at + k) 0) (blanked (after line (getD text (at + k) 0)) (drop (suc (at + k)) text))
+      no-run isSeparator (getD text (at + k) 0) (blanked (standingBehind line (getD text (at + k) 0)) (drop (suc (at + k)) text))
       (ap (run isSeparator) (sym (behind-start ∙ ap (blanked line) (drop-cons text (at + k) 0 h))) ∙ run-over isSeparator rest)
 
   module _ (s e : ℕ) (hs : s ≡ tokenStart text at) (he : e ≡ runEnd inWord text s) (h : s < length text) where
@@ -85,21 +85,21 @@ module _ (text : List ℕ) (at : ℕ) where
     stop = ap (λ (x : ℕ). isSeparator (getD text x 0)) hs ∙ stops (rw hs at h)
 
     abbrev token : List ℕ → ℕ → List Piece
-    token b j = record { at = s; bytes = take j b } ∷ filled (cut isSeparator (s + j) (drop j b))
+    token b j = record { at = s; bytes = take j b } ∷ notEmpty (cut isSeparator (s + j) (drop j b))
 
     next : tokensPast text at ≡ record { at = s; bytes = part s e text } ∷ tokensPast text e
     unfolding tokensPast runEnd blanked
     next =
         let k = run inWord (drop s text) in
         let b = blanked line (drop s text) in
-        let one : filled (cut isSeparator s b) ≡ token b (run inWord b)
-        = rw (drop-cons text s 0 h) (one-piece isSeparator s (getD text s 0) (blanked (after line (getD text s 0)) (drop (suc s) text)) stop) in
+        let one : notEmpty (cut isSeparator s b) ≡ token b (run inWord b)
+        = rw (drop-cons text s 0 h) (one-piece isSeparator s (getD text s 0) (blanked (standingBehind line (getD text s 0)) (drop (suc s) text)) stop) in
         let width : k ≡ e - s = omega (arith, he) in
         skip-token ∙ ap (tokensPast text) (sym hs) ∙ one
         ∙ ap (token b) (word-run (drop s text))
         ∙ ap₂ (λ (w : List ℕ) (l : List Piece). record { at = s; bytes = w } ∷ l)
         (word-take (drop s text) ∙ ap (λ (i : ℕ). take i (drop s text)) width)
-        (ap (λ (l : List ℕ). filled (cut isSeparator (s + k) l)) (word-drop (drop s text) ∙ ap (blanked line) (drop-drop k s text))
+        (ap (λ (l : List ℕ). notEmpty (cut isSeparator (s + k) l)) (word-drop (drop s text) ∙ ap (blanked line) (drop-drop k s text))
         ∙ ap (tokensPast text) (sym he))
 
     within : e ≤ length text

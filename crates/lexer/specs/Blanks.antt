@@ -6,7 +6,7 @@ use mathlib.Core.List.{List, [], _∷_}
 use lib.Dec.{eqb, ltb}
 use lib.ListN.{drop, getD}
 use Rattle.lexer.specs.Bytes.{isSeparator, isLineFeed, run}
-use Rattle.lexer.specs.Pieces.{Piece, cut, filled}
+use Rattle.lexer.specs.Pieces.{Piece, cut, notEmpty}
 
 -- where a byte stands: at its line's start, further on in a line, or in a remark
 pub data Standing : Type 0 where
@@ -19,17 +19,17 @@ inRemark line b = false
 inRemark remark b = not (isLineFeed b)
 
 -- where the next byte stands
-abbrev pub after : Standing → ℕ → Standing
-after s b = cond (isLineFeed b) start (cond (inRemark s b) remark line)
+abbrev pub standingBehind : Standing → ℕ → Standing
+standingBehind s b = cond (isLineFeed b) start (cond (inRemark s b) remark line)
 
 -- each byte of a remark as a space
 unfoldable pub blanked : Standing → List ℕ → List ℕ
 blanked s [] = []
-blanked s (b ∷ bs) = cond (inRemark s b) 32 b ∷ blanked (after s b) bs
+blanked s (b ∷ bs) = cond (inRemark s b) 32 b ∷ blanked (standingBehind s b) bs
 
 -- the tokens from a place on that is no line's start, remarks passed by
 unfoldable pub tokensPast : List ℕ → ℕ → List Piece
-tokensPast text at = filled (cut isSeparator at (blanked line (drop at text)))
+tokensPast text at = notEmpty (cut isSeparator at (blanked line (drop at text)))
 
 -- the place of the first of them; the text's end if there is none
 unfoldable pub tokenStart : List ℕ → ℕ → ℕ

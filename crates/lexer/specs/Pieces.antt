@@ -15,20 +15,20 @@ abbrev pub behind : Piece → ℕ
 behind p = p .at + length (p .bytes)
 
 -- byte b stands at a place, in front of pieces: it ends an empty piece, or joins the first
-abbrev pub joined : Bool → ℕ → ℕ → List Piece → List Piece
-joined true at b ps = record { at = at; bytes = [] } ∷ ps
-joined false at b [] = []
-joined false at b (p ∷ ps) = record { at = at; bytes = b ∷ p .bytes } ∷ ps
+abbrev pub joinedByte : Bool → ℕ → ℕ → List Piece → List Piece
+joinedByte true at b ps = record { at = at; bytes = [] } ∷ ps
+joinedByte false at b [] = []
+joinedByte false at b (p ∷ ps) = record { at = at; bytes = b ∷ p .bytes } ∷ ps
 
 -- bytes that start at a place, cut at each byte that passes: always at least one piece
 unfoldable pub cut : (ℕ → Bool) → ℕ → List ℕ → List Piece
 cut p at [] = record { at = at; bytes = [] } ∷ []
-cut p at (b ∷ bs) = joined (p b) at b (cut p (suc at) bs)
+cut p at (b ∷ bs) = joinedByte (p b) at b (cut p (suc at) bs)
 
 -- the pieces that are not empty
-unfoldable pub filled : List Piece → List Piece
-filled [] = []
-filled (p ∷ ps) = elim (p .bytes) [ [] ↦ filled ps | b ∷ bs ↦ p ∷ filled ps ]
+unfoldable pub notEmpty : List Piece → List Piece
+notEmpty [] = []
+notEmpty (p ∷ ps) = elim (p .bytes) [ [] ↦ notEmpty ps | b ∷ bs ↦ p ∷ notEmpty ps ]
 
 -- the lines of a text from a place on
 abbrev pub linesFrom : List ℕ → ℕ → List Piece
@@ -36,7 +36,7 @@ linesFrom text at = cut isLineFeed at (drop at text)
 
 -- the longest runs of bytes that do not pass, from a place on
 unfoldable pub partsFrom : (ℕ → Bool) → List ℕ → ℕ → List Piece
-partsFrom p text at = filled (cut p at (drop at text))
+partsFrom p text at = notEmpty (cut p at (drop at text))
 
 -- the tokens of a text from a place on: what separators set apart
 abbrev pub tokensFrom : List ℕ → ℕ → List Piece

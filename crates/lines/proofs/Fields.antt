@@ -14,7 +14,7 @@ use Rattle.words.proofs.Truth.{on}
 use Rattle.lexer.specs.Bytes.{run}
 use Rattle.numbers.specs.Numbers.{isDigit, digitsAfter}
 use Rattle.lines.specs.declared.Place.the-variants.{Behind, Malformed}
-use Rattle.lines.specs.Numbers.{Field, field, malformed, bounded, closed, fieldOf}
+use Rattle.lines.specs.Numbers.{Field, field, malformed, bounded, closedField, fieldOf}
 use Rattle.lines.specs.Places.{placeOf, placeAt}
 
 -- as `closed`, with v read already and a digit seen
@@ -35,7 +35,7 @@ field-start : (closing : ℕ) (text : List ℕ) → fieldAfter 0 false closing t
 unfolding fieldAfter fieldOf
 field-start closing text = go (take (run isDigit text) text) (drop (run isDigit text) text)
   where
-    go : (ds rest : List ℕ) → closedAfter 0 false closing ds rest ≡ closed closing ds rest
+    go : (ds rest : List ℕ) → closedAfter 0 false closing ds rest ≡ closedField closing ds rest
     go [] rest = refl
     go (d ∷ ds) [] = refl
     go (d ∷ ds) (b ∷ rest) = refl

@@ -16,7 +16,7 @@ use Rattle.refusals.specs.declared.Refusal.the-variants.{NumberLine}
 use Rattle.lines.specs.declared.Budget.the-variants as budget
 use Rattle.lines.specs.declared.Size.the-variants as size
 use Rattle.lines.specs.declared.Place.the-variants.{Behind, Malformed}
-use Rattle.lines.specs.Numbers.{Field, field, malformed, bounded, closed, fieldOf, short, budgetOf, sizeOf}
+use Rattle.lines.specs.Numbers.{Field, field, malformed, bounded, closedField, fieldOf, shortLine, budgetOf, sizeOf}
 use Rattle.lines.specs.Places.{placeOf, placeAt, budgetFrom, firstFrom, secondFrom, thirdFrom, fourthFrom}
 
 bounded-rest : (d : Option ℕ) (text rest : List ℕ) (v : ℕ) → bounded d text ≡ field v rest → text ≡ rest
@@ -24,7 +24,7 @@ bounded-rest none text rest v e = cc
 bounded-rest (some w) text rest v e = on (ltb w (2 ^ 64)) (λ q. let f = rw q at e in cc) (λ q. let f = rw q at e in cc)
 
 -- a field's rest starts behind the closing byte
-closed-rest : (closing : ℕ) (ds text rest : List ℕ) (v : ℕ) → closed closing ds text ≡ field v rest → drop 1 text ≡ rest
+closed-rest : (closing : ℕ) (ds text rest : List ℕ) (v : ℕ) → closedField closing ds text ≡ field v rest → drop 1 text ≡ rest
 closed-rest closing [] text rest v e = cc
 closed-rest closing (d ∷ ds) [] rest v e = cc
 closed-rest closing (d ∷ ds) (b ∷ bs) rest v e =
@@ -37,7 +37,7 @@ bounded-below (some w) text rest v e =
     (λ q. let f = rw q at e in let same : w ≡ v = cc in omega (arith, ltb-true w (2 ^ 64) q))
     (λ q. let f = rw q at e in let z : _≡_ {A = ℕ} 0 1 = cc in omega arith)
 
-closed-below : (closing : ℕ) (ds text rest : List ℕ) (v : ℕ) → closed closing ds text ≡ field v rest → v < 2 ^ 64
+closed-below : (closing : ℕ) (ds text rest : List ℕ) (v : ℕ) → closedField closing ds text ≡ field v rest → v < 2 ^ 64
 closed-below closing [] text rest v e = let z : _≡_ {A = ℕ} 0 1 = cc in omega arith
 closed-below closing (d ∷ ds) [] rest v e = let z : _≡_ {A = ℕ} 0 1 = cc in omega arith
 closed-below closing (d ∷ ds) (b ∷ bs) rest v e =
@@ -116,7 +116,7 @@ budget-below input v e = go (fieldOf 10 input) refl e
     go : (f : Field) → fieldOf 10 input ≡ f → budgetFrom input f ≡ budget.Of v → v < 2 ^ 64
     go malformed h k = let z : _≡_ {A = ℕ} 0 1 = cc in omega arith
     go (field w rest) h k =
-        on (short input rest)
+        on (shortLine input rest)
         (λ q. let f = rw q at k in let same : w ≡ v = cc in omega (arith, field-below 10 input rest w h))
         (λ q. let f = rw q at k in let z : _≡_ {A = ℕ} 0 1 = cc in omega arith)
 

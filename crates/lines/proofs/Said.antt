@@ -8,7 +8,8 @@ use Rattle.lines.specs.declared.Budget.{Budget}
 use Rattle.lines.specs.declared.Budget.the-variants as budget
 use Rattle.lines.specs.declared.Size.{Size}
 use Rattle.lines.specs.declared.Size.the-variants as size
-use Rattle.lines.specs.Numbers.{Field, field, malformed, fieldOf, short, onField, onBudget, budgetOf, budgetCode, budgetNumbers, onSize, sizeOf, sizeSaid}
+use Rattle.lines.specs.Numbers.{Field, field, malformed, fieldOf, shortLine, onField, onBudget, budgetOf, budgetCode, budgetNumbers, onSize, sizeOf}
+use Rattle.lines.specs.Numbers.{sizeSaid}
 
 -- what is said of a field, and of a test
 said-field : {A : Type 0} (says : A → List ℕ) (f : Field) (a : A) (g : ℕ → List ℕ → A) (h : ℕ → List ℕ → List ℕ)
@@ -25,7 +26,7 @@ pub budget-said : (input : List ℕ) (r : Budget) → r ≡ budgetOf input
 budget-said input r e =
     let says : Budget → List ℕ = λ x. budgetCode x ∷ budgetNumbers x in
     let no = budget.Refused NumberLine in
-    (e, ap says e ∙ said-field says (fieldOf 10 input) no _ _ (λ v rest. said-if says (short input rest) (budget.Of v) no))
+    (e, ap says e ∙ said-field says (fieldOf 10 input) no _ _ (λ v rest. said-if says (shortLine input rest) (budget.Of v) no))
 
 pub size-said : (input : List ℕ) (r : Size) → r ≡ sizeOf input
     → (r ≡ sizeOf input) × (sizeSaid r ≡ onSize input (8 ∷ []) (λ n left right public. 0 ∷ (n ∷ (left ∷ (right ∷ (public ∷ []))))))
@@ -37,5 +38,5 @@ size-said input r e =
           ∙ said-field says (fieldOf 32 input) no _ _ (λ n second.
           said-field says (fieldOf 32 second) no _ _ (λ left third.
           said-field says (fieldOf 32 third) no _ _ (λ right fourth.
-          said-field says (fieldOf 10 fourth) no _ _ (λ public rest. said-if says (short input rest) (size.Of n left right public) no)))),
+          said-field says (fieldOf 10 fourth) no _ _ (λ public rest. said-if says (shortLine input rest) (size.Of n left right public) no)))),
     )

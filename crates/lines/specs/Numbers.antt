@@ -25,18 +25,18 @@ bounded (some v) rest = cond (ltb v (2 ^ 64)) (field v rest) malformed
 bounded none rest = malformed
 
 -- digits, and the text behind them, which is to start with the closing byte
-abbrev pub closed : ℕ → List ℕ → List ℕ → Field
-closed closing [] rest = malformed
-closed closing (d ∷ ds) [] = malformed
-closed closing (d ∷ ds) (b ∷ rest) = cond (eqb b closing) (bounded (digitsAfter 0 (d ∷ ds)) rest) malformed
+abbrev pub closedField : ℕ → List ℕ → List ℕ → Field
+closedField closing [] rest = malformed
+closedField closing (d ∷ ds) [] = malformed
+closedField closing (d ∷ ds) (b ∷ rest) = cond (eqb b closing) (bounded (digitsAfter 0 (d ∷ ds)) rest) malformed
 
 -- one or more digits in front of a text, at most 2 ^ 64 - 1, closed by a byte
 unfoldable pub fieldOf : ℕ → List ℕ → Field
-fieldOf closing text = closed closing (take (run isDigit text) text) (drop (run isDigit text) text)
+fieldOf closing text = closedField closing (take (run isDigit text) text) (drop (run isDigit text) text)
 
 -- a line of at most 100 bytes with its LF: how much of the input is read
-abbrev pub short : List ℕ → List ℕ → Bool
-short input rest = leb (length input - length rest) 100
+abbrev pub shortLine : List ℕ → List ℕ → Bool
+shortLine input rest = leb (length input - length rest) 100
 
 -- what a field leads to, with the text behind it
 abbrev pub onField {ℓ} : {A : Type ℓ} → Field → A → (ℕ → List ℕ → A) → A
@@ -45,7 +45,7 @@ onField (field v rest) a f = f v rest
 
 -- what the budget line leads to: digits and LF
 abbrev pub onBudget {ℓ} : {A : Type ℓ} → List ℕ → A → (ℕ → A) → A
-onBudget input a f = onField (fieldOf 10 input) a (λ v rest. cond (short input rest) (f v) a)
+onBudget input a f = onField (fieldOf 10 input) a (λ v rest. cond (shortLine input rest) (f v) a)
 
 -- the budget, or 8
 abbrev pub budgetOf : List ℕ → Budget
@@ -67,7 +67,7 @@ onSize input a f =
     onField (fieldOf 32 input) a (λ n second.
     onField (fieldOf 32 second) a (λ left third.
     onField (fieldOf 32 third) a (λ right fourth.
-    onField (fieldOf 10 fourth) a (λ public rest. cond (short input rest) (f n left right public) a))))
+    onField (fieldOf 10 fourth) a (λ public rest. cond (shortLine input rest) (f n left right public) a))))
 
 -- the four numbers, or 8
 abbrev pub sizeOf : List ℕ → Size

@@ -3,7 +3,7 @@ use Prim.Native.Nat.{ℕ, _-_}
 use mathlib.Core.Bool.{cond}
 use mathlib.Core.List.{List}
 use lib.ListN.{length, drop}
-use Rattle.lines.specs.Numbers.{Field, field, malformed, fieldOf, short, onField}
+use Rattle.lines.specs.Numbers.{Field, field, malformed, fieldOf, shortLine, onField}
 use Rattle.refusals.specs.declared.Refusal.the-variants.{NumberLine}
 use Rattle.lines.specs.declared.Budget.{Budget}
 use Rattle.lines.specs.declared.Budget.the-variants as budget
@@ -23,12 +23,12 @@ placeAt line at closing = placeOf line (fieldOf closing (drop at line))
 
 -- what the budget line's one field leads to
 abbrev pub budgetFrom : List ℕ → Field → Budget
-budgetFrom input f = onField f (budget.Refused NumberLine) (λ v rest. cond (short input rest) (budget.Of v) (budget.Refused NumberLine))
+budgetFrom input f = onField f (budget.Refused NumberLine) (λ v rest. cond (shortLine input rest) (budget.Of v) (budget.Refused NumberLine))
 
 -- what the dimension line comes to by its fourth field
 abbrev pub fourthFrom : List ℕ → ℕ → ℕ → ℕ → Field → Size
 fourthFrom input n left right f =
-    onField f (size.Refused NumberLine) (λ public rest. cond (short input rest) (size.Of n left right public) (size.Refused NumberLine))
+    onField f (size.Refused NumberLine) (λ public rest. cond (shortLine input rest) (size.Of n left right public) (size.Refused NumberLine))
 
 -- by its third field
 abbrev pub thirdFrom : List ℕ → ℕ → ℕ → Field → Size

@@ -19,7 +19,7 @@ use Rattle.gates.specs.Gates.Gate.{XOR, AND, INV}
 use Rattle.gates.proofs.Circuits.{reads, ordered}
 use Rattle.bristol_line.specs.Lines.{line, sizeLine, inputLine, outputLine, gateLine}
 use Rattle.bristol_line.proofs.Lengths.{size-length, input-length, output-length}
-use Rattle.bristol.specs.Text.{gateLines, linesOf, circuitText}
+use Rattle.bristol.specs.Text.{gateLines, circuitLines, circuitText}
 
 -- two of one byte, three numbers and a kind
 two-inputs : (a b wire : ℕ) (kind : List ℕ) → a < 10000 → b < 10000 → wire < 10000 → length kind ≤ 3
@@ -68,7 +68,7 @@ gates-short wire (g ∷ gs) h e =
 
 text-short : (d : Dimensions) (gs : List Gate) → inputWires d + length gs ≤ 10000 → ordered (inputWires d) gs
     ≡ true → length (circuitText d gs) ≤ 382 + 23 * length gs
-unfolding circuitText linesOf flatten
+unfolding circuitText circuitLines flatten
 text-short d gs h e =
     omega (
       arith,

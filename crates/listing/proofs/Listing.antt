@@ -33,7 +33,7 @@ use Rattle.netlist.specs.Netlist.{gatesOn}
 use Rattle.netlist.proofs.Counts.{gates-length}
 use Rattle.netlist.proofs.EveryState.{gates-accepted}
 use Rattle.generator.specs.declared.Generated.the-variants as generated′
-use Rattle.generator.specs.Generation.{generatorChecks, generated, written}
+use Rattle.generator.specs.Generation.{generatorChecks, generated, writtenWords}
 use Rattle.bristol.specs.declared.WrittenLines.{WrittenLines}
 use Rattle.bristol.specs.declared.WrittenLines.the-variants as lines
 use Rattle.bristol.specs.Text.{circuitText}
@@ -141,7 +141,7 @@ pub record Served (d : Dimensions) (k : ℕ) (words : List ℕ) : Type 0 where
   pub short : length (circuitText d (gatesOf (take (3 * k) words))) ≤ 131072
 
 pub served : (d : Dimensions) (words left : List ℕ) (k : ℕ) → length words ≡ 16383 → generated d words ≡ generated′.Of k
-    → left ≡ written d words → Served d k left
+    → left ≡ writtenWords d words → Served d k left
 served d words left k h g l = go (outcome (generatorChecks d words)) refl g l
   where
     go : (o : Outcome) → outcome (generatorChecks d words) ≡ o → given o (generated′.Of (length (gatesOn d))) generated′.Refused ≡ generated′.Of k

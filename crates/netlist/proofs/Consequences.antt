@@ -20,7 +20,7 @@ use Rattle.state.specs.WellFormed.{wellFormedState}
 use Rattle.scan.specs.Rules.{rule}
 use Rattle.solver.specs.Step.{follow, step}
 use Rattle.gates.specs.Memory.{bytesOf, bits}
-use Rattle.two_pass.specs.Evaluation.{checks, filled}
+use Rattle.two_pass.specs.Evaluation.{evaluationChecks, filledWires}
 use Rattle.wires.specs.Layout.{stateBits}
 use Rattle.wires.specs.Packing.{inputBits}
 use Rattle.netlist.specs.Outputs.{closed, outputBits, outputsIn, CarriesOut}
@@ -32,13 +32,13 @@ module _ (d : Dimensions) (gates : List ℕ) (carries : CarriesOut d gates) wher
 
   -- the evaluator takes the gates on any bytes that are wires, those of no state too
   pub any-inputs : (inputs wires : List ℕ) → length inputs ≡ inputWires d → bits inputs ≡ true → inputWires d + ceiling d ≤ length wires
-      → outcome (checks gates inputs wires) ≡ Taken
+      → outcome (evaluationChecks gates inputs wires) ≡ Taken
   any-inputs inputs wires l b h =
       rw (l, carries .taken, le-ltb (length wires) (inputWires d + length gates / 3) (ceiling-enough wires h), b)
 
   module _ (tables : Tables) (s : State) (wires : List ℕ) (formed : wellFormedState (d .n) s ≡ true) (long : inputWires d + ceiling d ≤ length wires) where
     abbrev out : List ℕ
-    out = outputsIn d gates (filled gates (bytesOf (inputBits d tables s)) wires)
+    out = outputsIn d gates (filledWires gates (bytesOf (inputBits d tables s)) wires)
 
     -- a closed state passes through, and the closing wire is 1
     pub closed-passes : closed s ≡ true → out ≡ bytesOf (stateBits (d .n) s ++ (true ∷ []))

@@ -26,7 +26,7 @@ use Rattle.state.specs.WellFormed.{wellFormedState}
 use Rattle.solver.specs.Step.{step}
 use Rattle.gates.specs.Gates.{wiresOf}
 use Rattle.gates.specs.Memory.{wordsOf, accepted, bytesOf, over}
-use Rattle.two_pass.specs.Evaluation.{checks, filled}
+use Rattle.two_pass.specs.Evaluation.{evaluationChecks, filledWires}
 use Rattle.gates.proofs.Circuits.{ordered, wires-length}
 use Rattle.gates.proofs.InMemory.{accepted-words, words-length}
 use Rattle.two_pass.proofs.Evaluation.{evaluates}
@@ -116,8 +116,8 @@ module _ (d : Dimensions) (fits : outcome (sizeChecks d) ≡ Taken) where
 
     -- the evaluator takes the packed bytes, and fills the buffer's front
     pub evaluated : (wires : List ℕ) → inputWires d + length (gatesOn d) ≤ length wires
-        → (outcome (checks (wordsOf (gatesOn d)) (bytesOf bits) wires) ≡ Taken)
-        × (filled (wordsOf (gatesOn d)) (bytesOf bits) wires ≡ over (bytesOf (wiresOf bits (gatesOn d))) wires)
+        → (outcome (evaluationChecks (wordsOf (gatesOn d)) (bytesOf bits) wires) ≡ Taken)
+        × (filledWires (wordsOf (gatesOn d)) (bytesOf bits) wires ≡ over (bytesOf (wiresOf bits (gatesOn d))) wires)
     evaluated wires h =
         let l = input-length d tables s in
         evaluates bits (gatesOn d) wires (ap (λ (k : ℕ). ordered k (gatesOn d)) l ∙ gates-ordered)

@@ -15,7 +15,7 @@ use Rattle.state.specs.State.{State, ifOpen}
 use Rattle.state.specs.WellFormed.{wellFormedState}
 use Rattle.solver.specs.Step.{step}
 use Rattle.gates.specs.Memory.{accepted, bytesOf}
-use Rattle.two_pass.specs.Evaluation.{checks, filled}
+use Rattle.two_pass.specs.Evaluation.{evaluationChecks, filledWires}
 use Rattle.wires.specs.Layout.{stateBits}
 use Rattle.wires.specs.Packing.{inputBits}
 
@@ -39,5 +39,5 @@ pub record CarriesOut (d : Dimensions) (gates : List ℕ) : Type 0 where
   pub few : length gates ≤ 3 * ceiling d
   pub taken : accepted (inputWires d) gates ≡ true
   pub steps : (tables : Tables) (s : State) (wires : List ℕ) → wellFormedState (d .n) s ≡ true → inputWires d + length gates / 3 ≤ length wires
-      → (outcome (checks gates (bytesOf (inputBits d tables s)) wires) ≡ Taken)
-      × (outputsIn d gates (filled gates (bytesOf (inputBits d tables s)) wires) ≡ bytesOf (outputBits (d .n) (rowsOf d tables) s))
+      → (outcome (evaluationChecks gates (bytesOf (inputBits d tables s)) wires) ≡ Taken)
+      × (outputsIn d gates (filledWires gates (bytesOf (inputBits d tables s)) wires) ≡ bytesOf (outputBits (d .n) (rowsOf d tables) s))

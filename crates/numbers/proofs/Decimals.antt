@@ -10,7 +10,7 @@ use lib.Dec.{eqb, leb}
 use lib.ListN.{length, take, drop, getD, drop-of-length-le}
 use lib.Seq.{drop-cons, take-all}
 use borrow.Author.Tests.{leb-true, eq-eqb, ne-eqb}
-use Rattle.numbers.specs.Numbers.{isDigit, digitsAfter, decimalOf, positive, negative, numberOf}
+use Rattle.numbers.specs.Numbers.{isDigit, digitsAfter, decimalOf, positive, negative, numberRead}
 use Rattle.numbers.specs.Numbers as N
 use Rattle.numbers.specs.Held.{leadingZero, held, digitsHeld, numberHeld}
 use Rattle.numbers.specs.declared.Number.{Number}
@@ -75,29 +75,29 @@ zero-long (b ∷ (d ∷ ds)) h = refl
 
 -- ---- signs
 
-pub number-empty : (word : List ℕ) → length word ≡ 0 → numberOf word ≡ N.malformed
-unfolding numberOf
+pub number-empty : (word : List ℕ) → length word ≡ 0 → numberRead word ≡ N.malformed
+unfolding numberRead
 number-empty [] e = refl
 number-empty (b ∷ bs) e = absurd (omega arith)
 
 module _ (word : List ℕ) (bytes : length word ≡ 0 → ⊥) where
   module _ (h : getD word 0 0 ≡ 45 → ⊥) where
-    plain-number : numberOf word ≡ positive (decimalOf word)
-    unfolding numberOf
+    plain-number : numberRead word ≡ positive (decimalOf word)
+    unfolding numberRead
     plain-number = go word bytes h
       where
-        go : (word : List ℕ) → (length word ≡ 0 → ⊥) → (getD word 0 0 ≡ 45 → ⊥) → numberOf word ≡ positive (decimalOf word)
+        go : (word : List ℕ) → (length word ≡ 0 → ⊥) → (getD word 0 0 ≡ 45 → ⊥) → numberRead word ≡ positive (decimalOf word)
         go [] h e = absurd (h refl)
         go (b ∷ bs) h e = rw (ne-eqb b 45 e)
 
-    pub plain-value : (v : ℕ) → digitsHeld (decimalOf word) ≡ D.Value v → numberHeld (numberOf word) ≡ Value false v
+    pub plain-value : (v : ℕ) → digitsHeld (decimalOf word) ≡ D.Value v → numberHeld (numberRead word) ≡ Value false v
     plain-value v e = ap numberHeld plain-number ∙ go (decimalOf word) e
       where
         go : (d : Option ℕ) → digitsHeld d ≡ D.Value v → numberHeld (positive d) ≡ Value false v
         go (some x) e = ap (Value false) (let i : held x ≡ v = cc in i)
         go none e = absurd (let z : _≡_ {A = ℕ} 0 1 = cc in omega arith)
 
-    pub plain-none : digitsHeld (decimalOf word) ≡ D.Malformed → numberHeld (numberOf word) ≡ Malformed
+    pub plain-none : digitsHeld (decimalOf word) ≡ D.Malformed → numberHeld (numberRead word) ≡ Malformed
     plain-none e = ap numberHeld plain-number ∙ go (decimalOf word) e
       where
         go : (d : Option ℕ) → digitsHeld d ≡ D.Malformed → numberHeld (positive d) ≡ Malformed
@@ -108,15 +108,15 @@ module _ (word : List ℕ) (bytes : length word ≡ 0 → ⊥) where
     abbrev rest : List ℕ
     rest = take (length word - 1) (drop 1 word)
 
-    minus-number : numberOf word ≡ negative (decimalOf rest)
-    unfolding numberOf
+    minus-number : numberRead word ≡ negative (decimalOf rest)
+    unfolding numberRead
     minus-number = go word bytes h
       where
-        go : (word : List ℕ) → (length word ≡ 0 → ⊥) → getD word 0 0 ≡ 45 → numberOf word ≡ negative (decimalOf (take (length word - 1) (drop 1 word)))
+        go : (word : List ℕ) → (length word ≡ 0 → ⊥) → getD word 0 0 ≡ 45 → numberRead word ≡ negative (decimalOf (take (length word - 1) (drop 1 word)))
         go [] h e = absurd (h refl)
         go (b ∷ bs) h e = rw (eq-eqb b 45 e, take-all (suc (length bs) - 1) bs (omega arith))
 
-    pub minus-none : digitsHeld (decimalOf rest) ≡ D.Malformed → numberHeld (numberOf word) ≡ Malformed
+    pub minus-none : digitsHeld (decimalOf rest) ≡ D.Malformed → numberHeld (numberRead word) ≡ Malformed
     minus-none e = ap numberHeld minus-number ∙ go (decimalOf rest) e
       where
         go : (d : Option ℕ) → digitsHeld d ≡ D.Malformed → numberHeld (negative d) ≡ Malformed
@@ -124,7 +124,7 @@ module _ (word : List ℕ) (bytes : length word ≡ 0 → ⊥) where
         go none e = refl
 
     module _ (v : ℕ) (e : digitsHeld (decimalOf rest) ≡ D.Value v) where
-      pub minus-zero : v ≡ 0 → numberHeld (numberOf word) ≡ Malformed
+      pub minus-zero : v ≡ 0 → numberHeld (numberRead word) ≡ Malformed
       minus-zero z = ap numberHeld minus-number ∙ go (decimalOf rest) e
         where
           go : (d : Option ℕ) → digitsHeld d ≡ D.Value v → numberHeld (negative d) ≡ Malformed
@@ -132,7 +132,7 @@ module _ (word : List ℕ) (bytes : length word ≡ 0 → ⊥) where
           go (some (suc x)) e = absurd (let i : held (suc x) ≡ v = cc in omega arith)
           go none e = refl
 
-      pub minus-value : (v ≡ 0 → ⊥) → numberHeld (numberOf word) ≡ Value true v
+      pub minus-value : (v ≡ 0 → ⊥) → numberHeld (numberRead word) ≡ Value true v
       minus-value z = ap numberHeld minus-number ∙ go (decimalOf rest) e
         where
           go : (d : Option ℕ) → digitsHeld d ≡ D.Value v → numberHeld (negative d) ≡ Value true v

@@ -37,6 +37,6 @@ negative (some (suc v)) = number true (suc v)
 negative none = malformed
 
 -- an optional minus, then digits
-unfoldable pub numberOf : List ℕ → Number
-numberOf [] = malformed
-numberOf (b ∷ bs) = cond (eqb b 45) (negative (decimalOf bs)) (positive (decimalOf (b ∷ bs)))
+unfoldable pub numberRead : List ℕ → Number
+numberRead [] = malformed
+numberRead (b ∷ bs) = cond (eqb b 45) (negative (decimalOf bs)) (positive (decimalOf (b ∷ bs)))

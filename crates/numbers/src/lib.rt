@@ -3,7 +3,7 @@
 // Nothing here is turned back: each public function is total, whatever bytes it is handed.
 ghost use mathlib.Core.Path.{_≡_};
 ghost use Prim.Native.Nat.{_+_, _*_, _-_, _≤_};
-ghost use Rattle.numbers.specs.Numbers.{isDigit, decimalOf, numberOf};
+ghost use Rattle.numbers.specs.Numbers.{isDigit, decimalOf, numberRead};
 ghost use Rattle.numbers.specs.Held.{leadingZero, held, digitsHeld, numberHeld};
 
 // Whether the number has a minus, and its value; 1000 stands for every greater one.
@@ -70,7 +70,7 @@ fn read_digits(word: &[u8]) -> Digits
 
 // The number that a token is.
 pub fn read_number(word: &[u8]) -> Number
-    ensures { λ r. ⌜ r ≡ numberHeld (numberOf (now (word .entry))) ⌝ }
+    ensures { λ r. ⌜ r ≡ numberHeld (numberRead (now (word .entry))) ⌝ }
 {
     if word.len() == 0 {
         return Number::Malformed;

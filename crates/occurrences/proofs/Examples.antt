@@ -9,7 +9,7 @@ use Rattle.dimensions.specs.Sizes.{dimensions}
 use Rattle.tables.specs.declared.Row.{Row}
 use Rattle.tables.specs.Tables.{allTables}
 use Rattle.tables.specs.Rows.{rowsOf}
-use Rattle.occurrences.specs.Index.{at, rowSet, literal, indexOf}
+use Rattle.occurrences.specs.Index.{at, rowSet, holdsLiteral, indexOf}
 use Rattle.occurrences.specs.RowWords.{gathered, literalsOf, replacedSets}
 
 -- positive, then negative word
@@ -26,7 +26,7 @@ unfolding indexOf at bit wordOf
 whole = refl
 
 -- the seventy-first row is bit 6 of its sets' second words
-row-70 : rowSet (literal true 31) (replicate 70 (row 0 0) ++ (row 2147483648 0 ∷ [])) ≡ 0 ∷ 64 ∷ 0 ∷ 0 ∷ 0 ∷ 0 ∷ []
+row-70 : rowSet (holdsLiteral true 31) (replicate 70 (row 0 0) ++ (row 2147483648 0 ∷ [])) ≡ 0 ∷ 64 ∷ 0 ∷ 0 ∷ 0 ∷ 0 ∷ []
 unfolding at bit wordOf
 row-70 = refl
 

@@ -15,7 +15,7 @@ use Rattle.tables.specs.Rows.{rowAt, rowsFrom, rowsOf}
 use Rattle.tables.specs.Acceptance.{tableChecks}
 use Rattle.tables.proofs.Accepted.{Accepted, accepted}
 use Rattle.occurrences.specs.Index.{indexOf}
-use Rattle.occurrences.specs.RowWords.{wordsOf, allWords, gathered}
+use Rattle.occurrences.specs.RowWords.{tableWords, allWords, gathered}
 
 -- the same words give the same rows, wherever they stand
 rows-cong : (k : ℕ) (v w : List ℕ) (i j : ℕ) → ((n : ℕ) → n < 2 * k → getD v (2 * i + n) 0 ≡ getD w (2 * j + n) 0) → rowsFrom v i k ≡ rowsFrom w j k
@@ -46,7 +46,7 @@ rows-split w (suc a) i b =
 -- a table's words, and others behind them
 module _ (rows : ℕ) (words rest : List ℕ) (h : 2 * rows ≤ length words) where
   abbrev own : List ℕ
-  own = wordsOf rows words
+  own = tableWords rows words
 
   long : length own ≡ 2 * rows
   long = length-take-le (2 * rows) words h
@@ -59,7 +59,7 @@ module _ (rows : ℕ) (words rest : List ℕ) (h : 2 * rows ≤ length words) wh
       let e : 2 * (0 + rows) + n ≡ length own + (2 * 0 + n) = omega (arith, long) in
       ap (λ (x : ℕ). getD (own ++ rest) x 0) e ∙ getD-append-add own rest (2 * 0 + n) 0
 
-  one-table : (k : ℕ) → rowsFrom (wordsOf rows words ++ rest) 0 (rows + k) ≡ rowsFrom words 0 rows ++ rowsFrom rest 0 k
+  one-table : (k : ℕ) → rowsFrom (tableWords rows words ++ rest) 0 (rows + k) ≡ rowsFrom words 0 rows ++ rowsFrom rest 0 k
   one-table k =
       rows-split (own ++ rest) rows 0 k
       ∙ ap₂ (λ (x y : List Row). x ++ y) (rows-cong rows (own ++ rest) words 0 0 before) (rows-cong k (own ++ rest) rest (0 + rows) 0 (λ n b. behind n))
@@ -67,24 +67,24 @@ module _ (rows : ℕ) (words rest : List ℕ) (h : 2 * rows ≤ length words) wh
 -- three tables, stored where there is a place for all
 module _ (l : List ℕ) (a b c : ℕ) (x y z : List ℕ) (hx : 2 * a ≤ length x) (hy : 2 * b ≤ length y) (hz : 2 * c ≤ length z) where
   abbrev all : List ℕ
-  all = wordsOf a x ++ (wordsOf b y ++ wordsOf c z)
+  all = tableWords a x ++ (tableWords b y ++ tableWords c z)
 
   all-long : length all ≡ 2 * (a + b + c)
   all-long =
-      length-append (wordsOf a x) (wordsOf b y ++ wordsOf c z)
-      ∙ omega (arith, length-append (wordsOf b y) (wordsOf c z), length-take-le (2 * a) x hx, length-take-le (2 * b) y hy, length-take-le (2 * c) z hz)
+      length-append (tableWords a x) (tableWords b y ++ tableWords c z)
+      ∙ omega (arith, length-append (tableWords b y) (tableWords c z), length-take-le (2 * a) x hx, length-take-le (2 * b) y hy, length-take-le (2 * c) z hz)
 
   three-tables : 2 * (a + b + c) ≤ length l → rowsFrom (sets l 0 all) 0 (a + b + c) ≡ rowsFrom x 0 a ++ (rowsFrom y 0 b ++ rowsFrom z 0 c)
   three-tables few =
       let rest = drop (0 + length all) l in
       let m : a + b + c ≡ a + (b + (c + 0)) = omega arith in
       ap₂ (λ (w : List ℕ) (k : ℕ). rowsFrom w 0 k)
-      (sets-eq all l 0 (omega (arith, all-long)) ∙ append-assoc (wordsOf a x) (wordsOf b y ++ wordsOf c z) rest
-      ∙ ap (λ (w : List ℕ). wordsOf a x ++ w) (append-assoc (wordsOf b y) (wordsOf c z) rest))
+      (sets-eq all l 0 (omega (arith, all-long)) ∙ append-assoc (tableWords a x) (tableWords b y ++ tableWords c z) rest
+      ∙ ap (λ (w : List ℕ). tableWords a x ++ w) (append-assoc (tableWords b y) (tableWords c z) rest))
       m
-      ∙ one-table a x (wordsOf b y ++ (wordsOf c z ++ rest)) hx (b + (c + 0))
+      ∙ one-table a x (tableWords b y ++ (tableWords c z ++ rest)) hx (b + (c + 0))
       ∙ ap (λ (rs : List Row). rowsFrom x 0 a ++ rs)
-      (one-table b y (wordsOf c z ++ rest) hy (c + 0)
+      (one-table b y (tableWords c z ++ rest) hy (c + 0)
       ∙ ap (λ (rs : List Row). rowsFrom y 0 b ++ rs) (one-table c z rest hz 0 ∙ append-nil (rowsFrom z 0 c)))
 
 pub gathered-length : (d : Dimensions) (tables : Tables) → length (gathered d tables) ≡ 768

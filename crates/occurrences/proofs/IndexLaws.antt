@@ -7,7 +7,7 @@ use native.Mathlib.Omega.{arith}
 use lib.ListN.{length, getD, length-append, List·getD-append}
 use lib.Seq.{getD-append-add}
 use Rattle.tables.specs.declared.Row.{Row}
-use Rattle.occurrences.specs.Index.{wordAt, rowSet, literal, setsFrom, indexOf}
+use Rattle.occurrences.specs.Index.{wordAt, rowSet, holdsLiteral, setsFrom, indexOf}
 
 module _ (rows : List Row) where
   -- the place of a word of a set
@@ -22,23 +22,24 @@ module _ (rows : List Row) where
 
   sets-length : (sign : Bool) (k v : ℕ) → length (setsFrom sign rows v k) ≡ 6 * k
   sets-length sign zero v = refl
-  sets-length sign (suc k) v = let h = sets-length sign k (suc v) in length-append (rowSet (literal sign v) rows) (setsFrom sign rows (suc v) k) ∙ omega arith
+  sets-length sign (suc k) v = let h = sets-length sign k (suc v) in
+      length-append (rowSet (holdsLiteral sign v) rows) (setsFrom sign rows (suc v) k) ∙ omega arith
 
   -- of k variables from v on, the set of variable v + i
-  sets-at : (sign : Bool) (k v i w : ℕ) → i < k → w < 6 → getD (setsFrom sign rows v k) (6 * i + w) 0 ≡ wordAt (literal sign (v + i)) rows w
+  sets-at : (sign : Bool) (k v i w : ℕ) → i < k → w < 6 → getD (setsFrom sign rows v k) (6 * i + w) 0 ≡ wordAt (holdsLiteral sign (v + i)) rows w
   sets-at sign zero v i w b h = absurd (omega arith)
   sets-at sign (suc k) v zero w b h =
       let e : 6 * 0 + w ≡ w = omega arith in
       let z : v ≡ v + 0 = omega arith in
       ap (λ (x : ℕ). getD (setsFrom sign rows v (suc k)) x 0) e
-      ∙ List·getD-append (rowSet (literal sign v) rows) (setsFrom sign rows (suc v) k) 0 w h
-      ∙ set-at (literal sign v) w h ∙ ap (λ (x : ℕ). wordAt (literal sign x) rows w) z
+      ∙ List·getD-append (rowSet (holdsLiteral sign v) rows) (setsFrom sign rows (suc v) k) 0 w h
+      ∙ set-at (holdsLiteral sign v) w h ∙ ap (λ (x : ℕ). wordAt (holdsLiteral sign x) rows w) z
   sets-at sign (suc k) v (suc i) w b h =
       let e : 6 * suc i + w ≡ 6 + (6 * i + w) = omega arith in
       let z : suc v + i ≡ v + suc i = omega arith in
       ap (λ (x : ℕ). getD (setsFrom sign rows v (suc k)) x 0) e
-      ∙ getD-append-add (rowSet (literal sign v) rows) (setsFrom sign rows (suc v) k) (6 * i + w) 0
-      ∙ sets-at sign k (suc v) i w (omega arith) h ∙ ap (λ (x : ℕ). wordAt (literal sign x) rows w) z
+      ∙ getD-append-add (rowSet (holdsLiteral sign v) rows) (setsFrom sign rows (suc v) k) (6 * i + w) 0
+      ∙ sets-at sign k (suc v) i w (omega arith) h ∙ ap (λ (x : ℕ). wordAt (holdsLiteral sign x) rows w) z
 
   pub index-length : length (indexOf rows) ≡ 384
   unfolding indexOf
@@ -48,25 +49,25 @@ module _ (rows : List Row) where
     plain : 0 + v ≡ v
     plain = omega arith
 
-    pub positive-at : getD (indexOf rows) (6 * v + w) 0 ≡ wordAt (literal true v) rows w
+    pub positive-at : getD (indexOf rows) (6 * v + w) 0 ≡ wordAt (holdsLiteral true v) rows w
     unfolding indexOf
     positive-at =
         List·getD-append (setsFrom true rows 0 32) (setsFrom false rows 0 32) 0 (6 * v + w) (omega (arith, sets-length true 32 0))
-        ∙ sets-at true 32 0 v w b h ∙ ap (λ (x : ℕ). wordAt (literal true x) rows w) plain
+        ∙ sets-at true 32 0 v w b h ∙ ap (λ (x : ℕ). wordAt (holdsLiteral true x) rows w) plain
 
-    pub negative-at : getD (indexOf rows) (6 * (32 + v) + w) 0 ≡ wordAt (literal false v) rows w
+    pub negative-at : getD (indexOf rows) (6 * (32 + v) + w) 0 ≡ wordAt (holdsLiteral false v) rows w
     unfolding indexOf
     negative-at =
         let e : 6 * (32 + v) + w ≡ length (setsFrom true rows 0 32) + (6 * v + w) = omega (arith, sets-length true 32 0) in
         ap (λ (x : ℕ). getD (setsFrom true rows 0 32 ++ setsFrom false rows 0 32) x 0) e
         ∙ getD-append-add (setsFrom true rows 0 32) (setsFrom false rows 0 32) (6 * v + w) 0
-        ∙ sets-at false 32 0 v w b h ∙ ap (λ (x : ℕ). wordAt (literal false x) rows w) plain
+        ∙ sets-at false 32 0 v w b h ∙ ap (λ (x : ℕ). wordAt (holdsLiteral false x) rows w) plain
 
 -- the number of a literal
 abbrev pub place : Bool → ℕ → ℕ
 place true v = v
 place false v = 32 + v
 
-pub literal-at : (rows : List Row) (sign : Bool) (v w : ℕ) → v < 32 → w < 6 → getD (indexOf rows) (6 * place sign v + w) 0 ≡ wordAt (literal sign v) rows w
+pub literal-at : (rows : List Row) (sign : Bool) (v w : ℕ) → v < 32 → w < 6 → getD (indexOf rows) (6 * place sign v + w) 0 ≡ wordAt (holdsLiteral sign v) rows w
 literal-at rows true v w b h = positive-at rows v w b h
 literal-at rows false v w b h = negative-at rows v w b h

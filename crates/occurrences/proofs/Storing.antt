@@ -13,7 +13,7 @@ use Rattle.words.proofs.Truth.{on, and-l, and-r}
 use Rattle.words.proofs.Stores.{sets-append}
 use Rattle.dimensions.specs.declared.Dimensions.{Dimensions}
 use Rattle.tables.specs.Tables.{Tables}
-use Rattle.occurrences.specs.RowWords.{wordsOf, gathered}
+use Rattle.occurrences.specs.RowWords.{tableWords, gathered}
 
 -- no place
 sets-out : (xs l : List ℕ) (i : ℕ) → length l ≤ i → sets l i xs ≡ l
@@ -22,30 +22,30 @@ sets-out (x ∷ xs) l i h = ap (λ (k : List ℕ). sets k (suc i) xs) (set-out l
 
 module _ (rows : ℕ) (words : List ℕ) where
   -- how many they are, by two ways
-  pub all-asked : 2 * rows < length words → 2 * rows ≡ length (wordsOf rows words)
+  pub all-asked : 2 * rows < length words → 2 * rows ≡ length (tableWords rows words)
   all-asked h = sym (length-take-le (2 * rows) words (omega arith))
 
-  pub all-given : length words ≤ 2 * rows → length words ≡ length (wordsOf rows words)
+  pub all-given : length words ≤ 2 * rows → length words ≡ length (tableWords rows words)
   all-given h = sym (ap length (take-all (2 * rows) words h))
 
-  module _ (k : ℕ) (h : k < length (wordsOf rows words)) where
+  module _ (k : ℕ) (h : k < length (tableWords rows words)) where
     -- each is a word of the buffer
     pub part-within : k < length words
     part-within = omega (arith, length-take (2 * rows) words)
 
-    part-at : getD words k 0 ≡ getD (wordsOf rows words) k 0
+    part-at : getD words k 0 ≡ getD (tableWords rows words) k 0
     part-at = sym (getD-take (2 * rows) words k 0 (omega (arith, length-take (2 * rows) words)))
 
 -- of a table's words, `end` in all, the first k are stored in l from place i on
 pub record Stored (rows : ℕ) (words l : List ℕ) (i end : ℕ) (all : List ℕ) (k : ℕ) : Type 0 where
-  pub count : end ≡ length (wordsOf rows words)
+  pub count : end ≡ length (tableWords rows words)
   pub few : end ≤ 510
   pub upto : k ≤ end
-  pub so-far : all ≡ sets l i (take k (wordsOf rows words))
+  pub so-far : all ≡ sets l i (take k (tableWords rows words))
 
 module _ (rows : ℕ) (words l : List ℕ) (i end : ℕ) (all : List ℕ) (k : ℕ) (stored : Stored rows words l i end all k) where
   abbrev xs : List ℕ
-  xs = wordsOf rows words
+  xs = tableWords rows words
 
   pub stored-length : length all ≡ length l
   stored-length = ap length (stored .so-far) ∙ length-sets l i (take k xs)
@@ -75,7 +75,7 @@ module _ (rows : ℕ) (words l : List ℕ) (i end : ℕ) (all : List ℕ) (k : �
         }
 
   -- all of them, or all that have a place
-  pub stored-all : ltb k end && ltb (i + k) (length all) ≡ false → all ≡ sets l i (wordsOf rows words)
+  pub stored-all : ltb k end && ltb (i + k) (length all) ≡ false → all ≡ sets l i (tableWords rows words)
   stored-all none =
       let h : k ≤ length xs = omega (arith, stored .upto, stored .count) in
       on (ltb k end)
@@ -89,13 +89,13 @@ module _ (rows : ℕ) (words l : List ℕ) (i end : ℕ) (all : List ℕ) (k : �
 -- ---- three tables
 
 pub gathered-is : (d : Dimensions) (tables : Tables) (x y z : List ℕ) (i j : ℕ)
-    → i ≡ 0 + length (wordsOf (d .left) (tables .left)) → x ≡ sets (replicate 768 0) 0 (wordsOf (d .left) (tables .left))
-    → j ≡ i + length (wordsOf (d .right) (tables .right)) → y ≡ sets x i (wordsOf (d .right) (tables .right))
-    → z ≡ sets y j (wordsOf (d .public) (tables .public)) → z ≡ gathered d tables
+    → i ≡ 0 + length (tableWords (d .left) (tables .left)) → x ≡ sets (replicate 768 0) 0 (tableWords (d .left) (tables .left))
+    → j ≡ i + length (tableWords (d .right) (tables .right)) → y ≡ sets x i (tableWords (d .right) (tables .right))
+    → z ≡ sets y j (tableWords (d .public) (tables .public)) → z ≡ gathered d tables
 unfolding gathered
 gathered-is d tables x y z i j ei ex ej ey ez =
-    let l = wordsOf (d .left) (tables .left) in
-    let r = wordsOf (d .right) (tables .right) in
-    let p = wordsOf (d .public) (tables .public) in
+    let l = tableWords (d .left) (tables .left) in
+    let r = tableWords (d .right) (tables .right) in
+    let p = tableWords (d .public) (tables .public) in
     ez ∙ ap₂ (λ (a : List ℕ) (k : ℕ). sets a k p) (ey ∙ ap₂ (λ (a : List ℕ) (k : ℕ). sets a k r) ex ei) (ej ∙ ap (λ (k : ℕ). k + length r) ei)
     ∙ sym (sets-append l (r ++ p) (replicate 768 0) 0 ∙ sets-append r p (sets (replicate 768 0) 0 l) (0 + length l))

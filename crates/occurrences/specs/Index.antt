@@ -20,14 +20,14 @@ abbrev pub rowSet : (Row → Bool) → List Row → List ℕ
 rowSet p rows = wordAt p rows 0 ∷ (wordAt p rows 1 ∷ (wordAt p rows 2 ∷ (wordAt p rows 3 ∷ (wordAt p rows 4 ∷ (wordAt p rows 5 ∷ [])))))
 
 -- the row holds the variable with this sign
-abbrev pub literal : Bool → ℕ → Row → Bool
-literal true v r = bit (r .positive) v
-literal false v r = bit (r .negative) v
+abbrev pub holdsLiteral : Bool → ℕ → Row → Bool
+holdsLiteral true v r = bit (r .positive) v
+holdsLiteral false v r = bit (r .negative) v
 
 -- the sets of k variables from v on
 abbrev pub setsFrom : Bool → List Row → ℕ → ℕ → List ℕ
 setsFrom sign rows v zero = []
-setsFrom sign rows v (suc k) = rowSet (literal sign v) rows ++ setsFrom sign rows (suc v) k
+setsFrom sign rows v (suc k) = rowSet (holdsLiteral sign v) rows ++ setsFrom sign rows (suc v) k
 
 -- for each literal the set of rows that hold it: the positive ones from variable 1, then the negative ones
 unfoldable pub indexOf : List Row → List ℕ

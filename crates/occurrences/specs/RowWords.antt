@@ -11,15 +11,16 @@ use Rattle.words.specs.Sets.{bit, wordOf}
 use Rattle.dimensions.specs.declared.Dimensions.{Dimensions}
 use Rattle.tables.specs.declared.Row.{Row}
 use Rattle.tables.specs.Tables.{Tables}
-use Rattle.occurrences.specs.Index.{literal}
+use Rattle.occurrences.specs.Index.{holdsLiteral}
 
 -- the words of a table's rows, of as many as there are
-abbrev pub wordsOf : ℕ → List ℕ → List ℕ
-wordsOf rows words = take (2 * rows) words
+abbrev pub tableWords : ℕ → List ℕ → List ℕ
+tableWords rows words = take (2 * rows) words
 
 -- those of the left rows, the right and the public ones, one behind the other
 abbrev pub allWords : Dimensions → Tables → List ℕ
-allWords d tables = wordsOf (d .left) (tables .left) ++ (wordsOf (d .right) (tables .right) ++ wordsOf (d .public) (tables .public))
+allWords d tables = tableWords (d .left) (tables .left)
+    ++ (tableWords (d .right) (tables .right) ++ tableWords (d .public) (tables .public))
 
 -- the same among 768 words, with zeros behind them; what has no place is left out
 unfoldable pub gathered : Dimensions → Tables → List ℕ
@@ -27,7 +28,7 @@ gathered d tables = sets (replicate 768 0) 0 (allWords d tables)
 
 -- the row holds the literal of this number, in the index's order
 abbrev pub numbered : ℕ → Row → Bool
-numbered l = literal (ltb l 32) (l % 32)
+numbered l = holdsLiteral (ltb l 32) (l % 32)
 
 -- the numbers of the row's literals, as a set
 unfoldable pub literalsOf : Row → ℕ

@@ -12,14 +12,14 @@ ghost use Rattle.words.specs.Sameness as Sameness;
 ghost use Rattle.tables.specs.Tables.{allTables};
 ghost use Rattle.tables.specs.Rows.{rowsFrom};
 ghost use Rattle.occurrences.specs.Index.{indexOf};
-ghost use Rattle.occurrences.specs.RowWords.{wordsOf, gathered, literalsOf, turned, replacedSets};
+ghost use Rattle.occurrences.specs.RowWords.{tableWords, gathered, literalsOf, turned, replacedSets};
 
 // ---- the words of all rows
 
 // How many words of a buffer are its rows'.
 fn count(words: &[u32], rows: u8) -> usize
     ensures { λ r. ⌜ r ≤ 510 ⌝ }
-    ensures { λ r. ⌜ r ≡ length (wordsOf rows (now (words .entry))) ⌝ }
+    ensures { λ r. ⌜ r ≡ length (tableWords rows (now (words .entry))) ⌝ }
 {
     let asked = 2 * (rows as usize);
     if asked < words.len() {
@@ -32,8 +32,8 @@ fn count(words: &[u32], rows: u8) -> usize
 fn store(words: &[u32], rows: u8, at: usize, all: &mut [u32]) -> usize
     requires { ⌜ at ≤ 1024 ⌝ }
     ensures { λ r. ⌜ r ≤ at + 510 ⌝ }
-    ensures { λ r. ⌜ r ≡ at + length (wordsOf rows (now (words .entry))) ⌝ }
-    ensures { λ _. ⌜ now (all .exit) ≡ sets (now (all .entry)) at (wordsOf rows (now (words .entry))) ⌝ }
+    ensures { λ r. ⌜ r ≡ at + length (tableWords rows (now (words .entry))) ⌝ }
+    ensures { λ _. ⌜ now (all .exit) ≡ sets (now (all .entry)) at (tableWords rows (now (words .entry))) ⌝ }
 {
     let end = count(words, rows);
     let mut k = 0;

@@ -26,7 +26,7 @@ use Rattle.state.specs.State.{stateOf}
 use Rattle.gates.specs.Gates.{wiresOf}
 use Rattle.gates.specs.Memory as Memory
 use Rattle.gates.specs.Memory.{accepted, gatesOf, bitsOf, bytesOf, over}
-use Rattle.two_pass.specs.Evaluation.{checks, filled}
+use Rattle.two_pass.specs.Evaluation.{evaluationChecks, filledWires}
 use Rattle.gates.proofs.InMemory.{bits-bytes, bitsOf-bytesOf}
 use Rattle.two_pass.proofs.Evaluation as Evaluation
 use Rattle.wires.specs.Packing.{inputBits, packChecks}
@@ -52,7 +52,7 @@ module _ (d : Dimensions) (tables : Tables) (gates : List ℕ) (run : Run) (byte
 
   pub refuse-packing : (r : Refusal) → outcome (packChecks d tables run (length bytes)) ≡ Refused r → judged d tables gates run bytes wires ≡ Refused r
   unfolding judged
-  refuse-packing r e = outcome-refused (packChecks d tables run (length bytes)) (checks gates (inputs d tables run bytes) wires) r e
+  refuse-packing r e = outcome-refused (packChecks d tables run (length bytes)) (evaluationChecks gates (inputs d tables run bytes) wires) r e
 
   -- ---- packed
 
@@ -66,9 +66,9 @@ module _ (d : Dimensions) (tables : Tables) (gates : List ℕ) (run : Run) (byte
     inputs-length : length (inputs d tables run bytes) ≡ inputWires d
     inputs-length = ap length inputs-are ∙ length-map bits digit ∙ input-length d tables (stateOf run)
 
-    evaluation-decides : judged d tables gates run bytes wires ≡ outcome (checks gates (inputs d tables run bytes) wires)
+    evaluation-decides : judged d tables gates run bytes wires ≡ outcome (evaluationChecks gates (inputs d tables run bytes) wires)
     unfolding judged
-    evaluation-decides = outcome-taken (packChecks d tables run (length bytes)) (checks gates (inputs d tables run bytes) wires) e
+    evaluation-decides = outcome-taken (packChecks d tables run (length bytes)) (evaluationChecks gates (inputs d tables run bytes) wires) e
 
     module _ (a : accepted (inputWires d) gates ≡ true) where
       good : accepted (length (inputs d tables run bytes)) gates ≡ true
@@ -79,8 +79,8 @@ module _ (d : Dimensions) (tables : Tables) (gates : List ℕ) (run : Run) (byte
           evaluation-decides ∙ sym (Evaluation.no-room gates (inputs d tables run bytes) wires good (omega (arith, inputs-length)) .0)
 
       module _ (h : inputWires d + length gates / 3 ≤ length wires) where
-        evaluated : (Taken ≡ outcome (checks gates (inputs d tables run bytes) wires))
-            × (over (bytesOf (wiresOf (bitsOf (inputs d tables run bytes)) (gatesOf gates))) wires ≡ filled gates (inputs d tables run bytes) wires)
+        evaluated : (Taken ≡ outcome (evaluationChecks gates (inputs d tables run bytes) wires))
+            × (over (bytesOf (wiresOf (bitsOf (inputs d tables run bytes)) (gatesOf gates))) wires ≡ filledWires gates (inputs d tables run bytes) wires)
         evaluated =
             Evaluation.taken gates (inputs d tables run bytes) wires good (omega (arith, inputs-length)) (ap Memory.bits inputs-are ∙ bits-bytes bits)
 

@@ -29,7 +29,7 @@ use Rattle.sections.specs.declared.Addresses.{Addresses}
 use Rattle.sections.specs.Addressing.{digitsFor, addressesOn}
 use Rattle.netlist.specs.Netlist.{gatesFor, gatesOn}
 use Rattle.netlist.proofs.Counts.{circuit-length}
-use Rattle.generator.specs.Generation.{generatorChecks, written}
+use Rattle.generator.specs.Generation.{generatorChecks, writtenWords}
 use Rattle.generator.proofs.Room.{wires-few}
 use Rattle.repeats.specs.declared.Repeated.{Repeated}
 use Rattle.repeats.specs.Repeats.{circuitWords}
@@ -106,7 +106,7 @@ passed d tables gates bytes wires run e =
 
 -- the generated words, from the front
 pub words-generated : (d : Dimensions) (tables : Tables) (gates : List ℕ) → outcome (tableChecks d tables) ≡ Taken → 3 * ceiling d ≤ length gates
-    → take (3 * (addressesOn d .wires - addressesOn d .inputs)) (written d gates) ≡ circuitWords d
+    → take (3 * (addressesOn d .wires - addressesOn d .inputs)) (writtenWords d gates) ≡ circuitWords d
 unfolding circuitWords
 words-generated d tables gates e h =
     let k = 3 * (addressesOn d .wires - addressesOn d .inputs) in
@@ -132,7 +132,7 @@ module _ (d : Dimensions) (tables : Tables) (times : ℕ) (gates bytes wires : L
   repeat-refused r e = rw e (refl, (refl, (refl, refl)))
 
   pub repeat-taken : outcome (repeatChecks d tables (length gates) (length bytes) (length wires) run) ≡ Taken
-      → (x : Repeated) (g b w : List ℕ) → x ≡ repeatedBy run (made d tables times bytes wires run) → g ≡ written d gates
+      → (x : Repeated) (g b w : List ℕ) → x ≡ repeatedBy run (made d tables times bytes wires run) → g ≡ writtenWords d gates
       → b ≡ bytesLeft d tables bytes run (made d tables times bytes wires run) → w ≡ wiresLeft d tables bytes wires run (made d tables times bytes wires run)
       → Meets x g b w
   unfolding allowed repeated gatesAfter bytesAfter wiresAfter

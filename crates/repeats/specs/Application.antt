@@ -13,7 +13,7 @@ use Rattle.dimensions.specs.declared.Dimensions.{Dimensions}
 use Rattle.dimensions.specs.Sizes.{stateWires, inputWires}
 use Rattle.tables.specs.Tables.{Tables}
 use Rattle.state.specs.declared.Run.{Run}
-use Rattle.two_pass.specs.Evaluation.{checks, filled}
+use Rattle.two_pass.specs.Evaluation.{evaluationChecks, filledWires}
 use Rattle.wires.specs.Packing.{packChecks, packed}
 use Rattle.readback.specs.Reading.{readBack}
 use Rattle.netlist.specs.Outputs.{outputsIn}
@@ -42,11 +42,11 @@ inputs d tables run bytes = take (inputWires d) (packed d tables run bytes)
 module _ (d : Dimensions) (tables : Tables) (gates : List ℕ) (run : Run) (bytes wires : List ℕ) where
   -- what packing and evaluation say, before a byte is written
   unfoldable pub judged : Outcome
-  judged = outcome (packChecks d tables run (length bytes) ++ checks gates (inputs d tables run bytes) wires)
+  judged = outcome (packChecks d tables run (length bytes) ++ evaluationChecks gates (inputs d tables run bytes) wires)
 
   -- the wires after packing and evaluation, where neither turns back
   abbrev pub wiresAfter : List ℕ
-  wiresAfter = filled gates (inputs d tables run bytes) wires
+  wiresAfter = filledWires gates (inputs d tables run bytes) wires
 
   -- the next run and its mark, where so many of the output wires are handed to the read-back; refused, the run as it was
   unfoldable pub applied : ℕ → Applied

@@ -21,7 +21,7 @@ use Rattle.state.specs.WellFormed.{stateChecks}
 use Rattle.wires.specs.Packing.{packed}
 use Rattle.netlist.specs.Netlist.{gatesOn}
 use Rattle.netlist.specs.Outputs.{closed}
-use Rattle.generator.specs.Generation.{written}
+use Rattle.generator.specs.Generation.{writtenWords}
 use Rattle.repeats.specs.declared.Repeated.{Repeated}
 use Rattle.repeats.specs.Application as Application
 use Rattle.repeats.specs.Repeats.{Attempt, Lent, Repeat, circuitWords, lastRun, repeats}
@@ -81,7 +81,7 @@ module _ (d : Dimensions) (tables : Tables) (times : ℕ) (gates bytes wires : L
   -- the gate words afterwards: the generator's; refused, as they were, and so the others
   unfoldable pub gatesAfter : List ℕ
   unfolding allowed
-  gatesAfter = given allowed (written d gates) (λ r. gates)
+  gatesAfter = given allowed (writtenWords d gates) (λ r. gates)
 
   -- the bytes
   unfoldable pub bytesAfter : List ℕ

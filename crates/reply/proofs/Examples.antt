@@ -7,8 +7,8 @@ use Rattle.words.specs.Sets.{bit, put, any, count, lowest}
 use Rattle.words.specs.Sameness.{same}
 use Rattle.lexer.specs.Spelling.{bytes}
 use Rattle.lexer.specs.Bytes.{run, trimmed}
-use Rattle.lexer.specs.Pieces.{cut, filled, partsFrom}
-use Rattle.numbers.specs.Numbers.{digitsAfter, decimalOf, numberOf}
+use Rattle.lexer.specs.Pieces.{cut, notEmpty, partsFrom}
+use Rattle.numbers.specs.Numbers.{digitsAfter, decimalOf, numberRead}
 use Rattle.text.specs.Decimal.{decimal}
 use Rattle.tables.specs.Rows.{padding, satisfied, freeLiterals}
 use Rattle.tables.specs.Acceptance.{allBelow}
@@ -22,7 +22,7 @@ use Rattle.answers.specs.Printed.{literals, answerText, refusalText}
 use Rattle.reply.specs.Reply.{replyText}
 
 printed : String → String → String → String → List ℕ
-unfolding replyText solved answerOf tableOf withoutRemarks linesOf kept headerOf pastRemarks partsFrom cut filled trimmed same clauses numberOf decimalOf
+unfolding replyText solved answerOf tableOf withoutRemarks linesOf kept headerOf pastRemarks partsFrom cut notEmpty trimmed same clauses numberRead decimalOf
     digitsAfter run fieldOf put bit any count lowest padding satisfied freeLiterals allBelow literals answerText refusalText decimal
 printed left right public line = replyText (bytes left) (bytes right) (bytes public) (bytes line)
 

@@ -6,7 +6,7 @@ use lib.ListN.{replicate}
 use Rattle.state.specs.declared.Run.{Run}
 use Rattle.state.specs.declared.Standing.the-variants.{Satisfied, Refuted}
 use Rattle.state.specs.State.{fresh, runOf}
-use Rattle.stored.specs.Words.{wordsOf, runIn}
+use Rattle.stored.specs.Words.{runWords, runIn}
 
 -- two variables: 1 false, then 2 chosen
 abbrev run : Run
@@ -16,8 +16,8 @@ run = runOf 2 (record { standing = Satisfied; t = 2; f = 1; levels = record { t 
 abbrev words : List ℕ
 words = (2 ∷ 1 ∷ 2 ∷ 1 ∷ 1 ∷ []) ++ (0 ∷ 1 ∷ 1 ∷ []) ++ replicate 93 0
 
-in-words : wordsOf run ≡ words
-unfolding wordsOf runOf
+in-words : runWords run ≡ words
+unfolding runWords runOf
 in-words = refl
 
 and-back : runIn words ≡ run

@@ -16,9 +16,9 @@ levelWords [] = []
 levelWords (l ∷ ls) = l .t ∷ (l .f ∷ (l .chosen ∷ levelWords ls))
 
 -- a run's words; a depth that no word holds, which no well-formed run has, becomes the largest word
-unfoldable pub wordsOf : Run → List ℕ
+unfoldable pub runWords : Run → List ℕ
 unfolding levelWords
-wordsOf run = run .n ∷ (numberOf (run .standing) ∷ (run .t ∷ (run .f ∷ (min (run .depth) (2 ^ 32 - 1) ∷ levelWords (run .levels)))))
+runWords run = run .n ∷ (numberOf (run .standing) ∷ (run .t ∷ (run .f ∷ (min (run .depth) (2 ^ 32 - 1) ∷ levelWords (run .levels)))))
 
 -- the standing of a number below 3
 abbrev pub standingOf : ℕ → Standing

@@ -8,7 +8,7 @@ ghost use Prim.Native.Nat.{_-_, _^_, min};
 ghost use lib.ListN.{drop};
 ghost use lib.Seq.{sets};
 ghost use Rattle.state.specs.State.{standingNumber as numberOf};
-ghost use Rattle.stored.specs.Words.{standingOf, levelWords, levelsIn, holdsRun, heldRun, wordsOf, runIn};
+ghost use Rattle.stored.specs.Words.{standingOf, levelWords, levelsIn, holdsRun, heldRun, runWords, runIn};
 
 // The words of a run.
 pub type RunWords = [u32; 101];
@@ -123,7 +123,7 @@ fn put_levels(levels: [Level; 32], words: RunWords) -> RunWords
 
 // The words of a run.
 pub fn words(run: Run) -> RunWords
-    ensures { λ r. ⌜ r ≡ wordsOf run ⌝ }
+    ensures { λ r. ⌜ r ≡ runWords run ⌝ }
 {
     let standing = run.standing;
     let levels = run.levels;

@@ -20,7 +20,7 @@ use Rattle.tables.specs.Rows.{satisfied, free, holds, freeIn}
 use Rattle.scan.specs.declared.Rule.the-variants.{Unit, Choice}
 use Rattle.scan.specs.Rules.{allRows, anyRow, unsatisfiedWith, forces, forcedVariable, forcedTrue, unitOr, choice, rule}
 use Rattle.scan.proofs.RowLaws.{any-row-or, any-row-and, any-row-cong}
-use Rattle.occurrences.specs.Index.{at, rowSet, literal, indexOf}
+use Rattle.occurrences.specs.Index.{at, rowSet, holdsLiteral, indexOf}
 use Rattle.occurrences.proofs.IndexLaws.{set-at, positive-at, negative-at}
 use Rattle.occurrences.proofs.SetLaws.{at-both, word-bit}
 use Rattle.tally.specs.declared.Tally.{Tally}
@@ -87,18 +87,18 @@ module _ (rows : List Row) (t f : ℕ) where
     abbrev touch : ℕ → Row → Bool
     touch v r = not (satisfied 32 r t f) && holds r v
 
-    touch-at : (v i : ℕ) → at (unmet 32 t f) rows i && (at (literal true v) rows i || at (literal false v) rows i) ≡ at (touch v) rows i
+    touch-at : (v i : ℕ) → at (unmet 32 t f) rows i && (at (holdsLiteral true v) rows i || at (holdsLiteral false v) rows i) ≡ at (touch v) rows i
     touch-at v i = sym
         (at-both (unmet 32 t f) (λ r. holds r v) (touch v) (λ x y. x && y) refl (λ r. refl) rows i
-        ∙ ap (λ (y : Bool). at (unmet 32 t f) rows i && y) (at-both (literal true v) (literal false v) (λ r. holds r v)
+        ∙ ap (λ (y : Bool). at (unmet 32 t f) rows i && y) (at-both (holdsLiteral true v) (holdsLiteral false v) (λ r. holds r v)
         (λ x y. x || y) refl (λ r. refl) rows i))
 
     touches-is : (v w : ℕ) → v < 32 → w < 6 → touches (indexOf rows) v w (getD (rowSet (unmet 32 t f) rows) w 0) ≡ any (λ j. at (touch v) rows (64 * w + j)) 64
     touches-is v w b h =
         any-cong _ _ 64
         (λ j c. ap₂ (λ (x y : Bool). x && y) (ap (λ (s : ℕ). bit s j) (set-at rows (unmet 32 t f) w h) ∙ word-bit (unmet 32 t f) rows w j c)
-        (ap₂ (λ (x y : Bool). x || y) (ap (λ (s : ℕ). bit s j) (positive-at rows v w b h) ∙ word-bit (literal true v) rows w j c)
-        (ap (λ (s : ℕ). bit s j) (negative-at rows v w b h) ∙ word-bit (literal false v) rows w j c))
+        (ap₂ (λ (x y : Bool). x || y) (ap (λ (s : ℕ). bit s j) (positive-at rows v w b h) ∙ word-bit (holdsLiteral true v) rows w j c)
+        (ap (λ (s : ℕ). bit s j) (negative-at rows v w b h) ∙ word-bit (holdsLiteral false v) rows w j c))
         ∙ touch-at v (64 * w + j))
 
     stands-is : (v : ℕ) → v < 32 → standsIn (indexOf rows) v (rowSet (unmet 32 t f) rows) ≡ anyRow (touch v) rows

@@ -17,7 +17,7 @@ use Rattle.tables.specs.declared.Row.{Row}
 use Rattle.tables.specs.Rows.{rowsFrom, free}
 use Rattle.scan.specs.Rules.{anyRow, unsatisfiedWith}
 use Rattle.scan.proofs.RowLaws.{any-row-cong, any-row-or, any-row-and, no-row}
-use Rattle.occurrences.specs.Index.{at, wordAt, rowSet, literal, indexOf}
+use Rattle.occurrences.specs.Index.{at, wordAt, rowSet, holdsLiteral, indexOf}
 use Rattle.occurrences.proofs.IndexLaws.{set-at, place, literal-at}
 use Rattle.occurrences.proofs.SetLaws.{at-both, word-bit}
 use Rattle.tally.specs.declared.Tally.{Tally}
@@ -41,8 +41,8 @@ pub record Ready (words : List ℕ) (m : ℕ) (index : List ℕ) (t f v : ℕ) (
 -- ---- the rows of a set with and without a literal
 
 module _ (rows : List Row) (sign : Bool) (v : ℕ) (low : v < 32) (p : Row → Bool) where
-  index-bit : (w j : ℕ) → w < 6 → j < 64 → bit (getD (indexOf rows) (6 * place sign v + w) 0) j ≡ at (literal sign v) rows (64 * w + j)
-  index-bit w j h c = ap (λ (x : ℕ). bit x j) (literal-at rows sign v w low h) ∙ word-bit (literal sign v) rows w j c
+  index-bit : (w j : ℕ) → w < 6 → j < 64 → bit (getD (indexOf rows) (6 * place sign v + w) 0) j ≡ at (holdsLiteral sign v) rows (64 * w + j)
+  index-bit w j h c = ap (λ (x : ℕ). bit x j) (literal-at rows sign v w low h) ∙ word-bit (holdsLiteral sign v) rows w j c
 
   set-bit : (w j : ℕ) → w < 6 → j < 64 → bit (getD (rowSet p rows) w 0) j ≡ at p rows (64 * w + j)
   set-bit w j h c = ap (λ (x : ℕ). bit x j) (set-at rows p w h) ∙ word-bit p rows w j c
@@ -51,21 +51,21 @@ module _ (rows : List Row) (sign : Bool) (v : ℕ) (low : v < 32) (p : Row → B
   set-low w h = rw (set-at rows p w h) (wordOf-lt (λ j. at p rows (64 * w + j)) 64)
 
   index-low : (w : ℕ) → w < 6 → getD (indexOf rows) (6 * place sign v + w) 0 < 2 ^ 64
-  index-low w h = rw (literal-at rows sign v w low h) (wordOf-lt (λ j. at (literal sign v) rows (64 * w + j)) 64)
+  index-low w h = rw (literal-at rows sign v w low h) (wordOf-lt (λ j. at (holdsLiteral sign v) rows (64 * w + j)) 64)
 
-  without-is : rowsWithout (rowSet p rows) (indexOf rows) (place sign v) ≡ rowSet (λ r. p r && not (literal sign v r)) rows
+  without-is : rowsWithout (rowSet p rows) (indexOf rows) (place sign v) ≡ rowSet (λ r. p r && not (holdsLiteral sign v r)) rows
   without-is =
-      six-cong _ (wordAt (λ r. p r && not (literal sign v r)) rows)
+      six-cong _ (wordAt (λ r. p r && not (holdsLiteral sign v r)) rows)
       (λ w h. word-is _ _ (and-lt-left 64 _ _ (set-low w h))
       (λ j c. bit-without _ _ j (index-low w h) c ∙ ap₂ (λ (x y : Bool). x && not y) (set-bit w j h c) (index-bit w j h c)
-      ∙ sym (at-both p (literal sign v) (λ r. p r && not (literal sign v r)) (λ x y. x && not y) refl (λ r. refl) rows (64 * w + j))))
+      ∙ sym (at-both p (holdsLiteral sign v) (λ r. p r && not (holdsLiteral sign v r)) (λ x y. x && not y) refl (λ r. refl) rows (64 * w + j))))
 
-  holding-is : rowsHolding (rowSet p rows) (indexOf rows) (place sign v) ≡ rowSet (λ r. p r && literal sign v r) rows
+  holding-is : rowsHolding (rowSet p rows) (indexOf rows) (place sign v) ≡ rowSet (λ r. p r && holdsLiteral sign v r) rows
   holding-is =
-      six-cong _ (wordAt (λ r. p r && literal sign v r) rows)
+      six-cong _ (wordAt (λ r. p r && holdsLiteral sign v r) rows)
       (λ w h. word-is _ _ (and-lt-left 64 _ _ (set-low w h))
       (λ j c. bit-and (getD (rowSet p rows) w 0) _ j ∙ ap₂ (λ (x y : Bool). x && y) (set-bit w j h c) (index-bit w j h c)
-      ∙ sym (at-both p (literal sign v) (λ r. p r && literal sign v r) (λ x y. x && y) refl (λ r. refl) rows (64 * w + j))))
+      ∙ sym (at-both p (holdsLiteral sign v) (λ r. p r && holdsLiteral sign v r) (λ x y. x && y) refl (λ r. refl) rows (64 * w + j))))
 
 module _ (words : List ℕ) (m : ℕ) (index : List ℕ) (t f v : ℕ) (tally : Tally) (o : Ready words m index t f v tally) where
   abbrev rows : List Row
@@ -93,7 +93,7 @@ module _ (words : List ℕ) (m : ℕ) (index : List ℕ) (t f v : ℕ) (tally : 
 
     -- the rows that are read
     abbrev read : Row → Bool
-    read r = unmet 32 t′ f′ r && literal (not sign) v r
+    read r = unmet 32 t′ f′ r && holdsLiteral (not sign) v r
 
     none : anyRow (λ r. read r && freeAre 0 32 t′ f′ r) rows ≡ anyRow (unsatisfiedWith 0 32 t′ f′) rows
     none =

@@ -20,7 +20,7 @@ use Rattle.tables.specs.Rows.{rowAt, rowsFrom, satisfied, satisfies, freeIn}
 use Rattle.tables.proofs.Rows.{satisfied-any}
 use Rattle.scan.specs.Rules.{anyRow, unsatisfiedWith}
 use Rattle.scan.proofs.RowLaws.{any-row-cong}
-use Rattle.occurrences.specs.Index.{at, wordAt, rowSet, literal, indexOf}
+use Rattle.occurrences.specs.Index.{at, wordAt, rowSet, holdsLiteral, indexOf}
 use Rattle.occurrences.proofs.IndexLaws.{set-at, positive-at, negative-at}
 use Rattle.tables.proofs.Numbering.{table-length}
 use Rattle.occurrences.proofs.SetLaws.{at-past, at-words, word-bit}
@@ -59,10 +59,10 @@ module _ (words : List ℕ) (m t f : ℕ) where
       here p = at-words p words 0 m i (ltb-true i m e)
 
       positive-bit : (v : ℕ) → v < 32 → bit (getD index (6 * v + w) 0) j ≡ bit (r .positive) v
-      positive-bit v b = ap (λ (x : ℕ). bit x j) (positive-at rows v w b h) ∙ word-bit (literal true v) rows w j c ∙ here (literal true v)
+      positive-bit v b = ap (λ (x : ℕ). bit x j) (positive-at rows v w b h) ∙ word-bit (holdsLiteral true v) rows w j c ∙ here (holdsLiteral true v)
 
       negative-bit : (v : ℕ) → v < 32 → bit (getD index (6 * (32 + v) + w) 0) j ≡ bit (r .negative) v
-      negative-bit v b = ap (λ (x : ℕ). bit x j) (negative-at rows v w b h) ∙ word-bit (literal false v) rows w j c ∙ here (literal false v)
+      negative-bit v b = ap (λ (x : ℕ). bit x j) (negative-at rows v w b h) ∙ word-bit (holdsLiteral false v) rows w j c ∙ here (holdsLiteral false v)
 
       met-is : bit (seenIn index t f 32 w .met) j ≡ satisfied 32 r t f
       met-is =
@@ -120,8 +120,8 @@ module _ (words : List ℕ) (m t f : ℕ) where
       ap (λ (x : Bool). x || anyRow (λ r. few r && onlyFree sign 32 t f v r) rows) (bit-zero v)
       ∙ any-row-cong _ _ rows
       (λ r i. agree-eq (taut4 (λ a k l d. agree (a && (k && (l && d))) (((a && k) && d) && l)) refl
-      (few r) (freeAre 1 32 t f r) (literal sign v r) (freeIn r t f v))
-      ∙ ap (λ (x : Bool). (x && freeIn r t f v) && literal sign v r) (few-are 1 (omega arith) r))
+      (few r) (freeAre 1 32 t f r) (holdsLiteral sign v r) (freeIn r t f v))
+      ∙ ap (λ (x : Bool). (x && freeIn r t f v) && holdsLiteral sign v r) (few-are 1 (omega arith) r))
 
 -- for any T and F
 pub after-survey : (words : List ℕ) (m : ℕ) (index : List ℕ) (t f : ℕ) → m ≤ 384 → index ≡ indexOf (rowsFrom words 0 m) → t < 2 ^ 32 → f < 2 ^ 32

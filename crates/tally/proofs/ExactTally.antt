@@ -17,7 +17,7 @@ use Rattle.words.proofs.WordOf.{wordOf-cong}
 use Rattle.tables.specs.declared.Row.{Row}
 use Rattle.tables.specs.Rows.{rowAt, rowsFrom, free, freeIn}
 use Rattle.scan.specs.Rules.{anyRow, unsatisfiedWith}
-use Rattle.occurrences.specs.Index.{at, rowSet, literal}
+use Rattle.occurrences.specs.Index.{at, rowSet, holdsLiteral}
 use Rattle.occurrences.proofs.IndexLaws.{set-at}
 use Rattle.tables.proofs.Numbering.{table-length}
 use Rattle.occurrences.proofs.SetLaws.{at-past, at-words, word-bit, word-size}
@@ -91,7 +91,7 @@ module _ (words : List ℕ) (m : ℕ) (few : m ≤ 384) where
     forces-only : (sign : Bool) (v : ℕ) → v < 32 → (i : ℕ) → forcesOnly sign words unset v i ≡ onlyFree sign 32 t f v (rowAt words i)
     forces-only sign v b i = ap₂ (λ (x y : Bool). x && y) (are-free 1 i) (ap₂ (λ (x y : Bool). x && y) (held sign) (variables-bit i v b))
       where
-        held : (sign : Bool) → bit (wordOfSign sign words i) v ≡ literal sign v (rowAt words i)
+        held : (sign : Bool) → bit (wordOfSign sign words i) v ≡ holdsLiteral sign v (rowAt words i)
         held true = refl
         held false = refl
 

@@ -16,7 +16,7 @@ use Rattle.words.proofs.Bits.{bit-put}
 use Rattle.tables.specs.declared.Row.{Row}
 use Rattle.tables.specs.Rows.{satisfied, satisfies, free, holds, freeIn, freeLiterals}
 use Rattle.tables.proofs.Rows.{satisfied-any, unsatisfied-literals}
-use Rattle.occurrences.specs.Index.{literal}
+use Rattle.occurrences.specs.Index.{holdsLiteral}
 use Rattle.tally.specs.Tallies.{setT, setF}
 
 -- one number less
@@ -44,7 +44,7 @@ count-without p (suc n) v b =
 
 module _ (n : ℕ) (r : Row) (t f v : ℕ) (b : v < n) where
   -- the row is satisfied if it was, or if it holds the literal
-  pub set-satisfied : (sign : Bool) → satisfied n r (setT sign t v) (setF sign f v) ≡ satisfied n r t f || literal sign v r
+  pub set-satisfied : (sign : Bool) → satisfied n r (setT sign t v) (setF sign f v) ≡ satisfied n r t f || holdsLiteral sign v r
   set-satisfied true =
       satisfied-any n r (put t v) f
       ∙ any-cong (λ i. satisfies r (put t v) f i) (λ i. satisfies r t f i || (eqb i v && bit (r .positive) i)) n

@@ -14,7 +14,7 @@ use Rattle.tables.specs.declared.Row.{Row}
 use Rattle.tables.specs.Rows.{satisfied, free, holds, freeIn, freeLiterals}
 use Rattle.tables.proofs.Rows.{unsatisfied-literals}
 use Rattle.scan.specs.Rules.{unsatisfiedWith}
-use Rattle.occurrences.specs.Index.{literal}
+use Rattle.occurrences.specs.Index.{holdsLiteral}
 use Rattle.tally.specs.Tallies.{setT, setF, unmet, forcing}
 use Rattle.tally.proofs.LiteralLaws.{set-satisfied, set-literals}
 
@@ -24,7 +24,7 @@ freeAre k n t f r = eqb (count (λ i. freeIn r t f i) n) k
 
 -- it has exactly one, v, which it holds with this sign
 abbrev pub onlyFree : Bool → ℕ → ℕ → ℕ → ℕ → Row → Bool
-onlyFree sign n t f v r = freeAre 1 n t f r && (literal sign v r && freeIn r t f v)
+onlyFree sign n t f v r = freeAre 1 n t f r && (holdsLiteral sign v r && freeIn r t f v)
 
 -- of an unsatisfied row its free variables are its free literals
 pub with-variables : (n k t f : ℕ) (r : Row) → unsatisfiedWith k n t f r ≡ unmet n t f r && freeAre k n t f r
@@ -44,16 +44,16 @@ module _ (n t f v : ℕ) (b : v < n) (was-free : free t f v ≡ true) (sign : Bo
   f′ = setF sign f v
 
   abbrev own : Bool
-  own = literal sign v r
+  own = holdsLiteral sign v r
 
   abbrev other : Bool
-  other = literal (not sign) v r
+  other = holdsLiteral (not sign) v r
 
   -- the row holds the variable if it holds one of its literals
   holds-one : holds r v ≡ own || other
   holds-one = go sign
     where
-      go : (s : Bool) → holds r v ≡ literal s v r || literal (not s) v r
+      go : (s : Bool) → holds r v ≡ holdsLiteral s v r || holdsLiteral (not s) v r
       go true = refl
       go false = agree-eq (taut2 (λ x y. agree (x || y) (y || x)) refl (bit (r .positive) v) (bit (r .negative) v))
 
@@ -100,7 +100,7 @@ module _ (n t f v : ℕ) (b : v < n) (was-free : free t f v ≡ true) (sign : Bo
         let one = unsatisfiedWith 1 n t f r in
         let m = unmet n t′ f′ r in
         let k = freeAre 1 n t′ f′ r in
-        let l = literal s u r in
+        let l = holdsLiteral s u r in
         let d = freeIn r t′ f′ u in
         on other
         (λ h. ap₂ (λ (x y : Bool). x || ((m && y) && (k && (l && d)))) (gone (holds-one ∙ rw h (or-true own))) h
@@ -117,7 +117,7 @@ module _ (n t f v : ℕ) (b : v < n) (was-free : free t f v ≡ true) (sign : Bo
         (sym (row-same 1 h ∙ ap (λ (x : Bool). one && not x) o ∙ and-true one)) (sym (free-after t f v sign u))))
       where
         gone : holds r v ≡ true → forcing s n t f u r && free t′ f′ u ≡ false
-        gone h = without-sign (unsatisfiedWith 1 n t f r && freeIn r t f u) (literal s u r) (free t′ f′ u) (held-alone h)
+        gone h = without-sign (unsatisfiedWith 1 n t f r && freeIn r t f u) (holdsLiteral s u r) (free t′ f′ u) (held-alone h)
           where
             without-sign : (x l g : Bool) → x && g ≡ false → (x && l) && g ≡ false
             without-sign true l g e = rw e (and-false l)

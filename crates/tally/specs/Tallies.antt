@@ -7,7 +7,7 @@ use Rattle.words.specs.Sets.{put, wordOf}
 use Rattle.tables.specs.declared.Row.{Row}
 use Rattle.tables.specs.Rows.{satisfied}
 use Rattle.scan.specs.Rules.{anyRow, unsatisfiedWith, forces}
-use Rattle.occurrences.specs.Index.{at, rowSet, literal}
+use Rattle.occurrences.specs.Index.{at, rowSet, holdsLiteral}
 use Rattle.tally.specs.declared.Tally.{Tally}
 
 -- how many rows pass
@@ -26,7 +26,7 @@ unsatisfiedRows n rows t f = countRows (unmet n t f) rows
 
 -- an unsatisfied row whose one free literal has this variable and this sign
 abbrev pub forcing : Bool → ℕ → ℕ → ℕ → ℕ → Row → Bool
-forcing sign n t f v r = forces n t f v r && literal sign v r
+forcing sign n t f v r = forces n t f v r && holdsLiteral sign v r
 
 -- the variables of the forced literals of this sign
 abbrev pub forcedWord : Bool → List Row → ℕ → ℕ → ℕ

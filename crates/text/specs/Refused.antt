@@ -7,9 +7,9 @@ use Rattle.lexer.specs.Spelling.{bytes}
 use Rattle.text.specs.Decimal.{decimal}
 
 -- a line ends in LF
-abbrev pub line : List ℕ → List ℕ
-line text = text ++ (10 ∷ [])
+abbrev pub withLineFeed : List ℕ → List ℕ
+withLineFeed text = text ++ (10 ∷ [])
 
 -- a refusal's line, all that the circuit program prints of it
 abbrev pub refusedLine : Refusal → List ℕ
-refusedLine r = line (bytes "c refused " ++ decimal (numberOf r))
+refusedLine r = withLineFeed (bytes "c refused " ++ decimal (numberOf r))

@@ -10,13 +10,13 @@ use Rattle.gates.specs.Gates.{wiresOf}
 use Rattle.gates.specs.Memory.{gatesOf, accepted, bitsOf, bytesOf, bits, over}
 
 -- 9, then 10: a buffer shorter than inputs plus gates, or an input byte that is not 0 or 1
-abbrev pub checks : List ℕ → List ℕ → List ℕ → List Check
-checks gates inputs wires =
+abbrev pub evaluationChecks : List ℕ → List ℕ → List ℕ → List Check
+evaluationChecks gates inputs wires =
     check (not (accepted (length inputs) gates)) Gates
     ∷ (check (ltb (length wires) (length inputs + length gates / 3)) Wires
     ∷ (check (not (bits inputs)) Wires ∷ []))
 
 -- the wire buffer afterwards: the wires' values, then the bytes that stood there; refused, as it was
-abbrev pub filled : List ℕ → List ℕ → List ℕ → List ℕ
-filled gates inputs wires =
-    given (outcome (checks gates inputs wires)) (over (bytesOf (wiresOf (bitsOf inputs) (gatesOf gates))) wires) (λ r. wires)
+abbrev pub filledWires : List ℕ → List ℕ → List ℕ → List ℕ
+filledWires gates inputs wires =
+    given (outcome (evaluationChecks gates inputs wires)) (over (bytesOf (wiresOf (bitsOf inputs) (gatesOf gates))) wires) (λ r. wires)

@@ -8,7 +8,7 @@ ghost use Rattle.refusals.specs.Checks.{outcome};
 ghost use Rattle.words.specs.Booleans.{digit};
 ghost use Rattle.gates.specs.Gates.{value, wiresOf};
 ghost use Rattle.gates.specs.Memory as Memory;
-ghost use Rattle.two_pass.specs.Evaluation.{checks, filled};
+ghost use Rattle.two_pass.specs.Evaluation.{evaluationChecks, filledWires};
 ghost use Rattle.two_pass.specs.Table.{table};
 use refusals::Outcome;
 use refusals::Refusal;
@@ -18,8 +18,8 @@ const VALUES: [u8; 12] = [0, 1, 1, 0, 0, 0, 0, 1, 1, 1, 0, 0];
 
 // Fills the front of the wires with the inputs and then each gate's value; later bytes stay as they are. Refused, it changes no byte.
 pub fn evaluate(gates: &[u32], inputs: &[u8], wires: &mut [u8]) -> Outcome
-    ensures { λ r. ⌜ r ≡ outcome (checks (now (gates .entry)) (now (inputs .entry)) (now (wires .entry))) ⌝ }
-    ensures { λ _. ⌜ now (wires .exit) ≡ filled (now (gates .entry)) (now (inputs .entry)) (now (wires .entry)) ⌝ }
+    ensures { λ r. ⌜ r ≡ outcome (evaluationChecks (now (gates .entry)) (now (inputs .entry)) (now (wires .entry))) ⌝ }
+    ensures { λ _. ⌜ now (wires .exit) ≡ filledWires (now (gates .entry)) (now (inputs .entry)) (now (wires .entry)) ⌝ }
 {
     let n = inputs.len();
     if !gates::accepted(gates, n) {

@@ -5,7 +5,7 @@ use Rattle.lexer.specs.Spelling.{bytes}
 use Rattle.text.specs.Texts.{appended}
 use Rattle.text.specs.Decimal.{decimal}
 use Rattle.text.proofs.Appending.{appended-then}
-use Rattle.answers.specs.Printed.{literal}
+use Rattle.answers.specs.Printed.{literalText}
 use borrow.Author.Needs.{needs}
 use Rattle.answers.proofs.literal.Statement.{statement}
 use Rattle.answers.proofs.literal.Tie as tie
@@ -33,14 +33,14 @@ returns c =
     let start = c .before .before .before .before .args in
     appended-then (start .text) (bytes " ") (decimal (start .variable)) (c .before .append .result) (c .decimal .result)
     (c .before .append .ensures) (c .decimal .ensures)
-    ∙ ap (λ (b : Bool). appended (start .text) (literal (start .variable) b)) (sym (c .before .before .before .if1 .taken))
+    ∙ ap (λ (b : Bool). appended (start .text) (literalText (start .variable) b)) (sym (c .before .before .before .if1 .taken))
 
 returns-2 : tie.Need-returns-2
 returns-2 c =
     let start = c .before .before .before .before .args in
     appended-then (start .text) (bytes " -") (decimal (start .variable)) (c .before .append2 .result) (c .decimal2 .result)
     (c .before .append2 .ensures) (c .decimal2 .ensures)
-    ∙ ap (λ (b : Bool). appended (start .text) (literal (start .variable) b)) (sym (c .before .before .before .if1 .left))
+    ∙ ap (λ (b : Bool). appended (start .text) (literalText (start .variable) b)) (sym (c .before .before .before .if1 .left))
 
 pub literal-spec : {M : Type 1} → statement M
 literal-spec =

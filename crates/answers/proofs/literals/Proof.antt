@@ -7,7 +7,7 @@ use native.Mathlib.Omega.{arith}
 use borrow.Author.Needs.{needs}
 use Rattle.words.specs.Sets.{bit}
 use Rattle.text.specs.Texts.{appended}
-use Rattle.answers.specs.Printed.{literal, literals}
+use Rattle.answers.specs.Printed.{literalText, literals}
 use Rattle.answers.proofs.Composing.{literals-next}
 use Rattle.answers.proofs.literals.Statement.{statement}
 use Rattle.answers.proofs.literals.Tie as tie
@@ -41,7 +41,7 @@ loop-again c =
     let at = c .before .before .before in (
       search needs,
       literals-next (at .loop .out) (c .literal .result) (at .before .args .n) (at .loop .i) (at .before .args .model) (omega arith)
-          (c .literal .ensures ∙ ap (λ (b : Bool). appended (at .loop .out) (literal (at .loop .i + 1) b)) (c .before .bit .ensures))
+          (c .literal .ensures ∙ ap (λ (b : Bool). appended (at .loop .out) (literalText (at .loop .i + 1) b)) (c .before .bit .ensures))
           ∙ at .loop .inv .1,
     )
 

@@ -7,7 +7,7 @@ use lib.ListN.{length, take}
 use lib.Seq.{length-take-le}
 use Rattle.gates.specs.Memory.{gatesOf}
 use Rattle.bristol_line.proofs.Lengths.{Holds, holds}
-use Rattle.bristol.specs.Text.{linesOf}
+use Rattle.bristol.specs.Text.{circuitLines}
 use Rattle.bristol.specs.Writing.{lineAt}
 use Rattle.bristol.proofs.Numbering.{lines-length}
 use Rattle.bristol.proofs.Requests.{taken-lines, line-long, line-copied}
@@ -19,7 +19,7 @@ line-text-requires : tie.Need-line-text-requires
 line-text-requires c κs = search needs
 
 -- how many lines there are
-number : (c : tie.Start) → length (linesOf (c .args .d) (gatesOf (now (c .args .gates)))) ≡ 4 + length (now (c .args .gates)) / 3
+number : (c : tie.Start) → length (circuitLines (c .args .d) (gatesOf (now (c .args .gates)))) ≡ 4 + length (now (c .args .gates)) / 3
 number c = taken-lines (c .args .d) (now (c .args .gates)) (c .pre .0)
 
 -- what the line's text holds

@@ -8,7 +8,7 @@ use mathlib.Core.List.{[]}
 use lib.ListN.{length, drop}
 use borrow.Rule.Slice.PartMut.{putMid}
 use Rattle.gates.specs.Memory.{gatesOf}
-use Rattle.bristol.specs.Text.{linesOf}
+use Rattle.bristol.specs.Text.{circuitLines}
 use Rattle.bristol.specs.Writing.{fitting}
 use Rattle.bristol.proofs.Requests.{taken-lines}
 use Rattle.bristol.proofs.Fitting.{fitting-past}
@@ -18,7 +18,7 @@ use Rattle.bristol.proofs.put_lines.Statement.{statement}
 use Rattle.bristol.proofs.put_lines.Tie as tie
 
 abbrev Inv-loop : tie.InvT-loop
-Inv-loop d gates line bytes₀ next₀ at₀ bytes next at = Put (linesOf d (gatesOf gates)) bytes₀ line bytes next at
+Inv-loop d gates line bytes₀ next₀ at₀ bytes next at = Put (circuitLines d (gatesOf gates)) bytes₀ line bytes next at
 
 abbrev μ-loop : tie.MeasureT-loop
 μ-loop d gates line bytes₀ next₀ at₀ bytes next at = 4 + length gates / 3 - next
@@ -40,7 +40,7 @@ putting c = c .before .before .before .before .before
 loop-holds : tie.Need-loop-holds Inv-loop μ-loop
 loop-holds c =
     let s = c .before .before in
-    none-put (linesOf (s .args .d) (gatesOf (now (s .args .gates)))) (now (s .args .bytes)) (s .args .line)
+    none-put (circuitLines (s .args .d) (gatesOf (now (s .args .gates)))) (now (s .args .bytes)) (s .args .line)
 
 add-loop : tie.Need-add-loop Inv-loop μ-loop
 add-loop c = search needs
@@ -61,7 +61,7 @@ enum-known-length : tie.Need-enum-known-length Inv-loop μ-loop
 enum-known-length c = search needs
 
 -- how many lines there are
-number : (c : tie.Start Inv-loop μ-loop) → length (linesOf (c .args .d) (gatesOf (now (c .args .gates)))) ≡ 4 + length (now (c .args .gates)) / 3
+number : (c : tie.Start Inv-loop μ-loop) → length (circuitLines (c .args .d) (gatesOf (now (c .args .gates)))) ≡ 4 + length (now (c .args .gates)) / 3
 number c = taken-lines (c .args .d) (now (c .args .gates)) (c .pre)
 
 -- the next line was too long, and changed no byte
@@ -71,7 +71,7 @@ last : (c : tie.At-match-keys2 Inv-loop μ-loop)
     let s = start at-turn in
     let l = at-turn .loop in
     (putMid (l .at) (length (l .bytes) - l .at) (l .bytes) (call .put-line .last .1 .1 .1 .0) ≡ l .bytes)
-    × (fitting (length (now (s .args .bytes)) - l .at) (drop (l .next) (linesOf (s .args .d) (gatesOf (now (s .args .gates))))) ≡ [])
+    × (fitting (length (now (s .args .bytes)) - l .at) (drop (l .next) (circuitLines (s .args .d) (gatesOf (now (s .args .gates))))) ≡ [])
 last c =
     let call = refusing c in
     let at-turn = turn call in
@@ -114,7 +114,7 @@ more : (c : tie.After-known-told Inv-loop μ-loop)
     let at-turn = turn call in
     let s = start at-turn in
     let l = at-turn .loop in
-    Put (linesOf (s .args .d) (gatesOf (now (s .args .gates)))) (now (s .args .bytes)) (s .args .line)
+    Put (circuitLines (s .args .d) (gatesOf (now (s .args .gates)))) (now (s .args .bytes)) (s .args .line)
     (putMid (l .at) (length (l .bytes) - l .at) (l .bytes) (call .put-line .last .1 .1 .1 .0))
     (l .next + 1) (l .at + c .before .length .given .0 .0)
 more c =
@@ -149,7 +149,7 @@ returns-3 c =
     let s = start (c .before) in
     let l = c .before .loop in
     lines-put (s .args .d) (now (s .args .gates)) (s .pre) (s .args .line) (now (s .args .bytes)) (l .bytes) (l .next) (l .at) (l .inv)
-    (fitting-past (linesOf (s .args .d) (gatesOf (now (s .args .gates)))) (l .next) _ (omega (arith, number s, c .loop-test .left)))
+    (fitting-past (circuitLines (s .args .d) (gatesOf (now (s .args .gates)))) (l .next) _ (omega (arith, number s, c .loop-test .left)))
     (λ z. omega (arith, number s, z, c .loop-test .left))
 
 pub put-lines-spec : {M : Type 1} → statement M

@@ -3,7 +3,7 @@ use mathlib.Core.Path.{_≡_, sym, ap, _∙_}
 use Rattle.dimensions.specs.declared.Dimensions.{Dimensions}
 use Rattle.dimensions.specs.Sizes.{dimensions}
 use Rattle.bristol.specs.declared.Written.{Written}
-use Rattle.bristol.specs.Writing.{written, lineCode, lineNumbers}
+use Rattle.bristol.specs.Writing.{writtenLine, lineCode, lineNumbers}
 use Rattle.lent.specs.Lent.{numbersOr}
 use Rattle.host_lines.proofs.HostNumbers.{line-is, line-bytes-are}
 use borrow.Author.Needs.{needs}
@@ -20,7 +20,7 @@ asked s = dimensions (s .args .n) (s .args .left-rows) (s .args .right-rows) (s 
 
 -- what the writer gives is what it gives for those
 answered : (c : tie.After-write-line) → let s = start (c .before .before) in
-    c .write-line .result ≡ written (asked s) (s .args .gates .now) (s .args .line) (s .args .bytes .now)
+    c .write-line .result ≡ writtenLine (asked s) (s .args .gates .now) (s .args .line) (s .args .bytes .now)
 answered c =
     let dims = c .before .before in
     let a = start dims .args in

@@ -9,7 +9,7 @@ use lib.ListN.{length, take}
 use lib.Seq.{length-take-le}
 use Rattle.dimensions.specs.Sizes.{stateWires, inputWires}
 use Rattle.tables.specs.Tables.{Tables, allTables}
-use Rattle.two_pass.specs.Evaluation.{filled}
+use Rattle.two_pass.specs.Evaluation.{filledWires}
 use Rattle.readback.specs.declared.Read.{Read}
 use Rattle.readback.specs.Reading.{readBack}
 use Rattle.netlist.specs.Outputs.{outputsIn}
@@ -130,7 +130,7 @@ returns c =
     let i = counted p .input-wires in
     let wires-are : e .evaluate .last .1 .1 .0 ≡ wiresAfter d (tables s) g (s .args .run) (s .args .bytes .now) (s .args .wires .now) =
     e .evaluate .ensures .1
-    ∙ ap₂ (λ (k : ℕ) (b : List ℕ). filled g (take k b) (s .args .wires .now)) (i .ensures) (p .pack .ensures .1) in (
+    ∙ ap₂ (λ (k : ℕ) (b : List ℕ). filledWires g (take k b) (s .args .wires .now)) (i .ensures) (p .pack .ensures .1) in (
       ap (λ (r : Read). r .run)
           (c .before .read-back .ensures
           ∙ ap (readBack (d .n)) (outputs-part d g (i .result) (w .state-wires .result) (i .ensures) (w .state-wires .ensures) (fit s) _
