@@ -27,7 +27,8 @@ threeValues d = bytes "3" ∷ decimal (2 * d .n * d .left) ∷ decimal (2 * d .n
 -- with them, "an input value before the state"
 abbrev pub fourValues : Dimensions → List (List ℕ)
 fourValues d =
-    bytes "4" ∷ decimal (2 * d .n * d .left) ∷ decimal (2 * d .n * d .right) ∷ decimal (2 * d .n * d .public) ∷ decimal (stateWires (d .n)) ∷ []
+    bytes "4" ∷ decimal (2 * d .n * d .left) ∷ decimal (2 * d .n * d .right)
+    ∷ decimal (2 * d .n * d .public) ∷ decimal (stateWires (d .n)) ∷ []
 
 -- "with none, that value is absent and the header is as before": document 02, Public rest rules
 abbrev pub inputFields : Dimensions → List (List ℕ)

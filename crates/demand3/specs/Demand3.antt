@@ -67,7 +67,8 @@ Seen = List ℕ × ℕ × List Bool × List ℕ × (ℕ → List Row)
 -- what is seen of the repeats, the answer being the one that they give; the public rows too, since everybody knows them
 abbrev pub seen : Dimensions → (ℕ → Tables) → ℕ → List Attempt → Seen
 seen d tables budget attempts =
-    let h = historyOf d tables budget attempts in (circuitTextOf d, length h, marks h, answerText (min (d .n) 32) (answerIn (d .n) h), publicIn d tables)
+    let h = historyOf d tables budget attempts in
+    (circuitTextOf d, length h, marks h, answerText (min (d .n) 32) (answerIn (d .n) h), publicIn d tables)
 
 -- ---- the demand
 
@@ -88,7 +89,8 @@ pub record Demand3 (d : Dimensions) : Type 0 where
       → Follows d tables budget (historyOf d tables budget attempts)
   -- repeats that have ended give the run's answer; and they end where as many attempts as it counts are long enough
   pub end : (tables : ℕ → Tables) → AllAccepts d tables → (budget : ℕ) (attempts : List Attempt)
-      → (ended budget (historyOf d tables budget attempts) ≡ true → answerIn (d .n) (historyOf d tables budget attempts) ≡ answerFor d tables budget)
+      → (ended budget (historyOf d tables budget attempts) ≡ true
+      → answerIn (d .n) (historyOf d tables budget attempts) ≡ answerFor d tables budget)
       × (answerFor d tables budget .count ≤ longOnes d attempts → ended budget (historyOf d tables budget attempts) ≡ true)
   -- the writer, asked for line 0, 1, 2, … with room for each, puts lines that joined are the text, and says then that it has no more
   pub text : outcome (sizeChecks d) ≡ Taken

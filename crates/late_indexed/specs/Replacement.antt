@@ -32,7 +32,8 @@ indexThen d tables index run number c =
 -- how many of those rows the run leaves unsatisfied; refused, the number as it was
 unfoldable pub numberThen : Dimensions → Tables → List ℕ → Run → ℕ → Condition → ℕ
 numberThen d tables index run number c =
-    given (outcome (replaceChecks d tables index run number c)) (unsatisfiedRows (d .n) (rowsOf d (replacedIn d tables c)) (run .t) (run .f)) (λ r. number)
+    given (outcome (replaceChecks d tables index run number c))
+    (unsatisfiedRows (d .n) (rowsOf d (replacedIn d tables c)) (run .t) (run .f)) (λ r. number)
 
 -- outcome and number together
 abbrev pub replacedIndexed : Dimensions → Tables → List ℕ → Run → ℕ → Condition → ReplacedIndexed

@@ -38,6 +38,7 @@ outputsIn d gates wires = take (stateWires (d .n) + 1) (drop (inputWires d + len
 pub record CarriesOut (d : Dimensions) (gates : List ℕ) : Type 0 where
   pub few : length gates ≤ 3 * ceiling d
   pub taken : accepted (inputWires d) gates ≡ true
-  pub steps : (tables : Tables) (s : State) (wires : List ℕ) → wellFormedState (d .n) s ≡ true → inputWires d + length gates / 3 ≤ length wires
+  pub steps : (tables : Tables) (s : State) (wires : List ℕ) → wellFormedState (d .n) s ≡ true
+      → inputWires d + length gates / 3 ≤ length wires
       → (outcome (evaluationChecks gates (bytesOf (inputBits d tables s)) wires) ≡ Taken)
       × (outputsIn d gates (filledWires gates (bytesOf (inputBits d tables s)) wires) ≡ bytesOf (outputBits (d .n) (rowsOf d tables) s))

@@ -43,7 +43,8 @@ choice = AND 2 1 ∷ XOR 0 8 ∷ []
 -- Gates: 1 open, 3 conflict, 4 force, 6 push, 7 done, 8 refute, 9 pop, 10 a variable is set, 12 set F
 abbrev pub rule : List Gate
 rule =
-    XOR 0 1 ∷ INV 8 ∷ AND 9 2 ∷ AND 10 3 ∷ XOR 10 11 ∷ XOR 9 10 ∷ AND 13 3 ∷ XOR 13 14 ∷ AND 11 5 ∷ XOR 11 16 ∷ XOR 12 14 ∷ INV 4 ∷ AND 12 19 ∷ []
+    XOR 0 1 ∷ INV 8 ∷ AND 9 2 ∷ AND 10 3 ∷ XOR 10 11 ∷ XOR 9 10 ∷ AND 13 3
+    ∷ XOR 13 14 ∷ AND 11 5 ∷ XOR 11 16 ∷ XOR 12 14 ∷ INV 4 ∷ AND 12 19 ∷ []
 
 -- slots node, digit: the node's child where the digit is 1, and where it is 0
 abbrev pub split : List Gate

@@ -70,8 +70,10 @@ pub fn step_in_place(
     public: &[u32],
     run: &mut Run,
 ) -> Outcome
-    ensures { λ r. ⌜ r ≡ stepped d (allTables (now (left .entry)) (now (right .entry)) (now (public .entry))) (now (run .entry)) .outcome ⌝ }
-    ensures { λ _. ⌜ now (run .exit) ≡ stepped d (allTables (now (left .entry)) (now (right .entry)) (now (public .entry))) (now (run .entry)) .run ⌝ }
+    ensures { λ r.
+        ⌜ r ≡ stepped d (allTables (now (left .entry)) (now (right .entry)) (now (public .entry))) (now (run .entry)) .outcome ⌝ }
+    ensures { λ _.
+        ⌜ now (run .exit) ≡ stepped d (allTables (now (left .entry)) (now (right .entry)) (now (public .entry))) (now (run .entry)) .run ⌝ }
 {
     let next = step(d, left, right, public, *run);
     *run = next.run;
