@@ -168,6 +168,7 @@ abbrev pub solvedWithin : ℕ → Solved → Type 0
 solvedWithin n (solved.Of a) = Within n a
 solvedWithin n (solved.Refused r) = Unit
 
+-- two answers or refusals, each answer with a 64-bit count and its model below n, that print the same text for n variables are equal
 pub printed-injective : (n : ℕ) (x y : Solved) → solvedWithin n x → solvedWithin n y → solvedText n x ≡ solvedText n y → x ≡ y
 printed-injective n (solved.Of a) (solved.Of b) wa wb e = ap solved.Of (answer-injective n a b wa wb e)
 printed-injective n (solved.Refused q) (solved.Refused r) wa wb e = ap solved.Refused (refusal-injective q r e)

@@ -89,6 +89,7 @@ module _ (d : Dimensions) (ws : List ℕ) (e : outcome (circuitChecks d ws) ≡ 
   in-a-row i zero = refl
   in-a-row i (suc k) = ap (λ (x : List ℕ). put i ++ x) (in-a-row (suc i) k ∙ ap (λ (j : ℕ). asked put (λ l. 1) j k) (omega arith))
 
+  -- requests in a row from line 0 on, each with room for its line and at least as many as there are lines, put the text of a circuit that is taken
   pub requests-join : (k : ℕ) → 4 + length ws / 3 ≤ k → requested d ws lent 0 k ≡ circuitText d (gatesOf ws)
   unfolding circuitText
   requests-join k h = in-a-row 0 k ∙ asked-join (circuitLines d (gatesOf ws)) put (λ j. 1) one-line (λ i b. omega arith) 0 k (omega (arith, taken-lines d ws e))
@@ -163,6 +164,7 @@ module _ (d : Dimensions) (ws : List ℕ) (e : outcome (circuitChecks d ws) ≡ 
   unfolding circuitText
   all-lines = fitting-all (length lent) (circuitLines d (gatesOf ws)) room
 
+  -- with room for the text of a taken circuit, a request from line 0 on says its lines and bytes, and leaves it in front of the lent bytes
   pub lines-whole : (writtenLines d ws 0 lent ≡ lines.Lines (length (circuitLines d (gatesOf ws))) (length (circuitText d (gatesOf ws))))
       × (filledLines d ws 0 lent ≡ over (circuitText d (gatesOf ws)) lent)
   unfolding circuitText

@@ -80,6 +80,7 @@ module _ (wire m : ℕ) (h : m ≤ 2 ^ 64) where
   fields-injective (INV a) (XOR x y) p q e = absurd (let z : _≡_ {A = ℕ} 49 50 = differ _ _ 0 e in omega arith)
   fields-injective (INV a) (AND x y) p q e = absurd (let z : _≡_ {A = ℕ} 49 50 = differ _ _ 0 e in omega arith)
 
+  -- gates that read 64-bit wires and drive one wire, whose lines start the same bytes, are equal, and so is what follows the lines
   pub gate-split : (f g : Gate) (s t : List ℕ) → reads m f ≡ true → reads m g ≡ true → gateLine wire f ++ s ≡ gateLine wire g ++ t → (f ≡ g) × (s ≡ t)
   gate-split f g s t p q e =
       let parts = line-split (gateFields wire f) (gateFields wire g) s t (gate-plain wire f) (gate-plain wire g) e in
@@ -117,9 +118,11 @@ pub size-split : (gates wires gates′ wires′ : ℕ) (s t : List ℕ) → size
 size-split gates wires gates′ wires′ s t e =
     line-split (sizeFields gates wires) (sizeFields gates′ wires′) s t (size-plain gates wires) (size-plain gates′ wires′) e .1
 
+-- second header lines that start the same bytes have the same fields, and what follows them is equal
 pub input-split : (d e : Dimensions) (s t : List ℕ) → inputLine d ++ s ≡ inputLine e ++ t → (inputFields d ≡ inputFields e) × (s ≡ t)
 input-split d e s t h = line-split (inputFields d) (inputFields e) s t (input-plain d) (input-plain e) h
 
+-- what follows third header lines that start the same bytes is equal
 pub output-split : (d e : Dimensions) (s t : List ℕ) → outputLine d ++ s ≡ outputLine e ++ t → s ≡ t
 output-split d e s t h = line-split (outputFields d) (outputFields e) s t (output-plain d) (output-plain e) h .1
 

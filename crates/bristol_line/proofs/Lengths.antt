@@ -28,9 +28,11 @@ line-length [] h = omega arith
 line-length (f ∷ []) h = omega (arith, length-append f (10 ∷ []), h .0)
 line-length (f ∷ g ∷ fs) h = omega (arith, length-append f (32 ∷ line (g ∷ fs)), h .0, line-length (g ∷ fs) (h .1))
 
+-- the first header line has at most 127 bytes
 pub size-length : (gates wires : ℕ) → length (sizeLine gates wires) ≤ 127
 size-length gates wires = omega (arith, line-length (decimal gates ∷ decimal wires ∷ []) (decimal-length gates, (decimal-length wires, tt)))
 
+-- the second header line has at most 127 bytes
 pub input-length : (d : Dimensions) → length (inputLine d) ≤ 127
 input-length d = go (eqb (d .public) 0)
   where
@@ -38,6 +40,7 @@ input-length d = go (eqb (d .public) 0)
     go true = omega (arith, line-length (threeValues d) (omega arith, (decimal-length _, (decimal-length _, (decimal-length _, tt)))))
     go false = omega (arith, line-length (fourValues d) (omega arith, (decimal-length _, (decimal-length _, (decimal-length _, (decimal-length _, tt))))))
 
+-- the third header line has at most 127 bytes
 pub output-length : (d : Dimensions) → length (outputLine d) ≤ 127
 output-length d =
     let s = stateWires (d .n) in
@@ -53,6 +56,7 @@ two-length a b wire kind h =
           (omega arith, (omega arith, (decimal-length a, (decimal-length b, (decimal-length wire, (h, tt)))))),
     )
 
+-- the line of a gate has at most 127 bytes
 pub gate-length : (wire : ℕ) (g : Gate) → length (gateLine wire g) ≤ 127
 gate-length wire (XOR a b) = two-length a b wire (bytes "XOR") (omega arith)
 gate-length wire (AND a b) = two-length a b wire (bytes "AND") (omega arith)
@@ -73,6 +77,7 @@ pub record Holds (text : Line) (l : List ℕ) : Type 0 where
   pub short : text .length ≤ length (text .bytes)
   pub front : take (text .length) (text .bytes) ≡ l
 
+-- the line by value of at most 127 bytes holds them
 pub holds : (text : Line) (l : List ℕ) → text ≡ lineOf l → length l ≤ 127 → Holds text l
 holds text l e h =
     let size : text .length ≡ length l = ap (λ (t : Line). t .length) e in

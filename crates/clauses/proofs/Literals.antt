@@ -46,6 +46,7 @@ row-holds s i (l ∷ ls) =
 
 -- ---- clauses whose variables are below n
 
+-- every literal of a clause has its bit below n
 abbrev pub below : ℕ → List Literal → Bool
 below n [] = true
 below n (l ∷ ls) = ltb (l .bit) n && below n ls
@@ -73,6 +74,7 @@ width : List Literal → ℕ
 width [] = 0
 width (l ∷ ls) = suc (l .bit) + width ls
 
+-- literals whose bits are below a have them below every b from a on
 pub below-more : (a b : ℕ) (ls : List Literal) → a ≤ b → below a ls ≡ true → below b ls ≡ true
 below-more a b [] h e = refl
 below-more a b (l ∷ ls) h e =

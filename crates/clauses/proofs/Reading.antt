@@ -135,6 +135,7 @@ module _ {n : ℕ} {text : List ℕ} {at start : ℕ} {row : Row} {from to : ℕ
 
 -- ---- every literal that is read is below n
 
+-- every literal of every clause of a reading has its bit below n
 abbrev pub belowAll : ℕ → Reading → Bool
 belowAll n (clause ls from to rest) = below n ls && belowAll n rest
 belowAll n ended = true
@@ -154,6 +155,7 @@ before-below n t (number s (suc i)) rest e =
     (λ h. rw h (joined-below n (record { minus = s; bit = i }) (t .at) rest h e))
     (λ h. rw h)
 
+-- every literal of the clauses that tokens give over n variables has its bit below n
 pub clauses-below : (n : ℕ) (ts : List Piece) → belowAll n (clauses n ts) ≡ true
 unfolding clauses
 clauses-below n [] = refl

@@ -58,8 +58,10 @@ module _ (n : ℕ) (ts us : List Piece) (same : bytesOf ts ≡ bytesOf us) where
   unplaced-same : unplaced (clauses n ts) ≡ unplaced (clauses n us)
   unplaced-same = clauses-unplaced n ts ∙ ap (clausesOf n) same ∙ sym (clauses-unplaced n us)
 
+  -- tokens of the same bytes give the same rows
   pub rows-same : clauseRows (clauses n ts) ≡ clauseRows (clauses n us)
   rows-same = sym (rows-unplaced (clauses n ts)) ∙ ap clauseRows unplaced-same ∙ rows-unplaced (clauses n us)
 
+  -- whether all clauses can be read is the same for tokens of the same bytes
   pub complete-same : complete (clauses n ts) ≡ complete (clauses n us)
   complete-same = sym (complete-unplaced (clauses n ts)) ∙ ap complete unplaced-same ∙ complete-unplaced (clauses n us)

@@ -54,9 +54,11 @@ on-number f x refused n k e =
     (λ h. refused (min n 255) (outside-byte 32 n (omega arith) ∙ h) ∙ sym (refused n h))
     (λ h. ap f (low-byte n (omega (arith, most 32 n h))))
 
+-- the check on n gives the same outcome on its byte, the lesser of n and 255
 pub checks-are : (n k : ℕ) → k ≡ min n 255 → outcome (variableChecks k) ≡ outcome (variableChecks n)
 checks-are = on-number (λ x. outcome (variableChecks x)) (Refused Variables) (λ x h. sym (variables-refused x h))
 
+-- an n that its check takes is at most 32
 pub taken-low : (n : ℕ) → outcome (variableChecks n) ≡ Taken → n ≤ 32
 taken-low n e = most 32 n (check-passed (outside 32 n) Variables Taken e)
 
@@ -64,6 +66,7 @@ taken-low n e = most 32 n (check-passed (outside 32 n) Variables Taken e)
 
 -- The dimensions asked for may be any numbers. Within the limits their bytes are the same dimensions, and past them both are refused alike.
 module _ (asked : Dimensions) where
+  -- the dimensions asked for, with 255 in place of each number above it
   abbrev pub asBytes : Dimensions
   asBytes = dimensions (min (asked .n) 255) (min (asked .left) 255) (min (asked .right) 255) (min (asked .public) 255)
 
@@ -76,6 +79,7 @@ module _ (asked : Dimensions) where
         above-byte 128 (asked .public) (omega arith),
       )
 
+  -- where the checks on the sizes take the dimensions asked for, their bytes are the same dimensions
   pub taken-same : outcome (sizeChecks asked) ≡ Taken → asBytes ≡ asked
   taken-same e =
       let w = within asked e in

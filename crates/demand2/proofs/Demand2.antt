@@ -125,6 +125,7 @@ module _ (n : ℕ) (rows : ℕ → List Row) (few : n ≤ 32) (low : (i : ℕ) �
   unknown-bound : 2 ^ suc (occurring n last) - 1 ≤ budget → verdictOf (r .final .standing) (r .final .t) ≡ Unknown → ⊥
   unknown-bound h e = let o = still-open e in omega (arith, open-bound budget (omega (arith, o .0)) (o .1))
 
+  -- the budgeted run's answer meets demand 2 where n is at most 32, no row has a bit at or above n, and the rows of each step grow from the earlier ones
   pub demand2-rows : Demand2 n rows budget (answerOf n rows budget)
   unfolding answerOf r
   demand2-rows = record {

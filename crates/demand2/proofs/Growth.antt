@@ -48,9 +48,11 @@ pub record Grows (n : ℕ) (old new : List Row) : Type 0 where
   pub true-before : (a : ℕ → Bool) → allTrue a new ≡ true → allTrue a old ≡ true
   pub occurs-still : (i : ℕ) → occurs n old i ≡ true → occurs n new i ≡ true
 
+-- rows that stay as they are have grown from themselves
 pub grows-same : (n : ℕ) (rows : List Row) → Grows n rows rows
 grows-same n rows = record { true-before = λ a e. e; occurs-still = λ i e. e }
 
+-- rows that grew from rows that grew have grown from the first
 pub grows-on : (n : ℕ) (a b c : List Row) → Grows n a b → Grows n b c → Grows n a c
 grows-on n a b c g h = record { true-before = λ x e. g .true-before x (h .true-before x e); occurs-still = λ i e. h .occurs-still i (g .occurs-still i e) }
 

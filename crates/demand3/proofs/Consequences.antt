@@ -146,6 +146,7 @@ module _ (d : Dimensions) (x : Demand3 d) where
           let enough : answerFor d tables budget .count ≤ longOnes d attempts = omega (arith, ap (λ (y : Answer). y .count) plainly) in
           x .end tables acc budget attempts .1 enough
 
+      -- the repeats of as many long enough attempts as the budgeted run's answer counts, or more, give that answer
       pub answer-is : answerIn (d .n) whole ≡ a
       answer-is = x .end tables acc budget attempts .0 reached ∙ plainly
 

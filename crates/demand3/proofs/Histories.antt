@@ -25,6 +25,7 @@ use Rattle.repeats.proofs.Applying.{comes, attempt-is}
 
 -- ---- closed states and the budgeted run
 
+-- a standing that is not closed is open
 pub closed-open : (st : Standing) → ifOpen st false true ≡ false → st ≡ Open
 closed-open Open e = refl
 closed-open Satisfied e = absurd (true≢false e)
@@ -42,11 +43,13 @@ module _ (n : ℕ) (rows : ℕ → List Row) where
     | Refuted ↦ record { steps = 0; final = s }
   ]
 
+  -- with budget left, the run from an open state takes one step more than the run with one less, and the later rows, from the state after that step
   pub steps-open : (budget : ℕ) (s : State) → s .standing ≡ Open → runFrom n rows (suc budget) s .steps
       ≡ suc (runFrom n (later rows) budget (step n (rows 0) s) .steps)
   unfolding runFrom
   steps-open budget s e = ap (λ (st : Standing). ranBy budget s st .steps) e
 
+  -- from a closed state the run takes no step
   pub steps-closed : (budget : ℕ) (s : State) → closed s ≡ true → runFrom n rows budget s .steps ≡ 0
   unfolding runFrom
   steps-closed zero s e = refl

@@ -117,6 +117,7 @@ pub record AllWithin (t : TextTables) : Type 0 where
   pub right : Within 1 (t .n) (t .«right_rows») (t .right)
   pub public : Within 0 (t .n) (t .«public_rows») (t .public)
 
+-- where three texts are taken, the tables read from them have 256 words each, and refusals 1 to 4 do not apply to them
 pub accepted-texts : (left right public : List ℕ) → textTables left right public .outcome ≡ Taken → AllWithin (textTables left right public)
 accepted-texts left right public taken =
     let l = tableOf 1 left in

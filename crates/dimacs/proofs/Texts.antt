@@ -15,10 +15,12 @@ use Rattle.header.proofs.Limits.{header-either}
 use Rattle.dimacs.specs.Text.{refused, tableOf}
 use Rattle.dimacs.proofs.Remarks.{standing, as-it-stands}
 
+-- a text of more than 65536 bytes is refused with 5
 pub overlong : (least : ℕ) (text : List ℕ) → 65536 < length text → tableOf least text ≡ refused Text
 unfolding tableOf
 overlong least text h = rw (lt-ltb 65536 (length text) h)
 
+-- any other text has its header's refusal, or the table of the clauses read behind the header in the text as it stands
 pub by-header : (least : ℕ) (text : List ℕ) → length text ≤ 65536 → (h : Header) → h ≡ headerOf least text → (x : Sizes) → h .sizes ≡ x
     → tableOf least text ≡ standing text (h .end) x
 unfolding tableOf

@@ -29,6 +29,7 @@ module _ (l r p : Table) where
   pub by-outcome : (o : Outcome) → textsOutcome l r p ≡ o → together l r p ≡ given o (acceptedTexts l r p) refusedTexts
   by-outcome o e = ap (λ (x : Outcome). given x (acceptedTexts l r p) refusedTexts) e
 
+  -- left's refusal is that of all three
   pub left-first : (x : Refusal) → l .outcome ≡ Refused x → textsOutcome l r p ≡ Refused x
   left-first x e = ap (λ (o : Outcome). given o (given (r .outcome) (given (p .outcome) (sharedN l r p) Refused) Refused) Refused) e
 
@@ -36,6 +37,7 @@ module _ (l r p : Table) where
     after-left : textsOutcome l r p ≡ given (r .outcome) (given (p .outcome) (sharedN l r p) Refused) Refused
     after-left = ap (λ (o : Outcome). given o (given (r .outcome) (given (p .outcome) (sharedN l r p) Refused) Refused) Refused) left-taken
 
+    -- where left is taken, right's refusal is that of all three
     pub then-right : (x : Refusal) → r .outcome ≡ Refused x → textsOutcome l r p ≡ Refused x
     then-right x e = after-left ∙ ap (λ (o : Outcome). given o (given (p .outcome) (sharedN l r p) Refused) Refused) e
 
@@ -43,6 +45,7 @@ module _ (l r p : Table) where
       after-right : textsOutcome l r p ≡ given (p .outcome) (sharedN l r p) Refused
       after-right = after-left ∙ ap (λ (o : Outcome). given o (given (p .outcome) (sharedN l r p) Refused) Refused) right-taken
 
+      -- where left and right are taken, the refusal of the public rest rules is that of all three
       pub then-public : (x : Refusal) → p .outcome ≡ Refused x → textsOutcome l r p ≡ Refused x
       then-public x e = after-right ∙ ap (λ (o : Outcome). given o (sharedN l r p) Refused) e
 

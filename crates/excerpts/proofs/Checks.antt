@@ -75,6 +75,7 @@ module _ (d : Dimensions) (tables : Tables) (leftText rightText : List ℕ) (num
   abbrev r : Table
   r = tableOf 1 rightText
 
+  -- what the tables are refused with, asking for a clause is refused with
   pub tables-refused : (q : Refusal) → outcome (tableChecks d tables) ≡ Refused q → Refused q ≡ outcome (excerptChecks d tables leftText rightText number)
   tables-refused q e = sym (outcome-refused (tableChecks d tables) (textChecks d l r number) q e)
 

@@ -153,6 +153,7 @@ module _ (d : Dimensions) (tables : Tables) (leftText rightText : List ℕ) (num
         (placeNumbers (clausePlace d tables leftText rightText number)) refl (λ r. refl),
   )
 
+  -- where asking for a clause is refused, that refusal is handed back and no place
   pub place-refused : (q : Refusal) → outcomes.Refused q ≡ outcome (excerptChecks d tables leftText rightText number)
       → placed′.Refused q ≡ placed d tables leftText rightText number
   unfolding placed

@@ -24,6 +24,7 @@ unfoldable pub ordered : ℕ → List Gate → Bool
 ordered m [] = true
 ordered m (g ∷ gs) = reads m g && ordered (suc m) gs
 
+-- two lists of gates joined: ordered behind m wires just if the first is, and the second is behind these and the first list's wires
 pub ordered-append : (m : ℕ) (xs ys : List Gate) → ordered m (xs ++ ys) ≡ ordered m xs && ordered (m + length xs) ys
 unfolding ordered
 ordered-append m [] ys = ap (λ (k : ℕ). ordered k ys) (sym (add-zero m))

@@ -17,6 +17,7 @@ use Rattle.gates.proofs.Circuits.{reads, ordered}
 
 -- ---- gates and words
 
+-- the words of two lists of gates joined are the words of each, joined
 pub words-append : (xs ys : List Gate) → wordsOf (xs ++ ys) ≡ wordsOf xs ++ wordsOf ys
 unfolding wordsOf
 words-append [] ys = refl
@@ -28,11 +29,13 @@ three (XOR a b) = refl
 three (AND a b) = refl
 three (INV a) = refl
 
+-- gates have three words each
 pub words-length : (gs : List Gate) → length (wordsOf gs) ≡ 3 * length gs
 unfolding wordsOf
 words-length [] = refl
 words-length (g ∷ gs) = omega (arith, length-append (gateWords g) (wordsOf gs), three g, words-length gs)
 
+-- the words of gates are read back as these gates
 pub gates-words : (gs : List Gate) → gatesOf (wordsOf gs) ≡ gs
 unfolding gatesOf wordsOf
 gates-words [] = refl
@@ -49,6 +52,7 @@ drives-words m (XOR a b) ws = refl
 drives-words m (AND a b) ws = refl
 drives-words m (INV a) ws = ap (λ (b : Bool). b && accepted (suc m) ws) (and-comm (ltb a m) true)
 
+-- the words of gates are accepted behind m wires just if each gate reads wires before its own only
 pub accepted-words : (m : ℕ) (gs : List Gate) → accepted m (wordsOf gs) ≡ ordered m gs
 unfolding accepted wordsOf ordered
 accepted-words m [] = refl
@@ -71,6 +75,7 @@ words-gates m (k ∷ (a ∷ [])) e = absurd (false≢true e)
 words-gates m (k ∷ (a ∷ (b ∷ ws))) e =
     ap₂ (λ (x y : List ℕ). x ++ y) (words-gate m k a b (and-l _ _ e)) (words-gates (suc m) ws (and-r (drives m k a b) _ e))
 
+-- of words accepted behind m wires, each gate reads wires before its own only
 pub accepted-ordered : (m : ℕ) (ws : List ℕ) → accepted m ws ≡ true → ordered m (gatesOf ws) ≡ true
 accepted-ordered m ws e =
     sym (accepted-words m (gatesOf ws)) ∙ ap (λ (l : List ℕ). accepted m l) (words-gates m ws e) ∙ e
@@ -81,12 +86,14 @@ accepted-length m ws e = ap length (sym (words-gates m ws e)) ∙ words-length (
 
 -- ---- wires and bytes
 
+-- written as bytes, wires' values are each 0 or 1
 pub bits-bytes : (w : List Bool) → bits (bytesOf w) ≡ true
 unfolding bits
 bits-bytes [] = refl
 bits-bytes (true ∷ w) = bits-bytes w
 bits-bytes (false ∷ w) = bits-bytes w
 
+-- wires' values, written as bytes and read back, are the same values
 pub bitsOf-bytesOf : (w : List Bool) → bitsOf (bytesOf w) ≡ w
 bitsOf-bytesOf [] = refl
 bitsOf-bytesOf (true ∷ w) = ap (λ (l : List Bool). true ∷ l) (bitsOf-bytesOf w)
@@ -97,6 +104,7 @@ digit-eqb zero h = refl
 digit-eqb (suc zero) h = refl
 digit-eqb (suc (suc x)) h = absurd (not-suc-le-zero (le-of-suc-le-suc (le-of-suc-le-suc h)))
 
+-- bytes that are each 0 or 1, read as wires' values and written again, are the same bytes
 pub bytesOf-bitsOf : (s : List ℕ) → bits s ≡ true → bytesOf (bitsOf s) ≡ s
 unfolding bits
 bytesOf-bitsOf [] e = refl

@@ -13,6 +13,7 @@ use Rattle.words.proofs.Truth.{and-l, and-r, on}
 use Rattle.gates.specs.Memory.{drives, accepted}
 use Rattle.gates.proofs.InMemory.{accepted-length}
 
+-- words whose number is no multiple of 3 are not accepted
 pub accepted-uneven : (m : ℕ) (ws : List ℕ) → (length ws % 3 ≡ 0 → ⊥) → accepted m ws ≡ false
 accepted-uneven m ws h =
     on (accepted m ws) (λ e. absurd (h (omega (arith, accepted-length m ws e)))) (λ e. e)
@@ -36,6 +37,7 @@ accepted-far m n (k ∷ (a ∷ (b ∷ ws))) hm hn h =
 pub first-late : (m k a b : ℕ) → m ≤ a → drives m k a b ≡ false
 first-late m k a b h = rw (le-ltb a m h) (and-false (ltb k 3))
 
+-- three words of which the first wire is an earlier one and the second is not may not drive wire m, whatever the kind
 pub second-late : (m k a b : ℕ) → a < m → m ≤ b → drives m k a b ≡ false
 second-late m k a b h l = rw (lt-ltb a m h, le-ltb b m l, ne-eqb b 0 (λ e. omega arith)) (ap (λ (t : Bool). ltb k 3 && t) (go (eqb k 2)) ∙ and-false (ltb k 3))
   where
@@ -67,6 +69,7 @@ drop-three g i h =
     ∙ ap (λ (l : List ℕ). getD g (i + 1) 0 ∷ l)
     (ap (λ (j : ℕ). drop j g) e₂ ∙ drop-cons g (i + 2) 0 (omega arith) ∙ ap (λ (j : ℕ). getD g (i + 2) 0 ∷ drop j g) e₃))
 
+-- words from i on, three or more: accepted behind m wires just if those three may drive wire m and the rest is accepted behind one wire more
 pub accepted-at : (g : List ℕ) (i : ℕ) → i + 3 ≤ length g → (m : ℕ)
     → accepted m (drop i g) ≡ drives m (getD g i 0) (getD g (i + 1) 0) (getD g (i + 2) 0) && accepted (m + 1) (drop (i + 3) g)
 unfolding accepted

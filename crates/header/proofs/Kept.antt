@@ -130,5 +130,6 @@ module _ (least : ℕ) (text : List ℕ) where
       (let i : 0 + run inLine v ≡ width = omega (arith, line-run rest) in
       ap (λ (x : ℕ). drop x v) i ∙ line-drop rest ∙ ap (keptFrom line) (drop-drop width h text))
 
+  -- whatever the least row count, a text without its remarks has the same sizes in its header, and behind the header what is kept of the text
   pub header-same : Same
   header-same = ⊎-elim none (λ n. found (n .0) (n .1)) (search-from text (length text) 0 (omega arith) (omega arith))

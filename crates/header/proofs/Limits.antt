@@ -113,6 +113,7 @@ module _ (least : ℕ) (P : Sizes → Type 0) (text-refused : P (Refused Text)) 
   lines-either text [] = text-refused
   lines-either text (l ∷ ls) = parts-either (partsFrom isBlank (trimmed isTail (l .bytes)) 0)
 
+  -- what holds of refusals 1, 2 and 5, and of all n and m within their limits, holds of the sizes that any text's header gives
   pub header-either : (text : List ℕ) → P (headerOf least text .sizes)
   unfolding headerOf
   header-either text = lines-either text (pastRemarks (linesFrom text 0))

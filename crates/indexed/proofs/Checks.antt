@@ -56,6 +56,7 @@ module _ (n : ℕ) (run : Run) (exact right : Bool) where
     pub number : right ≡ true
     pub same-n : run .n ≡ n
 
+  -- where none of the checks refuses, the run is well-formed and of n variables, the index is exact and the number right
   pub kept : outcome (keptChecks n run exact right) ≡ Taken → Kept
   kept e =
       let e₁ = checks-taken (not (wellFormed run)) refusal.State _ e in

@@ -163,6 +163,7 @@ still-open Satisfied e = absurd (true≢false e)
 still-open Refuted e = absurd (true≢false e)
 
 module _ (d : Dimensions) (tables : Tables) (run : Run) (c : Condition) where
+  -- where a condition passes its own checks, it replaces a padding row of its station's, the run is open, and the new row has no bit at or above n
   pub condition-parts : outcome (conditionChecks d tables run c) ≡ Taken → Fitting d tables run c
   condition-parts e =
       let own = owns d (c .station) (c .number) in

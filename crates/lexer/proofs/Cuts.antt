@@ -128,14 +128,17 @@ pub record FoundBy (from : ℕ → List Piece) (text : List ℕ) (at s e : ℕ) 
   pub within : e ≤ length text
   pub ends : s + length (part s e text) ≡ e
 
+-- where the first of some pieces is nothing, there are none
 pub none-first : (ps : List Piece) → firstOf ps ≡ Nothing → ps ≡ []
 none-first [] e = refl
 none-first (q ∷ qs) e = absurd (let z : _≡_ {A = ℕ} 0 1 = cc in omega arith)
 
+-- found among the longest runs of bytes that do not pass: the first of them from `at` on is the one from s to e
 abbrev pub Found : (ℕ → Bool) → List ℕ → ℕ → ℕ → ℕ → Type 0
 Found p text at s e = FoundBy (partsFrom p text) text at s e
 
 module _ (p : ℕ → Bool) (text : List ℕ) (at : ℕ) where
+  -- where the first piece from a place on is answered by two places, it is found there: it stands between them, and the pieces from its end on follow
   pub found : (s e : ℕ) → firstOf (partsFrom p text at) ≡ At s e → Found p text at s e
   found s e f =
       let i = runEnd p text at in
@@ -157,5 +160,6 @@ module _ (p : ℕ → Bool) (text : List ℕ) (at : ℕ) where
       (λ t. let q = sym f ∙ first-none p text at (ltb-false i (length text) t) in
       absurd (let z : _≡_ {A = ℕ} 0 1 = cc q in omega arith))
 
+  -- where the first piece from a place on is answered by nothing, there is no piece from that place on
   pub missing : firstOf (partsFrom p text at) ≡ Nothing → partsFrom p text at ≡ []
   missing f = none-first (partsFrom p text at) f

@@ -62,6 +62,7 @@ unfolding linesOf kept keptFrom
 left [] = (refl, refl, refl)
 left (b ∷ bs) = one-more b (linesOf bs) bs (left bs)
 
+-- a text without its remark lines is what is kept of it byte by byte, the first byte standing at a line's start
 pub kept-is : (text : List ℕ) → withoutRemarks text ≡ keptFrom start text
 unfolding withoutRemarks
 kept-is text = left text .0
@@ -71,21 +72,25 @@ kept-is text = left text .0
 abbrev inLine : ℕ → Bool
 inLine b = not (isLineFeed b)
 
+-- from within a line on, the first byte is the same when remarks are left out
 pub first-kept : (bs : List ℕ) → getD (keptFrom line bs) 0 0 ≡ getD bs 0 0
 unfolding keptFrom
 first-kept [] = refl
 first-kept (b ∷ bs) = refl
 
+-- from within a line on, there are as many bytes up to the line's LF when remarks are left out
 pub line-run : (bs : List ℕ) → run inLine (keptFrom line bs) ≡ run inLine bs
 unfolding keptFrom run
 line-run [] = refl
 line-run (b ∷ bs) = on (eqb b 10) (λ e. rw e) (λ e. rw e (ap suc (line-run bs)))
 
+-- from within a line on, the bytes up to the line's LF are the same when remarks are left out
 pub line-take : (bs : List ℕ) → take (run inLine bs) (keptFrom line bs) ≡ take (run inLine bs) bs
 unfolding keptFrom run
 line-take [] = refl
 line-take (b ∷ bs) = on (eqb b 10) (λ e. rw e) (λ e. rw e (more b (line-take bs)))
 
+-- from within a line on, the bytes up to the line's LF may be dropped before remarks are left out or after, with the same result
 pub line-drop : (bs : List ℕ) → drop (run inLine bs) (keptFrom line bs) ≡ keptFrom line (drop (run inLine bs) bs)
 unfolding keptFrom run
 line-drop [] = refl
@@ -103,6 +108,7 @@ unfolding keptFrom run
 past-remark [] = refl
 past-remark (b ∷ bs) = on (eqb b 10) (λ e. rw e) (λ e. rw e (past-remark bs))
 
+-- where the first byte of a line is `c`, what is kept is what is kept of the bytes behind the line's LF
 pub remark-kept : (bs : List ℕ) → getD bs 0 0 ≡ 99 → keptFrom start bs ≡ keptFrom start (drop (suc (run inLine bs)) bs)
 unfolding keptFrom run
 remark-kept [] h = refl
@@ -181,6 +187,7 @@ module _ (p : ℕ → Bool) where
       let (q, qs, c, w, m) = cut-words at bs in
       ap (λ (x : List Piece). bytesOf (notEmpty x)) c ∙ filled-bytes q qs ∙ ap₂ filledWords w m
 
+-- from within a line on, a text without its remarks has the same tokens, their places aside, as the text with each byte of a remark a space
 pub same-tokens : (at i : ℕ) (bs : List ℕ) → bytesOf (notEmpty (cut isSeparator i (keptFrom line bs)))
     ≡ bytesOf (notEmpty (cut isSeparator at (blanked line bs)))
 unfolding SameWords

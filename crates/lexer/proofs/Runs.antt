@@ -35,10 +35,12 @@ run-le p (b ∷ bs) = go (p b) (run-le p bs)
     go true h = omega arith
     go false h = omega arith
 
+-- a run ends no earlier than where it starts
 pub end-ge : (p : ℕ → Bool) (text : List ℕ) (at : ℕ) → at ≤ runEnd p text at
 unfolding runEnd
 end-ge p text at = omega arith
 
+-- a run that starts no later than the text's end ends no later than it
 pub end-le : (p : ℕ → Bool) (text : List ℕ) (at : ℕ) → at ≤ length text → runEnd p text at ≤ length text
 unfolding runEnd
 end-le p text at h = omega (arith, run-le p (drop at text), length-drop at text)

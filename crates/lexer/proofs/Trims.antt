@@ -55,6 +55,7 @@ trimmed-take p bs = ap (take (length (trimmed p bs))) (sym split) ∙ take-at (t
     split : reverse (drop k (reverse bs)) ++ reverse (take k (reverse bs)) ≡ bs
     split = sym (reverse-append (take k (reverse bs)) (drop k (reverse bs))) ∙ ap reverse (take-append-drop k (reverse bs)) ∙ reverse-reverse bs
 
+-- a text without the bytes that pass at its end is no longer than the text
 pub trimmed-le : (p : ℕ → Bool) (bs : List ℕ) → length (trimmed p bs) ≤ length bs
 unfolding trimmed
 trimmed-le p bs =

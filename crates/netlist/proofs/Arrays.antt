@@ -101,6 +101,7 @@ module _ (W : ℕ → Bool) where
 
 -- ---- acceptance
 
+-- where every number of a list is below k, the one at each place is
 pub below-at : (k : ℕ) (s : List ℕ) → Below k s → (x : ℕ) → x < length s → getD s x 0 < k
 below-at k [] b x h = absurd (not-suc-le-zero h)
 below-at k (y ∷ s) b zero h = b .0

@@ -123,6 +123,7 @@ module _ (d : Dimensions) (fits : outcome (sizeChecks d) ≡ Taken) where
         evaluates bits (gatesOn d) wires (ap (λ (k : ℕ). ordered k (gatesOn d)) l ∙ gates-ordered)
         (subst (λ (k : ℕ). k + length (gatesOn d) ≤ length wires) (sym l) h)
 
+  -- the words of the circuit of dimensions that the size checks take carry out the giant step
   pub gates-carry-out : CarriesOut d (wordsOf (gatesOn d))
   gates-carry-out = record {
     few = omega (arith, words-length (gatesOn d), gates-length (d .n) (rowCount d) (within d fits .n-least) a-row);

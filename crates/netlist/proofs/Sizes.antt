@@ -19,6 +19,7 @@ pub record Count : Type 0 where
   pub of-append : (xs ys : List Gate) → of (xs ++ ys) ≡ of xs + of ys
   pub of-cell : (slots : List ℕ) (b : ℕ) (t : List Gate) → of (cell slots b t) ≡ of t
 
+-- a cell has as many gates as its template
 pub cell-length : (slots : List ℕ) (b : ℕ) (t : List Gate) → length (cell slots b t) ≡ length t
 cell-length slots b t = length-map t (placed slots b)
 
@@ -74,15 +75,19 @@ module _ (c : Count) where
 
 -- ---- all gates
 
+-- n circuits of one size, one behind the other, have n times that many gates
 pub rows-length : (f : ℕ → List Gate) (size : ℕ) → ((i : ℕ) → length (f i) ≡ size) → (n : ℕ) → length (rows f n) ≡ size * n
 rows-length = rows-count allGates
 
+-- n cells have n times their template's gates
 pub cells-length : (t : List Gate) (slots steps : List ℕ) (b n : ℕ) → length (cells t slots steps b n) ≡ length t * n
 cells-length = cells-count allGates
 
+-- a line of z zeros and n cells has z gates and n times its template's
 pub line-length : (z : ℕ) (t : List Gate) (slots steps : List ℕ) (b n : ℕ) → length (line z t slots steps b n) ≡ z + length t * n
 line-length z t slots steps b n = line-count allGates z t slots steps b n ∙ omega arith
 
+-- m lines of z zeros and n cells each have m times the gates of one such line
 pub array-length : (z : ℕ) (t : List Gate) (slots outer inner : List ℕ) (b m n : ℕ) → length (array z t slots outer inner b m n) ≡ (z + length t * n) * m
 array-length z t slots outer inner b m n =
     array-count allGates z t slots outer inner b m n ∙ ap (λ (k : ℕ). (k + length t * n) * m) (let h : 1 * z ≡ z = omega arith in h)

@@ -37,6 +37,7 @@ module _ (word : List ℕ) (v i : ℕ) (h : i < length word) where
   unfolding digitsAfter
   one-digit e = rw (drop-cons word i 0 h, e, add-one) (held-after _ _ (drop (suc i) word) (omega arith))
 
+-- a byte that is a digit is at least 48, the byte of 0
 pub digit-low : (b : ℕ) → isDigit b ≡ true → 48 ≤ b
 digit-low b e = leb-true 48 b (on (leb 48 b) (λ t. t) (λ t. absurd (true≢false (sym e ∙ rw t))))
 
@@ -142,10 +143,12 @@ module _ (word : List ℕ) (bytes : length word ≡ 0 → ⊥) where
 
 -- ---- what a held number stands for
 
+-- a number held with a sign and a value is well-formed: it has that sign, and its own value, held up to 1000, is that value
 pub held-value : (x : N.Number) (s : Bool) (v : ℕ) → numberHeld x ≡ Value s v → (w : ℕ) × (x ≡ N.number s w) × (held w ≡ v)
 held-value (N.number t w) s v e = (w, ap (λ (b : Bool). N.number b w) (let q : t ≡ s = cc in q), (let q : held w ≡ v = cc in q))
 held-value N.malformed s v e = absurd (let z : _≡_ {A = ℕ} 0 1 = cc in omega arith)
 
+-- only a malformed number is held as malformed
 pub held-none : (x : N.Number) → numberHeld x ≡ Malformed → x ≡ N.malformed
 held-none (N.number t w) e = absurd (let z : _≡_ {A = ℕ} 0 1 = cc in omega arith)
 held-none N.malformed e = refl

@@ -95,6 +95,7 @@ module _ (d : Dimensions) (tables : Tables) (e : outcome (tableChecks d tables) 
   known : Accepted d tables
   known = accepted d tables e
 
+  -- the gathered words of accepted tables begin with the rows of all three: the left ones, the right ones, the public ones
   pub gathered-rows : rowsFrom (gathered d tables) 0 (rowCount d) ≡ rowsOf d tables
   unfolding gathered
   gathered-rows =

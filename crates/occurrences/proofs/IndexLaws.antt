@@ -49,12 +49,14 @@ module _ (rows : List Row) where
     plain : 0 + v ≡ v
     plain = omega arith
 
+    -- of a variable below 32, word w of the set of its positive literal is word 6 × v + w of the index, w being below 6
     pub positive-at : getD (indexOf rows) (6 * v + w) 0 ≡ wordAt (holdsLiteral true v) rows w
     unfolding indexOf
     positive-at =
         List·getD-append (setsFrom true rows 0 32) (setsFrom false rows 0 32) 0 (6 * v + w) (omega (arith, sets-length true 32 0))
         ∙ sets-at true 32 0 v w b h ∙ ap (λ (x : ℕ). wordAt (holdsLiteral true x) rows w) plain
 
+    -- of a variable below 32, word w of the set of its negative literal is word 6 × (32 + v) + w of the index, w being below 6
     pub negative-at : getD (indexOf rows) (6 * (32 + v) + w) 0 ≡ wordAt (holdsLiteral false v) rows w
     unfolding indexOf
     negative-at =
@@ -68,6 +70,7 @@ abbrev pub place : Bool → ℕ → ℕ
 place true v = v
 place false v = 32 + v
 
+-- in either sign: word w of a literal's set is the index's word at 6 times the literal's number and w more, for a variable below 32 and w below 6
 pub literal-at : (rows : List Row) (sign : Bool) (v w : ℕ) → v < 32 → w < 6 → getD (indexOf rows) (6 * place sign v + w) 0 ≡ wordAt (holdsLiteral sign v) rows w
 literal-at rows true v w b h = positive-at rows v w b h
 literal-at rows false v w b h = negative-at rows v w b h

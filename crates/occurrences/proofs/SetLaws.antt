@@ -62,6 +62,7 @@ module _ (p : Row → Bool) where
   pub word-bit : (rows : List Row) (w j : ℕ) → j < 64 → bit (wordAt p rows w) j ≡ at p rows (64 * w + j)
   word-bit rows w j b = bit-wordOf (λ j. at p rows (64 * w + j)) 64 j b
 
+  -- word w of a set has as many bits set as rows pass among rows 64 w to 64 w + 63
   pub word-size : (rows : List Row) (w : ℕ) → count (bit (wordAt p rows w)) 64 ≡ count (λ j. at p rows (64 * w + j)) 64
   word-size rows w = count-cong (bit (wordAt p rows w)) (λ j. at p rows (64 * w + j)) 64 (word-bit rows w)
 

@@ -53,6 +53,7 @@ module _ (n : ℕ) (bytes : List ℕ) where
   no-variables e = rw e
 
   module _ (e : outside 32 n ≡ false) where
+    -- fewer bytes than the wires of a state of n, for n from 1 to 32, are refused with 10, and the run is the fresh one of n
     pub no-room : length bytes < stateWires n → _≡_ {A = Read} (record { outcome = Refused Wires; run = runOf n fresh }) (readBack n bytes)
     unfolding readBack
     no-room h = rw (e, lt-ltb (length bytes) (stateWires n) h)

@@ -34,9 +34,11 @@ refusal-back NotPadding = refl
 refusal-back Closed = refl
 refusal-back NoClause = refl
 
+-- two refusals with one number are one refusal
 pub number-injective : (q r : Refusal) → numberOf q ≡ numberOf r → q ≡ r
 number-injective q r e = sym (refusal-back q) ∙ ap refusalOf e ∙ refusal-back r
 
+-- no refusal's number is above 17
 pub number-lt : (r : Refusal) → numberOf r < 18
 number-lt Variables = lit< tt
 number-lt RowCount = lit< tt

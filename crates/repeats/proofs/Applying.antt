@@ -49,10 +49,12 @@ use Rattle.repeats.proofs.Judging.{refused, refuse-packing, refuse-wire
 -- ---- the circuit in memory
 
 module _ (d : Dimensions) where
+  -- a third of the number of the circuit's words is the number of its gates
   pub words-third : length (circuitWords d) / 3 ≡ length (gatesOn d)
   unfolding circuitWords
   words-third = omega (arith, words-length (gatesOn d))
 
+  -- where the checks on the sizes are passed, the circuit's words are accepted as gates behind the inputs
   pub words-accepted : outcome (sizeChecks d) ≡ Taken → Memory.accepted (inputWires d) (circuitWords d) ≡ true
   unfolding circuitWords
   words-accepted fits = gates-accepted d fits
@@ -164,6 +166,7 @@ module _ (d : Dimensions) (tables : Tables) (acc : Accepts d tables) (s : State)
   abbrev pub stepped : State
   stepped = step (d .n) (rowsOf d tables) s
 
+  -- where the tables are accepted, the run of a well-formed state passes the checks on a state
   pub fine : outcome (stateChecks d run) ≡ Taken
   unfolding runOf
   fine = let k = accepted d tables acc in sym (take-state d run (run-of-formed (d .n) s (k .size .n-least) (k .size .n-most) formed) refl)
@@ -218,6 +221,7 @@ module _ (d : Dimensions) (tables : Tables) (acc : Accepts d tables) (s : State)
             → comesOf (applied d tables (circuitWords d) run bytes wires handed) again further ≡ comesOf x again further
         to e = ap (λ (x : Applied). comesOf x again further) e
 
+    -- an attempt that is long enough is a repeat that returns the giant step, the last if that is closed; any other is none and leaves the run as it was
     pub attempt-is : (a : Attempt) → comesOf (attempted d tables run a) again further ≡ comes (longEnough d a)
     attempt-is (Lent bytes wires handed) = lent-is bytes wires handed
     attempt-is (Otherwise r) = refl

@@ -80,6 +80,7 @@ module _ (d : Dimensions) (tables : Tables) (gates bytes wires : ℕ) (run : Run
 
 -- ---- what a call that is taken knows
 
+-- accepted tables, room for the ceiling's gate words, for the inputs' bytes and for all wires, and a run that passes the checks on a state
 pub record Passed (d : Dimensions) (tables : Tables) (gates bytes wires : ℕ) (run : Run) : Type 0 where
   pub tables-taken : outcome (tableChecks d tables) ≡ Taken
   pub words-enough : 3 * ceiling d ≤ gates
@@ -87,6 +88,7 @@ pub record Passed (d : Dimensions) (tables : Tables) (gates bytes wires : ℕ) (
   pub wires-enough : inputWires d + length (gatesOn d) ≤ wires
   pub state-taken : outcome (stateChecks d run) ≡ Taken
 
+-- where the checks of a call of `repeat` are passed, all of these hold
 pub passed : (d : Dimensions) (tables : Tables) (gates bytes wires : ℕ) (run : Run) → outcome (repeatChecks d tables gates bytes wires run) ≡ Taken
     → Passed d tables gates bytes wires run
 passed d tables gates bytes wires run e =

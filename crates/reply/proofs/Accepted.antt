@@ -29,6 +29,7 @@ use Rattle.answers.specs.Printed.{solvedText}
 use Rattle.lines.specs.declared.Budget.the-variants as budget
 use Rattle.reply.specs.Reply.{dimensionsOf, tablesIn, answered, replied}
 
+-- n of three texts, taken or refused, is at most 32
 pub n-high : (left right public : List ℕ) → textTables left right public .n ≤ 32
 n-high left right public = go (textsOutcome l r p) refl
   where
@@ -53,6 +54,7 @@ all-below n zero words h = refl
 all-below n (suc k) [] h = refl
 all-below n (suc k) (w ∷ ws) h = and-i (lt-ltb w (2 ^ n) (h zero)) (all-below n k ws (λ i. h (suc i)))
 
+-- tables of texts that lie within the limits are taken: refusals 1 to 4 do not apply to them
 pub tables-taken : (t : TextTables) → AllWithin t → outcome (tableChecks (dimensionsOf t) (tablesIn t)) ≡ Taken
 tables-taken t w =
     let l = w .left in

@@ -31,6 +31,7 @@ module _ (n m b : ℕ) (hn : n ≤ 255) (hm : m ≤ 765) (hb : b ≤ 5) where
       omega (arith, lines-few (m / 2) half, lines-few (m - 1 - m / 2) rest)
 
 module _ (n m : ℕ) (hn : n ≤ 255) (hm : m ≤ 765) where
+  -- the addresses for at most 255 variables and at most 765 rows are so small that sums over them fit a word
   pub small : (a : Addresses) → a ≡ addresses n m → Small a
   small a e = subst Small (sym e) (small-of n m (digitsFor n) hn hm (digits-most n))
 

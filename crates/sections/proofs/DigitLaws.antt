@@ -32,6 +32,7 @@ pub digits-are : (n b : ℕ) → b ≤ 5 → ((i : ℕ) → i < b → 2 ^ i < n)
 digits-are n b h more most =
     (lowest-at (λ i. leb n (2 ^ i)) 5 b h (λ i l. lt-leb n (2 ^ i) (more i l)) (λ l. le-leb n (2 ^ b) (most l)), h)
 
+-- a variable's number has at most five digits
 pub digits-most : (n : ℕ) → digitsFor n ≤ 5
 digits-most n = lowest-most (λ i. leb n (2 ^ i)) 5
 
@@ -41,13 +42,16 @@ powers-below n b h i l = omega (arith, pow-mono {i = i} {j = b} (omega arith))
 
 -- ---- thresholds
 
+-- a power of two up to the fifth is at most 32
 pub power-few : (d : ℕ) → d ≤ 5 → 2 ^ d ≤ 32
 power-few d h = pow-mono {i = d} {j = 5} h
 
 module _ (n m : ℕ) (hn : n ≤ 255) (hm : m ≤ 765) where
+  -- for n of at most 255 the digit of weight 2^d has at most 255 thresholds, and its weight times their number is at most n
   pub thresholds-few : (d : ℕ) → (thresholds n d ≤ 255) × (2 ^ d * thresholds n d ≤ n)
   thresholds-few d = (omega (arith, div-le-self (n - 1) (2 ^ d)), omega (arith, div-mul-le-self (n - 1) (2 ^ d)))
 
+  -- for at most 255 variables and at most 765 rows the digits below d have at most d times 195840 gates
   pub digits-few : (d : ℕ) → digitsTo n m d ≤ d * 195840
   unfolding digitsTo
   digits-few zero = omega arith

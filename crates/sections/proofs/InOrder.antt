@@ -21,9 +21,11 @@ past-least i (suc j) k h p = omega (arith, past-least i j k h (p .0), p .1)
 module _ (a : Addresses) where
   -- ---- a family's members
 
+  -- for a digit that a variable's number has, the family's member is taken
   pub if-digit : (f : ℕ → Section) (d : ℕ) → d < a .b → f d ≡ ifDigit a f d
   if-digit f d h = rw (lt-ltb d (a .b) h)
 
+  -- for a digit that it does not have, the section of no lines is
   pub no-digit : (f : ℕ → Section) (d : ℕ) → a .b ≤ d → noSection a ≡ ifDigit a f d
   no-digit f d h = rw (le-ltb d (a .b) h)
 
@@ -62,11 +64,14 @@ module _ (a : Addresses) where
   -- ---- all sections
 
   module _ (k : ℕ) where
+    -- the first 40 sections are those before the next levels, in order
     pub at-first : k < 40 → firstAt k ≡ sectionAt a k
     at-first h = rw (lt-ltb k 40 h)
 
+    -- from section 40 on stand the n sections of the next levels, in order
     pub at-level : 40 ≤ k → k - 40 < a .n → nextLevel a (k - 40) ≡ sectionAt a k
     at-level h l = rw (le-ltb k 40 h, lt-ltb (k - 40) (a .n) l)
 
+    -- at every number behind these stands the section of the next standing
     pub at-last : 40 ≤ k → a .n ≤ k - 40 → nextStanding a ≡ sectionAt a k
     at-last h l = rw (le-ltb k 40 h, le-ltb (k - 40) (a .n) l)

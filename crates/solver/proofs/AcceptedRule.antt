@@ -27,6 +27,7 @@ front-rows words m i (suc k) h =
     (ap₂ (λ (p q : ℕ). record { positive = p; negative = q }) (getD-take m words (2 * i) 0 (omega arith)) (getD-take m words (2 * i + 1) 0 (omega arith)))
     (front-rows words m (suc i) k (omega arith))
 
+-- the first 2 × m words of a buffer that has so many are its first m rows
 pub rows-in-front : (words : List ℕ) (m : ℕ) → 2 * m ≤ length words → rowsIn (take (2 * m) words) ≡ rowsFrom words 0 m
 rows-in-front words m h =
     let e : length (take (2 * m) words) / 2 ≡ m = omega (arith, length-take-le (2 * m) words h) in

@@ -39,6 +39,7 @@ open-e Open b e = (refl, e)
 open-e Satisfied b e = absurd (true≢false (sym e))
 open-e Refuted b e = absurd (true≢false (sym e))
 
+-- something is left of the budget exactly where the count is below it
 pub left-over : (count budget : ℕ) → ltb 0 (budget - count) ≡ ltb count budget
 left-over count budget =
     on (ltb count budget)
@@ -94,6 +95,7 @@ state-of : (n : ℕ) (s : State) (run : Run) → run ≡ runOf n s → stateOf r
 state-of n s run e = ap (λ (r : Run). stateOf r) e ∙ state-back n s
 
 module _ (n : ℕ) (rows : List Row) (budget : ℕ) where
+  -- what the loop knows holds at its start: of the fresh run, of 1 to 32 variables, and the count 0
   pub running-fresh : 1 ≤ n → n ≤ 32 → (run : Run) → run ≡ runOf n fresh → Running n rows budget run 0
   running-fresh a b run e =
       let k : budget ≡ budget - 0 = omega arith in record {
@@ -105,9 +107,11 @@ module _ (n : ℕ) (rows : List Row) (budget : ℕ) where
       }
 
   module _ (run : Run) (count : ℕ) (o : Running n rows budget run count) where
+    -- where the loop goes on, the count is below the budget
     pub running-less : ifOpen (run .standing) (ltb count budget) false ≡ true → count < budget
     running-less h = ltb-true count budget (open-e (run .standing) (ltb count budget) h .1)
 
+    -- where the loop goes on, what it knows holds of the run after one more step and of the count plus 1
     pub running-on : ifOpen (run .standing) (ltb count budget) false ≡ true → (next : Run) → next ≡ runOf n (step n rows (stateOf run))
         → Running n rows budget next (count + 1)
     running-on h next e =
@@ -124,6 +128,7 @@ module _ (n : ℕ) (rows : List Row) (budget : ℕ) where
               ∙ ap (λ (s : State). more (count + 1) (runFrom n (always rows) (budget - (count + 1)) s)) (sym (state-of n (step n rows (stateOf run)) next e));
         }
 
+    -- where the loop ends, the count and the verdict of the run are the budgeted run's answer
     pub running-end : ifOpen (run .standing) (ltb count budget) false ≡ false → (v : Verdict) → v ≡ verdictOf (run .standing) (run .t)
         → _≡_ {A = Answer} (record { count = count; verdict = v }) (answerOf n (always rows) budget)
     unfolding answerOf

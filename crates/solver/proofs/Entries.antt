@@ -28,9 +28,11 @@ use Rattle.state.proofs.Checks.{state-formed, state-same}
 -- ---- the checks of tables and run
 
 module _ (d : Dimensions) (tables : Tables) (run : Run) where
+  -- what the tables are refused with, tables and run together are refused with
   pub refuse-tables : (r : Refusal) → Refused r ≡ outcome (tableChecks d tables) → Refused r ≡ outcome (tableChecks d tables ++ stateChecks d run)
   refuse-tables r e = sym (outcome-refused (tableChecks d tables) (stateChecks d run) r (sym e))
 
+  -- where the tables are taken, the checks of the run decide
   pub state-decides : Taken ≡ outcome (tableChecks d tables) → outcome (stateChecks d run) ≡ outcome (tableChecks d tables ++ stateChecks d run)
   state-decides e = sym (outcome-taken (tableChecks d tables) (stateChecks d run) (sym e))
 
@@ -40,6 +42,7 @@ module _ (d : Dimensions) (tables : Tables) (run : Run) where
     pub formed : wellFormed run ≡ true
     pub same : run .n ≡ d .n
 
+  -- where tables and run are taken together, the tables are accepted and the run is well-formed and of their n
   pub passed : (o : Outcome) → o ≡ outcome (tableChecks d tables ++ stateChecks d run) → o ≡ Taken → Passed
   passed o f t = go (outcome (tableChecks d tables)) refl
     where
@@ -58,6 +61,7 @@ module _ (d : Dimensions) (tables : Tables) (run : Run) where
 
   -- ---- the step's entry
 
+  -- where tables and run are taken, the step's entry gives that outcome and the run of the state after the step
   pub step-taken : (o : Outcome) → o ≡ outcome (tableChecks d tables ++ stateChecks d run) → o ≡ Taken
       → (r : Run) → r ≡ runOf (d .n) (step (d .n) (rowsOf d tables) (stateOf run))
       → _≡_ {A = Stepped} (record { outcome = o; run = r }) (stepped d tables run)
@@ -81,10 +85,12 @@ module _ (d : Dimensions) (tables : Tables) (budget : ℕ) where
   unfolding solved
   solve-as o e = ap (λ (x : Outcome). given x (solved′.Of (answerOf (d .n) (always (rowsOf d tables)) budget)) solved′.Refused) e
 
+  -- where the tables are taken, the budgeted run's entry gives the answer over their rows
   pub solve-taken : Taken ≡ outcome (tableChecks d tables) → (a : Answer) → a ≡ answerOf (d .n) (always (rowsOf d tables)) budget
       → solved′.Of a ≡ solved d tables budget
   solve-taken e a q = ap solved′.Of q ∙ solve-as Taken e
 
+  -- what the tables are refused with, the budgeted run's entry is refused with
   pub solve-refused : (r : Refusal) → Refused r ≡ outcome (tableChecks d tables) → solved′.Refused r ≡ solved d tables budget
   solve-refused r e = solve-as (Refused r) e
 

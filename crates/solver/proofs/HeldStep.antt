@@ -32,9 +32,11 @@ module _ (n : ℕ) (rows : List Row) (run : Run) (same : run .n ≡ n) where
     stays : length (run .levels) ≡ 32 → step n rows (stateOf run) ≡ stateOf run → run ≡ runOf n (step n rows (stateOf run))
     stays room e = run-back run (formed-tidy run room (formed-run-e run w)) ∙ ap₂ runOf same (sym e)
 
+    -- a well-formed satisfied run with 32 places for levels is itself the run after the step
     pub satisfied-stays : length (run .levels) ≡ 32 → run .standing ≡ Satisfied → run ≡ runOf n (step n rows (stateOf run))
     satisfied-stays room o = stays room (stepped-as Satisfied o)
 
+    -- a well-formed refuted run with 32 places for levels is itself the run after the step
     pub refuted-stays : length (run .levels) ≡ 32 → run .standing ≡ Refuted → run ≡ runOf n (step n rows (stateOf run))
     refuted-stays room o = stays room (stepped-as Refuted o)
 

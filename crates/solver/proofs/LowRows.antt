@@ -19,9 +19,11 @@ use Rattle.tables.proofs.Accepted.{accepted}
 use Rattle.scan.specs.Rules.{allRows}
 use Rattle.scan.proofs.RowLaws.{all-rows-append}
 
+-- of a row without a bit at or above n, the positive word is below 2 ^ n
 pub low-positive : (n : ℕ) (r : Row) → lowRow n r ≡ true → r .positive < 2 ^ n
 low-positive n r e = ltb-true _ _ (and-l (ltb (r .positive) (2 ^ n)) _ e)
 
+-- of a row without a bit at or above n, the negative word is below 2 ^ n
 pub low-negative : (n : ℕ) (r : Row) → lowRow n r ≡ true → r .negative < 2 ^ n
 low-negative n r e = ltb-true _ _ (and-r (ltb (r .positive) (2 ^ n)) _ e)
 
@@ -34,6 +36,7 @@ low-rows n words i (suc k) h =
     (and-i (lt-ltb _ (2 ^ n) (h (2 * i) (omega arith))) (lt-ltb _ (2 ^ n) (h (2 * i + 1) (omega arith))))
     (low-rows n words (suc i) k (λ j b. h j (omega arith)))
 
+-- no row of accepted tables has a bit at or above n
 pub accepted-low : (d : Dimensions) (tables : Tables) → outcome (tableChecks d tables) ≡ Taken → allRows (lowRow (d .n)) (rowsOf d tables) ≡ true
 accepted-low d tables e =
     let a = accepted d tables e in

@@ -59,14 +59,17 @@ pub record Settable (n : ℕ) (rows : List Row) (t f v : ℕ) : Type 0 where
 -- ---- rows with k free literals
 
 module _ (k n t f : ℕ) (r : Row) (e : unsatisfiedWith k n t f r ≡ true) where
+  -- what passes as unsatisfied with exactly k free literals is an unsatisfied row
   pub with-unsatisfied : satisfied n r t f ≡ false
   unfolding unsatisfiedWith
   with-unsatisfied = not-true _ (and-l (not (satisfied n r t f)) _ e)
 
+  -- an unsatisfied row with exactly k free literals holds exactly k free variables
   pub with-count : count (λ i. freeIn r t f i) n ≡ k
   unfolding unsatisfiedWith
   with-count = sym (unsatisfied-literals n r t f with-unsatisfied) ∙ eqb-true _ k (and-r (not (satisfied n r t f)) _ e)
 
+-- an unsatisfied row that is not in conflict holds a free variable
 pub with-some : (n t f : ℕ) (r : Row) → satisfied n r t f ≡ false → unsatisfiedWith 0 n t f r ≡ false → 0 < count (λ i. freeIn r t f i) n
 unfolding unsatisfiedWith
 with-some n t f r e h = go (count (λ i. freeIn r t f i) n) refl
@@ -146,6 +149,7 @@ module _ (n : ℕ) (rows : List Row) (t f : ℕ) where
           free-there = and-r (not (satisfied n (y .0) t f)) _ (y .2);
         }
 
+  -- the rule found applies: all rows satisfied, a row in conflict, a row that forces its literal, or an unsatisfied row where its variable is free
   pub ruled : Ruled n rows t f (rule n rows t f)
   unfolding rule
   ruled =
@@ -165,14 +169,18 @@ module _ (n : ℕ) (rows : List Row) (t f : ℕ) where
     occurring = any-row-i (λ r. not (padding n r) && holds r v) rows r m (and-i (ap not (unsatisfied-padding n r t f e)) (and-r (free t f v) _ h));
   }
 
+  -- a variable that a row forces may be set: it is below n, free, and in a row that is no padding
   pub unit-settable : {v : ℕ} {positive : Bool} → Forces n rows t f v positive → Settable n rows t f v
   unit-settable {v = v} w = settable v (w .row) (w .of-rows) (with-unsatisfied 1 n t f (w .row) (w .one-literal)) (w .low) (w .free-there)
 
+  -- a variable below n that is free in an unsatisfied row may be set: that row is no padding
   pub choice-settable : {v : ℕ} → Chooses n rows t f v → Settable n rows t f v
   choice-settable {v = v} w = settable v (w .row) (w .of-rows) (w .unsatisfied) (w .low) (w .free-there)
 
+  -- where rule 3 is the one found, its variable is below n, free, and in a row that is no padding
   pub rule-unit : (v : ℕ) (positive : Bool) → rule n rows t f ≡ Unit v positive → Settable n rows t f v
   rule-unit v positive e = unit-settable (rw e at ruled)
 
+  -- where rule 4 is the one found, its variable is below n, free, and in a row that is no padding
   pub rule-choice : (v : ℕ) → rule n rows t f ≡ Choice v → Settable n rows t f v
   rule-choice v e = choice-settable (rw e at ruled)

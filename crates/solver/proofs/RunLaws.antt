@@ -44,6 +44,7 @@ module _ (n : ℕ) where
       before zero b = e
       before (suc k) b = w .open-before k (le-of-suc-le-suc b)
 
+  -- the budgeted run counts the least number of steps, at most the budget, that closes it, else the budget, and ends in the state after so many
   pub run-of : (rows : ℕ → List Row) (budget : ℕ) (s : State) → RunOf rows budget s (runFrom n rows budget s)
   unfolding runFrom after
   run-of rows zero s = record { most = zero-le; final-after = refl; open-before = λ k b. absurd (not-suc-le-zero b); open-whole = λ e. refl }

@@ -31,10 +31,12 @@ put-other w v i e = rw (bit-put, e) (or-false (bit w i))
 
 -- ---- how many of the variables that pass are free
 
+-- how many of the n variables pass and are free
 unfoldable pub freeAmong : (ℕ → Bool) → ℕ → ℕ → ℕ → ℕ
 freeAmong p n t f = count (λ i. p i && free t f i) n
 
 module _ (p : ℕ → Bool) (n t f : ℕ) where
+  -- no more variables pass and are free than pass
   pub free-le : freeAmong p n t f ≤ count p n
   unfolding freeAmong
   free-le = count-mono (λ i. p i && free t f i) p n (λ i b. and-l (p i) _)
@@ -73,9 +75,11 @@ module _ (n t f v : ℕ) (b : v < n) (h : free t f v ≡ true) where
         (λ q. rw (put-other f v i q) (s .apart i c));
   }
 
+  -- with the free variable in T, fewer of the variables that pass are free, if it passes too
   pub free-less-t : (p : ℕ → Bool) → p v ≡ true → freeAmong p n (put t v) f < freeAmong p n t f
   free-less-t p hp = free-less p n t f (put t v) f v b hp h (rw put-has) (λ i c. put-keeps t v i) (λ i c e. e)
 
+  -- with the free variable in F, fewer of the variables that pass are free, if it passes too
   pub free-less-f : (p : ℕ → Bool) → p v ≡ true → freeAmong p n t (put f v) < freeAmong p n t f
   free-less-f p hp = free-less p n t f t (put f v) v b hp h (rw put-has (and-false (not (bit t v)))) (λ i c e. e) (λ i c. put-keeps f v i)
 

@@ -35,6 +35,7 @@ unfolding after
 after-last n rows zero s = refl
 after-last n rows (suc k) s = after-last n (later rows) k (step n (rows 0) s)
 
+-- the fresh state has what makes a state well-formed, for every n
 pub fresh-formed : (n : ℕ) → Formed n fresh
 unfolding chain
 fresh-formed n = record {
@@ -93,6 +94,7 @@ module _ (n : ℕ) (rows : List Row) where
         (o .linked);
   }
 
+  -- following a rule that applies keeps what makes a state well-formed
   pub follow-formed : (s : State) (k : Rule) → Ruled n rows (s .t) (s .f) k → Formed n s → Formed n (follow s k)
   follow-formed s AllSatisfied w o = record { own = o .own; few = o .few; linked = o .linked }
   follow-formed s Conflict w o = back-formed s (s .levels) (o .own) (o .few) (o .linked)
@@ -101,6 +103,7 @@ module _ (n : ℕ) (rows : List Row) where
 
   -- ---- steps
 
+  -- a step keeps what makes a state well-formed
   pub step-formed : (s : State) → Formed n s → Formed n (step n rows s)
   unfolding step
   step-formed s o = go (s .standing)
@@ -121,6 +124,7 @@ module _ (n : ℕ) (rows : List Row) where
 -- ---- any number of steps
 
 module _ (n : ℕ) (rows : ℕ → List Row) where
+  -- any number of steps keeps what makes a state well-formed
   pub after-formed : (k : ℕ) (s : State) → Formed n s → Formed n (after n rows k s)
   after-formed k = after-keeps n rows (Formed n) k (λ i b. step-formed n (rows i))
 
@@ -129,6 +133,7 @@ module _ (n : ℕ) (rows : ℕ → List Row) where
 
 -- ---- from fresh
 
+-- the fresh state passes the test of a well-formed state, for every n
 pub fresh-well-formed : (n : ℕ) → wellFormedState n fresh ≡ true
 fresh-well-formed n = formed-i n fresh (fresh-formed n)
 

@@ -22,6 +22,7 @@ module _ (n k : ℕ) (wide : n ≤ k) (t f : ℕ) where
   satisfied-alike : (r : Row) → lowRow n r ≡ true → satisfied k r t f ≡ satisfied n r t f
   satisfied-alike r low = satisfied-width n k r t f wide (low-positive n r low) (low-negative n r low)
 
+  -- a row without a bit at or above n is unsatisfied with exactly j free literals at a width k, at least n, exactly where it is so at n
   pub with-alike : (j : ℕ) (r : Row) → lowRow n r ≡ true → unsatisfiedWith j k t f r ≡ unsatisfiedWith j n t f r
   unfolding unsatisfiedWith
   with-alike j r low =
@@ -70,6 +71,7 @@ module _ (n k : ℕ) (wide : n ≤ k) (t f : ℕ) where
         (λ r m. ap (λ (b : Bool). not b && freeIn r t f i) (satisfied-alike r (m (lowRow n) low)))))
         ∙ lowest-width (λ i. anyRow (λ r. not (satisfied n r t f) && freeIn r t f i) rows) n k (choice n rows t f) wide (v .0) (v .1)
 
+    -- rows without a bit at or above n call for the same rule at every width k, at least n, as at n
     pub rule-width : rule k rows t f ≡ rule n rows t f
     unfolding rule
     rule-width =

@@ -19,12 +19,15 @@ module _ (d : Dimensions) (run : Run) where
   pub refuse-other : wellFormed run ≡ true → (run .n ≡ d .n → ⊥) → Refused OtherVariables ≡ outcome (stateChecks d run)
   refuse-other e h = rw (e, ne-eqb (run .n) (d .n) h)
 
+  -- a well-formed run with as many variables as the dimensions is taken
   pub take-state : wellFormed run ≡ true → run .n ≡ d .n → Taken ≡ outcome (stateChecks d run)
   take-state e h = rw (e, eq-eqb (run .n) (d .n) h)
 
+  -- a run that is taken is well-formed
   pub state-formed : outcome (stateChecks d run) ≡ Taken → wellFormed run ≡ true
   state-formed e = not-false (wellFormed run) (check-passed (not (wellFormed run)) refusal.State _ e)
 
+  -- a run that is taken has as many variables as the dimensions
   pub state-same : outcome (stateChecks d run) ≡ Taken → run .n ≡ d .n
   state-same e =
       eqb-true (run .n) (d .n) (not-false (eqb (run .n) (d .n))

@@ -17,6 +17,7 @@ use Rattle.state.specs.State.{State, stateOf, levelsOf, none, runOf}
 use Rattle.state.specs.WellFormed.{unused, wellFormedState, wellFormed}
 use Rattle.state.proofs.WellFormedLaws.{formed-e}
 
+-- the first d levels of a run are d in number, even where the array has fewer
 pub length-levels : (d : ℕ) (levels : List Level) → length (levelsOf d levels) ≡ d
 length-levels zero levels = refl
 length-levels (suc d) levels = ap suc (length-levels d levels)
@@ -34,6 +35,7 @@ levels-back (suc d) levels h =
     ∙ ap (λ (l : List Level). l ++ (getD levels d none ∷ [])) (levels-back d levels (omega arith))
     ∙ sym (take-suc levels d none h)
 
+-- a tidy run is the run of its n variables that holds its state
 pub run-back : (run : Run) → Tidy run → run ≡ runOf (run .n) (stateOf run)
 unfolding runOf
 run-back run h = λ i. record {
@@ -79,6 +81,7 @@ pub record FormedRun (run : Run) : Type 0 where
   pub state : wellFormedState (run .n) (stateOf run) ≡ true
   pub rest : unused (drop (run .depth) (run .levels)) ≡ true
 
+-- a well-formed run has 1 to 32 variables and a well-formed state, and its levels past the depth are zero
 pub formed-run-e : (run : Run) → wellFormed run ≡ true → FormedRun run
 unfolding wellFormed
 formed-run-e run w =
@@ -94,6 +97,7 @@ formed-run-i : (run : Run) → FormedRun run → wellFormed run ≡ true
 unfolding wellFormed
 formed-run-i run o = rw (le-ltb (run .n) 1 (o .least), le-ltb 32 (run .n) (o .most), o .state) (o .rest)
 
+-- a well-formed run with room for 32 levels is tidy
 pub formed-tidy : (run : Run) → length (run .levels) ≡ 32 → FormedRun run → Tidy run
 formed-tidy run room o = record {
   room = room;
@@ -113,6 +117,7 @@ held-levels (l ∷ ls) rest =
     ∙ getD-append-add (reverse ls) (l ∷ rest) 0 none)
     (held-levels ls (l ∷ rest)))
 
+-- the run made to hold a state holds that state
 pub state-back : (n : ℕ) (s : State) → stateOf (runOf n s) ≡ s
 unfolding runOf
 state-back n s = λ i. record {
@@ -127,6 +132,7 @@ unfolding unused
 unused-replicate zero = refl
 unused-replicate (suc k) = unused-replicate k
 
+-- the run made to hold a well-formed state of 1 to 32 variables is well-formed
 pub run-of-formed : (n : ℕ) (s : State) → 1 ≤ n → n ≤ 32 → wellFormedState n s ≡ true → wellFormed (runOf n s) ≡ true
 unfolding runOf
 run-of-formed n s a b w = formed-run-i (runOf n s) (record {

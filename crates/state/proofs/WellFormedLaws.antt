@@ -17,6 +17,7 @@ use Rattle.state.specs.WellFormed.{within, sets, precedes, chain, wellFo
 
 -- ---- T and F
 
+-- T and F have variables below n only, and none in common
 pub record Sets (n t f : ℕ) : Type 0 where
   pub low-t : t < 2 ^ n
   pub low-f : f < 2 ^ n
@@ -86,26 +87,31 @@ module _ (n : ℕ) (l : Level) (t f : ℕ) where
 
   -- ---- levels
 
+  -- where a list of levels, the last one first, is a chain before T and F, the first in the list precedes T and F
   pub chain-head : (ls : List Level) → chain n t f (l ∷ ls) ≡ true → Precedes n l t f
   unfolding chain
   chain-head ls e = precedes-e (and-l (precedes n l t f) _ e)
 
+  -- where a list of levels is a chain before T and F, the levels behind its first are a chain before the T and F of that level
   pub chain-tail : (ls : List Level) → chain n t f (l ∷ ls) ≡ true → chain n (l .t) (l .f) ls ≡ true
   unfolding chain
   chain-tail ls e = and-r (precedes n l t f) _ e
 
+  -- a level that precedes T and F, in front of levels that are a chain before its own T and F, makes a chain before T and F
   pub chain-cons : (ls : List Level) → Precedes n l t f → chain n (l .t) (l .f) ls ≡ true → chain n t f (l ∷ ls) ≡ true
   unfolding chain
   chain-cons ls h e = and-i (precedes-i h) e
 
 -- ---- a state
 
+-- T and F are disjoint and below n, the levels are at most n, each precedes the next and the last one precedes T and F
 pub record Formed (n : ℕ) (s : State) : Type 0 where
   pub own : Sets n (s .t) (s .f)
   pub few : length (s .levels) ≤ n
   pub linked : chain n (s .t) (s .f) (s .levels) ≡ true
 
 module _ (n : ℕ) (s : State) where
+  -- a well-formed state has disjoint T and F below n, at most n levels, and its levels are a chain before T and F
   pub formed-e : wellFormedState n s ≡ true → Formed n s
   unfolding wellFormedState
   formed-e e =
@@ -115,6 +121,7 @@ module _ (n : ℕ) (s : State) where
         linked = and-r (sets n (s .t) (s .f) && leb (length (s .levels)) n) _ e;
       }
 
+  -- a state with disjoint T and F below n and at most n levels, which are a chain before T and F, is well-formed
   pub formed-i : Formed n s → wellFormedState n s ≡ true
   unfolding wellFormedState
   formed-i k = and-i (and-i (sets-i n (s .t) (s .f) (k .own)) (le-leb (length (s .levels)) n (k .few))) (k .linked)

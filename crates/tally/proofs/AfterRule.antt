@@ -122,6 +122,7 @@ module _ (rows : List Row) (t f : ℕ) where
 
     -- ---- the first rule that applies
 
+    -- for at most 384 rows and 32-bit T and F, the rule read off the rows' index and their tally is the rows' rule at 32 variables
     pub after-rule : (index : List ℕ) (tally : Tally) → index ≡ indexOf rows → tally ≡ tallyOf rows t f → ruleBy index t f tally ≡ rule 32 rows t f
     unfolding ruleBy rule unitOr tallyOf unsatisfiedRows
     after-rule index tally e q =

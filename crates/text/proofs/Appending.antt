@@ -10,6 +10,7 @@ use borrow.Author.Tests.{lt-ltb}
 use Rattle.text.specs.declared.Text.{Text}
 use Rattle.text.specs.Texts.{textOf, pushed, appended}
 
+-- bytes appended, and then others, are both appended joined
 pub appended-join : (t : Text) (xs ys : List ℕ) → appended (appended t xs) ys ≡ appended t (xs ++ ys)
 unfolding appended
 appended-join t [] ys = refl

@@ -32,10 +32,12 @@ within-more (suc k) x h =
     ∙ ap (λ (l : List ℕ). l ++ ((48 + x % 10) ∷ [])) (within-more k (x / 10) (one-less (suc k) x h))
     ∙ sym (within-step (suc k) x e))
 
+-- a number below 10 is written as its one digit
 pub decimal-digit : (x : ℕ) → x < 10 → decimal x ≡ (48 + x) ∷ []
 unfolding decimal
 decimal-digit x h = within-digit 19 x (lt-ltb x 10 h)
 
+-- a 64-bit number from 10 on is written as its tenth, rounded down, and then its last digit
 pub decimal-step : (x : ℕ) → 10 ≤ x → x < 2 ^ 64 → decimal x ≡ decimal (x / 10) ++ ((48 + x % 10) ∷ [])
 unfolding decimal
 decimal-step x l h =
@@ -50,6 +52,7 @@ within-length (suc k) x =
     (λ e. rw (within-digit k x e) (omega arith))
     (λ e. rw (within-step k x e) (omega (arith, length-append (decimalWithin k (x / 10)) ((48 + x % 10) ∷ []), within-length k (x / 10))))
 
+-- there are at most twenty digits
 pub decimal-length : (x : ℕ) → length (decimal x) ≤ 20
 unfolding decimal
 decimal-length x = within-length 20 x
@@ -103,6 +106,7 @@ value-within (suc k) x h =
     ∙ ap (λ (v : ℕ). v * 10 + ((48 + x % 10) - 48)) (value-within k (x / 10) (one-less k x h))
     ∙ ap (λ (v : ℕ). x / 10 * 10 + v) (omega arith) ∙ div-add-mod' x 10))
 
+-- 64-bit numbers with the same digits are equal
 pub decimal-injective : (x y : ℕ) → x < 2 ^ 64 → y < 2 ^ 64 → decimal x ≡ decimal y → x ≡ y
 unfolding decimal
 decimal-injective x y h k e = sym (value-within 20 x (lt-trans h (lit< tt))) ∙ ap (valueAfter 0) e ∙ value-within 20 y (lt-trans k (lit< tt))

@@ -18,6 +18,7 @@ ends b = eqb b 32 || eqb b 10
 abbrev pub plain : List ℕ → Bool
 plain bs = each (λ b. not (ends b)) bs
 
+-- a number's digits hold no space and no LF
 pub decimal-plain : (x : ℕ) → plain (decimal x) ≡ true
 decimal-plain x = decimal-each (λ b. not (ends b)) (λ d h. rw (ne-eqb (48 + d) 32 (λ e. omega arith), ne-eqb (48 + d) 10 (λ e. omega arith))) x
 

@@ -17,10 +17,12 @@ use Rattle.gates.proofs.Circuits.{ordered}
 use Rattle.gates.proofs.InMemory.{words-length, gates-words, accepted-words, bits-bytes, bitsOf-bytesOf}
 
 module _ (g s w : List ℕ) where
+  -- words not accepted behind the inputs are refused as gates, and the buffer stays as it was
   pub no-gates : accepted (length s) g ≡ false → (Refused Gates ≡ outcome (evaluationChecks g s w)) × (w ≡ filledWires g s w)
   no-gates e = rw e (refl, refl)
 
   module _ (e : accepted (length s) g ≡ true) where
+    -- accepted words with a buffer shorter than inputs plus gates are refused for the wires, and the buffer stays as it was
     pub no-room : length w < length s + length g / 3 → (Refused Wires ≡ outcome (evaluationChecks g s w)) × (w ≡ filledWires g s w)
     no-room h = rw (e, lt-ltb _ _ h) (refl, refl)
 
@@ -28,6 +30,7 @@ module _ (g s w : List ℕ) where
       pub no-bits : bits s ≡ false → (Refused Wires ≡ outcome (evaluationChecks g s w)) × (w ≡ filledWires g s w)
       no-bits b = rw (e, le-ltb _ _ h, b) (refl, refl)
 
+      -- accepted words, a buffer with room for inputs and gates, and input bytes 0 or 1: taken, and the wires' values are written over the front
       pub taken : bits s ≡ true → (Taken ≡ outcome (evaluationChecks g s w)) × (over (bytesOf (wiresOf (bitsOf s) (gatesOf g))) w ≡ filledWires g s w)
       taken b = rw (e, le-ltb _ _ h, b) (refl, refl)
 

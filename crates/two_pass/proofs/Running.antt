@@ -52,6 +52,7 @@ pub record Run (form : List Bool → List ℕ) (s : List Bool) (g w₀ : List �
   pub step : 3 * m ≡ 3 * n + i
   pub upto : i ≤ length g
 
+-- a loop may start at word 0 and wire n where the first n bytes are the values s in its form
 pub start : {form : List Bool → List ℕ} {s : List Bool} {g w : List ℕ} {n : ℕ} → take n w ≡ form s → Run form s g w n w 0 n
 start {s = s} e = record {
   judged = refl;
@@ -66,18 +67,22 @@ start {s = s} e = record {
 
 module _ {form : List Bool → List ℕ} {s : List Bool} {g w₀ : List ℕ} {n : ℕ} {w : List ℕ} {i m : ℕ} (r : Run form s g w₀ n w i m)
     (room : n + length g / 3 ≤ length w₀) where
+  -- while m is below the number of wires, all three words of the gate at i are there
   pub whole : m < n + length g / 3 → i + 3 ≤ length g
   whole h = omega (arith, r .step)
 
   fits : m ≤ length w
   fits = omega (arith, r .step, r .upto, r .size)
 
+  -- while m is below the number of wires, the buffer has a byte for wire m
   pub fits-next : m < n + length g / 3 → m < length w
   fits-next h = omega (arith, r .size)
 
+  -- a byte of the buffer before wire m is that byte of the values so far, in the loop's form
   pub read-front : (a : ℕ) → a < m → getD w a 0 ≡ getD (form (r .values)) a 0
   read-front a h = sym (getD-take m w a 0 h) ∙ ap (λ (l : List ℕ). getD l a 0) (r .front)
 
+  -- the values so far, in the loop's form, are m bytes
   pub front-length : m ≡ length (form (r .values))
   front-length = sym (length-take-le m w fits) ∙ ap length (r .front)
 
@@ -109,6 +114,7 @@ module _ {form : List Bool → List ℕ} {s : List Bool} {g w₀ : List ℕ} {n 
         upto = whole h;
       }
 
+  -- where no word is left, the buffer is as it was at first with the values of all wires, in the loop's form, written over its front
   pub done : length g ≤ i → w ≡ over (form (wiresOf s (gatesOf g))) w₀
   unfolding wiresOf gatesOf
   done h =

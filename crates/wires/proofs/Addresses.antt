@@ -17,6 +17,7 @@ use Rattle.wires.proofs.Lengths.{row-length, level-length, width-is}
 
 -- ---- bits that are the same on every wire
 
+-- two states' bits agree on every wire of n variables: T, F, depths 0 to n, the n levels, satisfied and refuted
 pub record Same (n : ℕ) (a b : Bits) : Type 0 where
   pub same-T : (i : ℕ) → i < n → a .T i ≡ b .T i
   pub same-F : (i : ℕ) → i < n → a .F i ≡ b .F i
@@ -27,6 +28,7 @@ pub record Same (n : ℕ) (a b : Bits) : Type 0 where
   pub same-satisfied : a .satisfied ≡ b .satisfied
   pub same-refuted : a .refuted ≡ b .refuted
 
+-- bits that agree with others, which agree with third ones, agree with the third
 pub same-trans : (n : ℕ) (a b c : Bits) → Same n a b → Same n b c → Same n a c
 same-trans n a b c x y = record {
   same-T = λ i h. x .same-T i h ∙ y .same-T i h;
@@ -39,6 +41,7 @@ same-trans n a b c x y = record {
   same-refuted = x .same-refuted ∙ y .same-refuted;
 }
 
+-- bits that agree on every wire give the same list of wires
 pub order-cong : (n : ℕ) (a b : Bits) → Same n a b → inOrder n a ≡ inOrder n b
 unfolding inOrder
 order-cong n a b s =
@@ -67,12 +70,15 @@ module _ (n : ℕ) (rows : List Row) (rest : List Bool) where
       ap (λ (l : List Bool). wire (l ++ rest) ((n + n) * j + i)) (rows-joined n rows)
       ∙ joined-at (n + n) (λ j. rowBits n (rowOf rows j)) (length rows) rest j i (λ j. row-length n (rowOf rows j)) h b
 
+  -- with the rows' wires in front, wire 2nj + i holds whether row j has variable i positive
   pub positive-at : (j i : ℕ) → j < length rows → i < n → wire (rowsBits n rows ++ rest) ((n + n) * j + i) ≡ bit (rowOf rows j .positive) i
   positive-at j i h b = row-at j i h (omega arith) ∙ upto-here _ n _ i b
 
+  -- with the rows' wires in front, wire 2nj + n + i holds whether row j has variable i negative
   pub negative-at : (j i : ℕ) → j < length rows → i < n → wire (rowsBits n rows ++ rest) ((n + n) * j + (n + i)) ≡ bit (rowOf rows j .negative) i
   negative-at j i h b = row-at j (n + i) h (omega arith) ∙ upto-past _ n _ i ∙ upto-at _ n i b
 
+  -- with the rows' wires in front, 2n for each row, the wires behind them are those of the rest
   pub rows-past : (k : ℕ) → wire (rowsBits n rows ++ rest) ((n + n) * length rows + k) ≡ wire rest k
   rows-past k =
       ap (λ (l : List Bool). wire (l ++ rest) ((n + n) * length rows + k)) (rows-joined n rows)
@@ -112,6 +118,7 @@ module _ (n : ℕ) (b : Bits) where
       same-refuted = levels-at _ ∙ joined-past (n + (n + n)) level n _ 1 (λ l. level-length n _ _ _);
     }
 
+    -- with a state's wires in front, in order, each of its bits is found at its wire's number
     pub state-at : Same n (stateAt n (λ k. wire (inOrder n b ++ rest) k)) b
     state-at = subst (λ (l : List Bool). Same n (stateAt n (λ k. wire l k)) b) (sym (parts rest)) parts-at
 

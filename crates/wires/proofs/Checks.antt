@@ -40,9 +40,11 @@ module _ (d : Dimensions) (tables : Tables) (run : Run) (room : ℕ) where
     rest : outcome (packChecks d tables run room) ≡ outcome later
     rest = outcome-taken (tableChecks d tables) later e
 
+    -- where the tables are taken and there are fewer bytes than input wires, packing is refused for the wires
     pub refuse-room : room < inputWires d → Refused Wires ≡ outcome (packChecks d tables run room)
     refuse-room h = sym (rest ∙ rw (lt-ltb room (inputWires d) h))
 
+    -- where the tables are taken and there is a byte for each input wire, the checks of the run decide
     pub state-decides : inputWires d ≤ room → outcome (stateChecks d run) ≡ outcome (packChecks d tables run room)
     state-decides h = sym (rest ∙ rw (le-ltb room (inputWires d) h))
 
@@ -55,6 +57,7 @@ pub record Passed (d : Dimensions) (tables : Tables) (run : Run) (room : ℕ) : 
   pub formed : wellFormed run ≡ true
   pub same : run .n ≡ d .n
 
+-- where packing is taken, tables are accepted, each input wire has a byte, and the run is well-formed with as many variables as the dimensions
 pub passed : (d : Dimensions) (tables : Tables) (run : Run) (room : ℕ) → outcome (packChecks d tables run room) ≡ Taken → Passed d tables run room
 passed d tables run room e = go (outcome (tableChecks d tables)) refl
   where
@@ -76,6 +79,7 @@ module _ (d : Dimensions) (tables : Tables) (run : Run) (bytes : List ℕ) where
   unfolding packed
   pack-refused r e = rw e
 
+  -- where packing is taken, the lent bytes afterwards have the input values written over their front
   pub pack-taken : outcome (packChecks d tables run (length bytes)) ≡ Taken → over (bytesOf (inputBits d tables (stateOf run)))
       bytes ≡ packed d tables run bytes
   unfolding packed
@@ -95,6 +99,7 @@ module _ (run : Run) (bytes : List ℕ) where
   state-no-room h = let e = lt-ltb (length bytes) (stateWires (run .n)) h in (rw e, rw e)
 
   module _ (h : stateWires (run .n) ≤ length bytes) where
+    -- with a byte for each of the state's wires, the run can be packed just if it is well-formed
     pub state-decided : wellFormed run ≡ packable run (length bytes)
     state-decided = rw (le-ltb (length bytes) (stateWires (run .n)) h)
 
@@ -102,6 +107,7 @@ module _ (run : Run) (bytes : List ℕ) where
     unfolding packedState
     state-kept k = rw (le-ltb (length bytes) (stateWires (run .n)) h, k)
 
+    -- with a byte for each of the state's wires, packing a well-formed run writes these wires over the front of the bytes
     pub state-packed : wellFormed run ≡ true → over (bytesOf (stateBits (run .n) (stateOf run))) bytes ≡ packedState run bytes
     unfolding packedState
     state-packed k = rw (le-ltb (length bytes) (stateWires (run .n)) h, k)

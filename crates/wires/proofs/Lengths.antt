@@ -42,15 +42,18 @@ order-length n b =
     let e = length-joined (n + (n + n)) (λ l. upto (b .levelT l) n ++ (upto (b .levelF l) n ++ upto (b .chosen l) n)) n (λ l. level-length n _ _ _) in
     simp (length-append, length-upto) (ap (λ (k : ℕ). n + (n + (suc n + (k + 2)))) e)
 
+-- a state of n variables has 3n² + 3n + 3 wires
 pub state-length : (n : ℕ) (s : State) → length (stateBits n s) ≡ stateWires n
 unfolding stateBits inOrder
 state-length n s = order-length n (bitsIn s) ∙ width-is n
 
+-- rows of n variables have 2n wires each
 pub rows-length : (n : ℕ) (rows : List Row) → length (rowsBits n rows) ≡ (n + n) * length rows
 unfolding rowsBits
 rows-length n [] = sym (mul-zero (n + n))
 rows-length n (r ∷ rs) = length-append (rowBits n r) (rowsBits n rs) ∙ ap₂ _+_ (row-length n r) (rows-length n rs) ∙ omega (arith, mul-suc (n + n) (length rs))
 
+-- n + n wires for each of m rows are 2 times n times m
 pub twice : (n m : ℕ) → (n + n) * m ≡ 2 * n * m
 twice n m = ap (λ (k : ℕ). k * m) (two n)
   where

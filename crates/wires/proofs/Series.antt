@@ -16,6 +16,7 @@ unfolding upto
 length-upto f zero = refl
 length-upto f (suc n) = ap suc (length-upto (λ i. f (suc i)) n)
 
+-- of n wires in a row that hold the values of f, wire i holds f's value at i
 pub upto-at : (f : ℕ → Bool) (n i : ℕ) → i < n → getD (upto f n) i false ≡ f i
 unfolding upto
 upto-at f zero i h = absurd (not-suc-le-zero h)
@@ -29,6 +30,7 @@ upto-here f n r i h = List·getD-append (upto f n) r false i (rw (length-upto f 
 pub upto-past : (f : ℕ → Bool) (n : ℕ) (r : List Bool) (i : ℕ) → getD (upto f n ++ r) (n + i) false ≡ getD r i false
 upto-past f n r i = ap (λ (k : ℕ). getD (upto f n ++ r) (k + i) false) (sym (length-upto f n)) ∙ getD-append-add (upto f n) r i false
 
+-- functions that agree below n give the same n wires in a row
 pub upto-cong : (f g : ℕ → Bool) (n : ℕ) → ((i : ℕ) → i < n → f i ≡ g i) → upto f n ≡ upto g n
 unfolding upto
 upto-cong f g zero h = refl
