@@ -77,15 +77,15 @@ uninstall:
 	rm -f $(LIB)/libforkhemit.a $(LIB)/libforkhemit.so $(LIB)/$(SONAME) $(LIB)/libforkhemit.so.$(VERSION) $(LIB)/pkgconfig/forkhemit.pc
 	rm -rf $(DOC)
 
-target/examples/host-c: examples/host/host.c include/forkhemit.h target/lib/libforkhemit.a
+target/examples/host-c: examples/host/host.c examples/host/texts.h include/forkhemit.h target/lib/libforkhemit.a
 	mkdir -p target/examples
 	cc -std=c11 -O2 -Wall -Wextra -Wpedantic -Werror -Iinclude -o $@ $< -Ltarget/lib -lforkhemit
 
-target/examples/late-c: examples/host/late.c include/forkhemit.h target/lib/libforkhemit.a
+target/examples/late-c: examples/host/late.c examples/host/texts.h include/forkhemit.h target/lib/libforkhemit.a
 	mkdir -p target/examples
 	cc -std=c11 -O2 -Wall -Wextra -Wpedantic -Werror -Iinclude -o $@ $< -Ltarget/lib -lforkhemit
 
-target/examples/desk: examples/desk/desk.c include/forkhemit.h target/lib/libforkhemit.a
+target/examples/desk: examples/desk/desk.c examples/host/texts.h include/forkhemit.h target/lib/libforkhemit.a
 	mkdir -p target/examples
 	cc -std=c11 -O2 -Wall -Wextra -Wpedantic -Werror -Iinclude -o $@ $< -Ltarget/lib -lforkhemit
 

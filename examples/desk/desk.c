@@ -4,12 +4,11 @@
  * Use: desk LEFT RIGHT PUBLIC BUDGET. `make examples` builds it, and holds what it prints of examples/harbour to the file `listing`.
  */
 #include "forkhemit.h"
+#include "../host/texts.h"
 #include <inttypes.h>
 #include <stdio.h>
 #include <stdlib.h>
 
-#define TEXT_LIMIT 65536
-#define ROW_WORDS 256
 #define STANDING 1
 #define DEPTH 4
 
@@ -24,19 +23,6 @@ static uint64_t d[4]; /* n, left rows, right rows, public rows */
 
 /* The rules by their numbers in the explanation of a step. */
 static const char *const rules[] = {"closed  ", "all true", "conflict", "conflict", "forced  ", "chosen  "};
-
-/* A text. A file that cannot be read counts as one byte more than a text may have: the library refuses it with 5. */
-static size_t read_text(const char *path, uint8_t *text)
-{
-    FILE *file = fopen(path, "rb");
-    if (file == NULL)
-        return TEXT_LIMIT + 1;
-    size_t length = fread(text, 1, TEXT_LIMIT + 1, file);
-    if (ferror(file))
-        length = TEXT_LIMIT + 1;
-    fclose(file);
-    return length;
-}
 
 /* A row's literals as the table has them. */
 static void print_literals(const uint32_t *words)

@@ -4,12 +4,10 @@
  * Use: host-c LEFT RIGHT PUBLIC BUDGET. `make examples` builds it.
  */
 #include "forkhemit.h"
+#include "texts.h"
 #include <stdio.h>
 #include <stdlib.h>
 #include <string.h>
-
-#define TEXT_LIMIT FORKHEMIT_TEXT_BYTES
-#define ROW_WORDS FORKHEMIT_TABLE_WORDS
 
 /* A refusal as the pair program prints it, which is an answer too: the status is 0. What was lent is freed as the process ends. */
 static int refused(uint8_t number)
@@ -23,30 +21,6 @@ static int wrong(const char *what)
 {
     fprintf(stderr, "%s\n", what);
     return 1;
-}
-
-/* The host's own memory, which it lends call by call. */
-static void *room(size_t count, size_t size)
-{
-    void *memory = calloc(count, size);
-    if (memory == NULL) {
-        fputs("out of memory\n", stderr);
-        exit(1);
-    }
-    return memory;
-}
-
-/* A text. A file that cannot be read counts as one byte more than a text may have: the library refuses it with 5. */
-static size_t read_text(const char *path, uint8_t *text)
-{
-    FILE *file = fopen(path, "rb");
-    if (file == NULL)
-        return TEXT_LIMIT + 1;
-    size_t length = fread(text, 1, TEXT_LIMIT + 1, file);
-    if (ferror(file))
-        length = TEXT_LIMIT + 1;
-    fclose(file);
-    return length;
 }
 
 int main(int count, char **arguments)

@@ -6,13 +6,11 @@
  * `make examples` builds it.
  */
 #include "forkhemit.h"
+#include "texts.h"
 #include <inttypes.h>
 #include <stdio.h>
 #include <stdlib.h>
 #include <string.h>
-
-#define TEXT_LIMIT 65536
-#define ROW_WORDS 256
 
 /* How every call names the tables, first those of the circuit's run, then those of the run with the index. */
 #define TABLES d[0], d[1], d[2], d[3], left, ROW_WORDS, right, ROW_WORDS, public_table, ROW_WORDS
@@ -34,30 +32,6 @@ static void same(const void *one, const void *other, size_t size, const char *wh
         fprintf(stderr, "%s\n", what);
         exit(1);
     }
-}
-
-/* The host's own memory, which it lends call by call. */
-static void *room(size_t count, size_t size)
-{
-    void *memory = calloc(count, size);
-    if (memory == NULL) {
-        fputs("out of memory\n", stderr);
-        exit(1);
-    }
-    return memory;
-}
-
-/* A text. A file that cannot be read counts as one byte more than a text may have: the library refuses it with 5. */
-static size_t read_text(const char *path, uint8_t *text)
-{
-    FILE *file = fopen(path, "rb");
-    if (file == NULL)
-        return TEXT_LIMIT + 1;
-    size_t length = fread(text, 1, TEXT_LIMIT + 1, file);
-    if (ferror(file))
-        length = TEXT_LIMIT + 1;
-    fclose(file);
-    return length;
 }
 
 int main(int count, char **arguments)

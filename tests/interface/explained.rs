@@ -3,7 +3,7 @@
 
 use crate::calls::{numbers, Call, Function, Lent};
 use crate::circuits::Circuits;
-use crate::indexed::{rows, sizes, COUNTS};
+use crate::indexed::{each_depth, each_table};
 use crate::{draw, judge, shown};
 use forkhemit_tests::memory;
 use forkhemit_tests::model::Standing::{self, Open, Refuted, Satisfied};
@@ -121,34 +121,18 @@ fn follow(size: Size, rows: &[Row], mut run: Run, steps: usize, circuits: &Circu
 pub fn runs(circuits: &Circuits, guard: usize) -> Tally {
     let ledger = Ledger::default();
     let (tables, steps) = if guard > 0 { (3, STEPS) } else { (1, STEPS / 10) };
-    for count in COUNTS {
-        let long = (count * 10 / 43).clamp(1, 32);
-        for size in [1, 3, long, 32].into_iter().flat_map(|n| sizes(n, count)) {
-            for table in 0..tables {
-                let random = &mut Random::new(SEED + table + (size.public << 24 | size.n << 16 | count << 4) as u64);
-                let rows = rows(size, random);
-                follow(size, &rows, Run::fresh(size.n), steps, circuits, guard, &ledger);
-            }
-        }
-    }
+    each_table(SEED, tables, |size, rows, _| follow(size, rows, Run::fresh(size.n), steps, circuits, guard, &ledger));
     ledger.close(&format!("steps that tell their rule, of whole runs, seeds from {SEED}"))
 }
 
 /// States of every depth that no run need have reached, the steps from them, and states in which several literals are forced.
 pub fn handed_over(circuits: &Circuits, guard: usize) -> Tally {
     let ledger = Ledger::default();
-    for n in if guard > 0 { vec![1, 4, 20, 32] } else { vec![32] } {
-        for depth in 0..=n {
-            for (place, &count) in COUNTS.iter().enumerate().filter(|(place, _)| guard > 0 || depth % 7 == *place) {
-                let random = &mut Random::new(SEED + (place << 16 | n << 8 | depth) as u64);
-                let size = *random.pick(&sizes(n, count));
-                let run = states::at_depth(n, depth, random);
-                let rows = states::table(count, &run.values, random);
-                follow(size, &rows, run, MORE_STEPS, circuits, guard, &ledger);
-                let (rows, run) = states::tied(n, count, random);
-                follow(size, &rows, run, 1, circuits, guard, &ledger);
-            }
-        }
-    }
+    each_depth(SEED, guard, |size, run, random| {
+        let rows = states::table(size.rows(), &run.values, random);
+        follow(size, &rows, run, MORE_STEPS, circuits, guard, &ledger);
+        let (rows, run) = states::tied(size.n, size.rows(), random);
+        follow(size, &rows, run, 1, circuits, guard, &ledger);
+    });
     ledger.close(&format!("steps that tell their rule from states of every depth, seeds from {SEED}"))
 }

@@ -124,37 +124,49 @@ fn follow(size: Size, rows: &[Row], mut run: Run, steps: usize, ledger: &Ledger,
     }
 }
 
-/// Runs from the fresh state over tables of all row counts; of the numbers of variables one is such that the runs are long.
-pub fn runs(guard: usize) -> Tally {
-    let ledger = Ledger::default();
-    let (tables, steps) = if guard > 0 { (5, STEPS) } else { (1, STEPS / 10) };
+/// So many tables of each size, for all row counts; of the numbers of variables one is such that runs are long.
+pub fn each_table(seed: u64, tables: u64, mut act: impl FnMut(Size, &[Row], &mut Random)) {
     for count in COUNTS {
         let long = (count * 10 / 43).clamp(1, 32);
         for size in [1, 3, long, 32].into_iter().flat_map(|n| sizes(n, count)) {
             for table in 0..tables {
-                let random = &mut Random::new(SEED + table + (size.public << 24 | size.n << 16 | count << 4) as u64);
-                let rows = rows(size, random);
-                follow(size, &rows, Run::fresh(size.n), steps, &ledger, guard, random);
+                let random = &mut Random::new(seed + table + (size.public << 24 | size.n << 16 | count << 4) as u64);
+                act(size, &rows(size, random), random);
             }
         }
     }
+}
+
+/// A run of every depth for several numbers of variables and all row counts, fewer without guards; no run need have reached it.
+pub fn each_depth(seed: u64, guard: usize, mut act: impl FnMut(Size, Run, &mut Random)) {
+    for n in if guard > 0 { vec![1, 4, 20, 32] } else { vec![32] } {
+        for depth in 0..=n {
+            for (place, &count) in COUNTS.iter().enumerate().filter(|(place, _)| guard > 0 || depth % 7 == *place) {
+                let random = &mut Random::new(seed + (place << 16 | n << 8 | depth) as u64);
+                let size = *random.pick(&sizes(n, count));
+                act(size, states::at_depth(n, depth, random), random);
+            }
+        }
+    }
+}
+
+/// Runs from the fresh state over tables of all row counts; of the numbers of variables one is such that the runs are long.
+pub fn runs(guard: usize) -> Tally {
+    let ledger = Ledger::default();
+    let (tables, steps) = if guard > 0 { (5, STEPS) } else { (1, STEPS / 10) };
+    each_table(SEED, tables, |size, rows, random| {
+        follow(size, rows, Run::fresh(size.n), steps, &ledger, guard, random)
+    });
     ledger.close(&format!("steps with index and number beside the plain scan's, seeds from {SEED}"))
 }
 
 /// States of every depth that no run need have reached, and the steps from them.
 pub fn handed_over(guard: usize) -> Tally {
     let ledger = Ledger::default();
-    for n in if guard > 0 { vec![1, 4, 20, 32] } else { vec![32] } {
-        for depth in 0..=n {
-            for (place, &count) in COUNTS.iter().enumerate().filter(|(place, _)| guard > 0 || depth % 7 == *place) {
-                let random = &mut Random::new(SEED + (place << 16 | n << 8 | depth) as u64);
-                let size = *random.pick(&sizes(n, count));
-                let run = states::at_depth(n, depth, random);
-                let rows = states::table(count, &run.values, random);
-                follow(size, &rows, run, MORE_STEPS, &ledger, guard, random);
-            }
-        }
-    }
+    each_depth(SEED, guard, |size, run, random| {
+        let rows = states::table(size.rows(), &run.values, random);
+        follow(size, &rows, run, MORE_STEPS, &ledger, guard, random);
+    });
     ledger.close(&format!("steps with index and number from states of every depth, seeds from {SEED}"))
 }
 

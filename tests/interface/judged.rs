@@ -2,7 +2,7 @@
 
 use crate::calls::{self, numbers, Call, Function, Lent};
 use crate::circuits::Circuits;
-use crate::indexed::{sizes, COUNTS};
+use crate::indexed::each_depth;
 use crate::{draw, judge, shown};
 use forkhemit_tests::memory;
 use forkhemit_tests::model::{Row, Run, Size};
@@ -231,16 +231,9 @@ fn side_by_side(size: Size, run: &Run, circuits: &Circuits, guard: usize, random
 /// Counts over tables of all row counts, of runs of every depth.
 pub fn counted(circuits: &Circuits, guard: usize) -> Tally {
     let ledger = Ledger::default();
-    for n in if guard > 0 { vec![1, 4, 20, 32] } else { vec![32] } {
-        for depth in 0..=n {
-            for (place, &count) in COUNTS.iter().enumerate().filter(|(place, _)| guard > 0 || depth % 7 == *place) {
-                let random = &mut Random::new(SEED + (place << 16 | n << 8 | depth) as u64);
-                let size = *random.pick(&sizes(n, count));
-                let run = states::at_depth(n, depth, random);
-                let failure = side_by_side(size, &run, circuits, guard, random);
-                ledger.test(failure.map(|failure| format!("{size:?}, depth {depth}: {failure}")));
-            }
-        }
-    }
+    each_depth(SEED, guard, |size, run, random| {
+        let failure = side_by_side(size, &run, circuits, guard, random);
+        ledger.test(failure.map(|failure| format!("{size:?}, depth {}: {failure}", run.levels.len())));
+    });
     ledger.close(&format!("free literals of all rows side by side, seeds from {SEED}"))
 }
