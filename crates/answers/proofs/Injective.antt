@@ -9,6 +9,7 @@ use native.Mathlib.Omega.{arith}
 use lib.Dec.{leb}
 use lib.ListN.{length, getD}
 use borrow.Author.Tests.{le-leb}
+use Rattle.words.specs.declared.Row.{Row}
 use Rattle.words.specs.Sets.{bit}
 use Rattle.words.proofs.Operations.{bit-ext}
 use Rattle.words.proofs.Truth.{and-l}
@@ -19,7 +20,6 @@ use Rattle.lexer.specs.Spelling.{bytes}
 use Rattle.text.specs.Decimal.{decimal}
 use Rattle.text.proofs.Decimals.{decimal-injective, decimal-some, each, decimal-each}
 use Rattle.text.proofs.Fields.{decimal-plain, field-split}
-use Rattle.tables.specs.declared.Row.{Row}
 use Rattle.state.specs.State.{State, fresh}
 use Rattle.verdicts.specs.Verdicts.{verdictOf}
 use Rattle.solver.specs.Entries.{Ran, runFrom, answerOf}

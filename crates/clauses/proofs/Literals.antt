@@ -8,13 +8,13 @@ use native.Mathlib.Omega.{arith}
 use lib.Dec.{eqb, ltb}
 use lib.Pow.{pow-pos}
 use borrow.Author.Tests.{lt-ltb, ltb-true, eqb-true}
+use Rattle.words.specs.declared.Row.{Row}
 use Rattle.words.specs.Sets.{bit}
 use Rattle.words.proofs.Truth.{on, and-l, and-r, and-i, agree, agree-eq}
 use Rattle.words.proofs.Bits.{bit-zero, bit-put, put-lt}
 use Rattle.words.proofs.Operations.{bit-ext}
 use Rattle.clauses.specs.Rows.{Literal, withLiteral, rowOf}
 use Rattle.clauses.specs.First.{emptyRow, withLiterals}
-use Rattle.clauses.specs.declared.Row.{Row}
 
 -- the word of a sign
 abbrev pub wordFor : Bool → Row → ℕ

@@ -7,6 +7,7 @@ use native.Mathlib.Omega.{arith}
 use lib.Dec.{ltb}
 use lib.ListN.{length}
 use borrow.Author.Tests.{lt-ltb, le-ltb}
+use Rattle.words.specs.declared.Row.{Row}
 use Rattle.words.proofs.Truth.{on, and-l, and-r, and-i}
 use Rattle.lexer.specs.Pieces.{Piece, behind}
 use Rattle.lexer.specs.Places.{part, firstOf}
@@ -20,7 +21,6 @@ use Rattle.numbers.proofs.Decimals.{held-value, held-none}
 use Rattle.clauses.specs.Rows.{Literal, rowOf}
 use Rattle.clauses.specs.Clauses.{Reading, clause, ended, unreadable, joinedLiteral, before, clauses}
 use Rattle.clauses.specs.First.{clausesFrom, emptyRow, rowWith, withLiterals, first, clauseCode, clauseNumbers, firstSaid}
-use Rattle.clauses.specs.declared.Row.{Row}
 use Rattle.clauses.specs.declared.Clause.{Clause}
 use Rattle.clauses.specs.declared.Clause.the-variants.{Read, Unreadable}
 use Rattle.clauses.proofs.Literals.{below, below-more, row-filled}

@@ -3,13 +3,13 @@ use mathlib.Core.Path.{_≡_, refl, sym, ap, _∙_}
 use mathlib.Core.List.{List, [], _∷_}
 use Prim.Native.Nat.{ℕ, zero, suc}
 use lib.Dec.{ltb}
+use Rattle.words.specs.declared.Row.{Row}
 use Rattle.words.proofs.Truth.{on}
 use Rattle.lexer.specs.Pieces.{Piece}
 use Rattle.lexer.proofs.Kept.{bytesOf}
 use Rattle.numbers.specs.Numbers.{Number, number, malformed, numberRead}
 use Rattle.clauses.specs.Rows.{Literal, rowOf}
 use Rattle.clauses.specs.Clauses.{Reading, clause, ended, unreadable, joinedLiteral, before, clauses, clauseRows, complete}
-use Rattle.clauses.specs.declared.Row.{Row}
 
 -- every place as 0
 abbrev unplaced : Reading → Reading

@@ -3,10 +3,10 @@ use Prim.Native.Nat.{ℕ, zero, suc}
 use mathlib.Core.Bool.{Bool, true, false, cond}
 use mathlib.Core.List.{List, [], _∷_}
 use lib.Dec.{ltb}
+use Rattle.words.specs.declared.Row.{Row}
 use Rattle.lexer.specs.Pieces.{Piece, behind}
 use Rattle.numbers.specs.Numbers.{Number, number, malformed, numberRead}
 use Rattle.clauses.specs.Rows.{Literal, rowOf}
-use Rattle.clauses.specs.declared.Row.{Row}
 
 -- What reading clause by clause finds: clauses, each with its literals, the place of its first token and the place behind
 -- its 0; then the end of the text, or a clause that cannot be read.

@@ -7,9 +7,9 @@ use lib.Dec.{ltb}
 use Rattle.lexer.specs.Blanks.{tokensPast}
 use Rattle.refusals.specs.Numbers.{numberOf as refusalNumber}
 use Rattle.refusals.specs.declared.Refusal.the-variants.{Text}
+use Rattle.words.specs.declared.Row.{Row}
 use Rattle.clauses.specs.Rows.{Literal, withLiteral}
 use Rattle.clauses.specs.Clauses.{Reading, clause, ended, unreadable, clauses}
-use Rattle.clauses.specs.declared.Row.{Row}
 use Rattle.clauses.specs.declared.Clause.{Clause}
 use Rattle.clauses.specs.declared.Clause.the-variants.{Read, End, Unreadable}
 

@@ -2,8 +2,8 @@
 use Prim.Native.Nat.{ℕ}
 use mathlib.Core.Bool.{Bool, true, false}
 use mathlib.Core.List.{List, [], _∷_}
+use Rattle.words.specs.declared.Row.{Row}
 use Rattle.words.specs.Sets.{put}
-use Rattle.clauses.specs.declared.Row.{Row}
 
 -- a literal: whether it has a minus, and the bit of its variable
 pub record Literal : Type 0 where

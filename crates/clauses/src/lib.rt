@@ -1,15 +1,10 @@
 // Clauses of a text, one at a time. Nothing here is turned back: the reader is total, whatever place and n it is handed.
 use lexer::pieces::Piece;
 use numbers::Number;
+use words::Row;
 ghost use mathlib.Core.Path.{_≡_};
 ghost use mathlib.Core.List.{_∷_};
 ghost use Rattle.clauses.specs.First.{clausesFrom, rowWith, first, clauseCode, clauseNumbers, firstSaid};
-
-// A row: bit i - 1 of each word stands for variable i.
-pub struct Row {
-    pub positive: u32,
-    pub negative: u32,
-}
 
 // A clause's row, the place of its first token and the place behind its 0.
 pub enum Clause {

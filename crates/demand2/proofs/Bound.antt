@@ -8,9 +8,9 @@ use Prim.Native.Nat.{ℕ, zero, suc, _+_, _-_, _*_, _^_, _≤_, _<_, suc-le-suc}
 use native.Mathlib.Nat.{pow-suc}
 use native.Mathlib.Omega.{arith}
 use lib.Pow.{pow-pos, pow-mono}
+use Rattle.words.specs.declared.Row.{Row}
 use Rattle.words.proofs.Truth.{and-l, and-r, and-i}
 use Rattle.words.proofs.Upto.{count-le}
-use Rattle.tables.specs.declared.Row.{Row}
 use Rattle.state.specs.declared.Level.{Level}
 use Rattle.scan.specs.declared.Rule.{Rule}
 use Rattle.scan.specs.declared.Rule.the-variants.{AllSatisfied, Conflict, Unit, Choice}

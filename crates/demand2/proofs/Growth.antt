@@ -5,11 +5,11 @@ use mathlib.Core.List.{List, [], _∷_}
 use Prim.Native.Nat.{ℕ, zero, suc, _≤_}
 use native.Mathlib.Omega.{arith}
 use lib.ListN.{getD, set}
+use Rattle.words.specs.declared.Row.{Row}
 use Rattle.words.specs.Booleans.{imp}
 use Rattle.words.specs.Sets.{bit}
 use Rattle.words.proofs.Truth.{mp, and-l, and-r, and-i, on, taut3}
 use Rattle.words.proofs.Upto.{any-e, any-i}
-use Rattle.tables.specs.declared.Row.{Row}
 use Rattle.tables.specs.Rows.{padding, holds, empty}
 use Rattle.scan.specs.Rules.{allRows, anyRow}
 use Rattle.solver.specs.Truth.{rowTrue, allTrue, occurs}

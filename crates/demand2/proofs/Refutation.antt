@@ -8,12 +8,12 @@ use mathlib.Core.List.{List, [], _∷_}
 use Prim.Native.Nat.{ℕ, _≤_, _<_}
 use lib.Dec.{eqb}
 use borrow.Author.Tests.{eqb-true}
+use Rattle.words.specs.declared.Row.{Row}
 use Rattle.words.specs.Booleans.{imp}
 use Rattle.words.specs.Sets.{bit, put, any}
 use Rattle.words.proofs.Truth.{mp, and-i, on, taut2, taut3, taut5, agree, agree-eq}
 use Rattle.words.proofs.Upto.{any-e, count-none, count-one}
 use Rattle.words.proofs.Bits.{bit-put, bit-zero}
-use Rattle.tables.specs.declared.Row.{Row}
 use Rattle.tables.specs.Rows.{satisfied, freeIn}
 use Rattle.tables.proofs.Rows.{unsatisfied-none}
 use Rattle.state.specs.declared.Level.{Level}

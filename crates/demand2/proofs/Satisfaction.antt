@@ -4,11 +4,11 @@ use mathlib.Core.Bool.{true, false, not, _&&_, _||_}
 use mathlib.Core.List.{List, [], _∷_}
 use Prim.Native.Nat.{ℕ, _≤_}
 use native.Mathlib.Omega.{arith}
+use Rattle.words.specs.declared.Row.{Row}
 use Rattle.words.specs.Booleans.{imp}
 use Rattle.words.specs.Sets.{bit, any}
 use Rattle.words.proofs.Truth.{mp, and-i, taut4}
 use Rattle.words.proofs.Upto.{any-mono}
-use Rattle.tables.specs.declared.Row.{Row}
 use Rattle.tables.specs.Rows.{satisfied, satisfies}
 use Rattle.tables.proofs.Rows.{satisfied-any}
 use Rattle.state.specs.declared.Level.{Level}

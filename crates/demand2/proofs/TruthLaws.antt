@@ -3,10 +3,10 @@ use mathlib.Core.Path.{_≡_}
 use mathlib.Core.Bool.{Bool, true, not, _&&_, _||_}
 use mathlib.Core.List.{List}
 use Prim.Native.Nat.{ℕ, _≤_}
+use Rattle.words.specs.declared.Row.{Row}
 use Rattle.words.specs.Sets.{bit, any}
 use Rattle.words.proofs.Upto.{any-width}
 use Rattle.words.proofs.Operations.{bit-high}
-use Rattle.tables.specs.declared.Row.{Row}
 use Rattle.scan.specs.Rules.{allRows}
 use Rattle.solver.specs.Truth.{rowTrue, allTrue}
 use Rattle.scan.proofs.RowLaws.{In}

@@ -4,8 +4,8 @@ use Prim.Native.Nat.{ℕ, suc, _-_, _^_, _≤_, _<_}
 use mathlib.Core.Path.{_≡_}
 use mathlib.Core.Bool.{Bool, true, false}
 use mathlib.Core.List.{List}
+use Rattle.words.specs.declared.Row.{Row}
 use Rattle.words.specs.Sets.{bit}
-use Rattle.tables.specs.declared.Row.{Row}
 use Rattle.state.specs.declared.Standing.the-variants.{Open}
 use Rattle.solver.specs.declared.Answer.{Answer}
 use Rattle.verdicts.specs.declared.Verdict.the-variants.{Satisfiable, Unsatisfiable, Unknown}

@@ -12,10 +12,10 @@ use lib.Seq.{ext-getD}
 use borrow.Author.Tests.{le-leb}
 use Rattle.refusals.specs.Checks.{outcome}
 use Rattle.refusals.specs.declared.Outcome.the-variants.{Taken}
+use Rattle.words.specs.declared.Row.{Row}
 use Rattle.words.proofs.Truth.{on, and-i}
 use Rattle.dimensions.specs.declared.Dimensions.{Dimensions}
 use Rattle.dimensions.specs.Sizes.{sizeChecks, stateWires, inputWires}
-use Rattle.tables.specs.declared.Row.{Row}
 use Rattle.tables.specs.Tables.{Tables}
 use Rattle.tables.specs.Rows.{rowsOf}
 use Rattle.state.specs.declared.Run.{Run}

@@ -11,13 +11,13 @@ use Rattle.refusals.specs.Checks.{check, outcome}
 use Rattle.refusals.specs.declared.Refusal.the-variants.{Gates}
 use Rattle.refusals.specs.declared.Outcome.the-variants.{Taken}
 use Rattle.refusals.proofs.Outcomes.{outcome-taken}
+use Rattle.words.specs.declared.Row.{Row}
 use Rattle.words.specs.Sets.{any}
 use Rattle.words.proofs.Truth.{on}
 use Rattle.words.proofs.Last.{any-false}
 use Rattle.words.proofs.Upto.{any-i}
 use Rattle.dimensions.specs.declared.Dimensions.{Dimensions}
 use Rattle.dimensions.specs.Sizes.{sizeChecks, inputWires}
-use Rattle.tables.specs.declared.Row.{Row}
 use Rattle.tables.specs.Tables.{Tables}
 use Rattle.solver.specs.declared.Answer.{Answer}
 use Rattle.state.specs.declared.Run.{Run}

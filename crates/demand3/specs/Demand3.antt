@@ -6,9 +6,9 @@ use mathlib.Core.List.{List}
 use lib.ListN.{length, getD}
 use Rattle.refusals.specs.Checks.{outcome}
 use Rattle.refusals.specs.declared.Outcome.the-variants.{Taken}
+use Rattle.words.specs.declared.Row.{Row}
 use Rattle.dimensions.specs.declared.Dimensions.{Dimensions}
 use Rattle.dimensions.specs.Sizes.{sizeChecks}
-use Rattle.tables.specs.declared.Row.{Row}
 use Rattle.tables.specs.Tables.{Tables}
 use Rattle.tables.specs.Rows.{publicRows, rowsOf}
 use Rattle.solver.specs.declared.Answer.{Answer}

@@ -12,11 +12,11 @@ use types.Run.{OneOf}
 use denote.Enum.Declared.{tagOf}
 use Rattle.refusals.specs.declared.Refusal.the-variants.{Text}
 use Rattle.refusals.specs.declared.Outcome.the-variants.{Taken}
+use Rattle.words.specs.declared.Row.{Row}
 use Rattle.clauses.specs.Rows.{rowWords}
 use Rattle.clauses.specs.Clauses.{Reading, clause, ended, unreadable, clauseRows, complete}
 use Rattle.dimacs.specs.Text.{refused, bodyOf}
 use Rattle.clauses.specs.First.{clausesFrom, first}
-use Rattle.clauses.specs.declared.Row.{Row}
 use Rattle.clauses.specs.declared.Clause.{Clause}
 use Rattle.clauses.specs.declared.Clause.the-variants.{Read, End}
 use Rattle.dimacs.specs.declared.Table.{Table}

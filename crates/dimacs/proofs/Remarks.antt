@@ -11,11 +11,11 @@ use Rattle.lexer.specs.Pieces.{Piece, cut, notEmpty, partsFrom, tokensFrom}
 use Rattle.lexer.specs.Blanks.{tokensPast}
 use Rattle.lexer.proofs.Kept.{bytesOf, same-tokens}
 use Rattle.refusals.specs.declared.Refusal.the-variants.{Text}
+use Rattle.words.specs.declared.Row.{Row}
 use Rattle.header.specs.declared.Sizes.{Sizes}
 use Rattle.header.specs.declared.Sizes.the-variants as S
 use Rattle.header.specs.Header.{headerOf}
 use Rattle.header.proofs.Kept.{header-same}
-use Rattle.clauses.specs.declared.Row.{Row}
 use Rattle.clauses.specs.Clauses.{clauses}
 use Rattle.clauses.specs.First.{clausesFrom}
 use Rattle.clauses.proofs.Unplaced.{rows-same, complete-same}

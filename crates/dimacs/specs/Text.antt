@@ -10,10 +10,10 @@ use Rattle.lexer.specs.Pieces.{tokensFrom}
 use Rattle.refusals.specs.declared.Refusal.{Refusal}
 use Rattle.refusals.specs.declared.Refusal.the-variants.{Text}
 use Rattle.refusals.specs.declared.Outcome.the-variants.{Taken, Refused}
+use Rattle.words.specs.declared.Row.{Row}
 use Rattle.header.specs.declared.Sizes.{Sizes}
 use Rattle.header.specs.declared.Sizes.the-variants as S
 use Rattle.header.specs.Header.{headerOf}
-use Rattle.clauses.specs.declared.Row.{Row}
 use Rattle.clauses.specs.Rows.{rowWords}
 use Rattle.clauses.specs.Clauses.{Reading, clauses, clauseRows, complete}
 use Rattle.dimacs.specs.declared.Table.{Table}

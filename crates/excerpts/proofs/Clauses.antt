@@ -11,6 +11,7 @@ use lib.ListN.{length}
 use types.Run.{OneOf}
 use denote.Enum.Declared.{tagOf}
 use Rattle.refusals.specs.declared.Refusal.{Refusal}
+use Rattle.words.specs.declared.Row.{Row}
 use Rattle.words.proofs.Truth.{on, and-l, and-r}
 use Rattle.lexer.specs.Pieces.{Piece, behind}
 use Rattle.lexer.specs.Places.{part, firstOf}
@@ -24,7 +25,6 @@ use Rattle.header.specs.Header.{headerOf}
 use Rattle.clauses.specs.Rows.{Literal, rowOf}
 use Rattle.clauses.specs.Clauses.{Reading, clause, ended, unreadable, joinedLiteral, before, clauses}
 use Rattle.clauses.specs.First.{clausesFrom, emptyRow, withLiterals, first}
-use Rattle.clauses.specs.declared.Row.{Row}
 use Rattle.clauses.specs.declared.Clause.{Clause}
 use Rattle.clauses.specs.declared.Clause.the-variants.{Read, Unreadable}
 use Rattle.clauses.proofs.Clause.{the-type}

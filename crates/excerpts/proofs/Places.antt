@@ -15,15 +15,14 @@ use Rattle.refusals.specs.declared.Outcome.the-variants.{Taken}
 use Rattle.refusals.specs.declared.Outcome.the-variants as outcomes
 use Rattle.refusals.specs.declared.Refusal.{Refusal}
 use Rattle.refusals.proofs.Outcomes.{given-said}
+use Rattle.words.specs.declared.Row.{Row}
 use Rattle.words.proofs.Truth.{on}
 use Rattle.lexer.specs.Places.{part}
 use Rattle.clauses.specs.Clauses.{Reading, clause, ended, unreadable}
 use Rattle.clauses.specs.First.{first}
-use Rattle.clauses.specs.declared.Row as clause-row
 use Rattle.clauses.specs.declared.Clause.{Clause}
 use Rattle.clauses.specs.declared.Clause.the-variants.{Read, End, Unreadable}
 use Rattle.dimensions.specs.declared.Dimensions.{Dimensions}
-use Rattle.tables.specs.declared.Row.{Row}
 use Rattle.tables.specs.Tables.{Tables}
 use Rattle.tables.specs.Rows.{rowAt}
 use Rattle.excerpts.specs.declared.Place.{Place}
@@ -46,7 +45,7 @@ module _ (station : ℕ) (positive negative : ℕ) (y : Clause) where
       go End q = refl
       go Unreadable q = refl
 
-  module _ (row : clause-row.Row) (from to : ℕ) (h : y ≡ Read row from to) where
+  module _ (row : Row) (from to : ℕ) (h : y ≡ Read row from to) where
     by-words : placeHeld station y positive negative
         ≡ cond (eqb (row .positive) positive && eqb (row .negative) negative) (between station from to) (between station 0 0)
     by-words = ap (λ (z : Clause). placeHeld station z positive negative) h
@@ -68,7 +67,7 @@ module _ (station : ℕ) (positive negative : ℕ) (y : Clause) where
 held-is : (station : ℕ) (text : List ℕ) (row : Row) (x : Reading) → Lies text x → placeHeld station (first x) (row .positive)
     (row .negative) ≡ placeIn station x row
 held-is station text row (clause ls from to rest) l =
-    ap (λ (r : clause-row.Row). cond (eqb (r .positive) (row .positive) && eqb (r .negative) (row .negative)) (between station from to)
+    ap (λ (r : Row). cond (eqb (r .positive) (row .positive) && eqb (r .negative) (row .negative)) (between station from to)
     (between station 0 0)) (l .2)
 held-is station text row ended l = refl
 held-is station text row unreadable l = refl

@@ -9,6 +9,7 @@ use lib.ListN.{length, getD, replicate}
 use borrow.Author.Tests.{eq-eqb, ltb-true, ltb-false}
 use Rattle.refusals.specs.declared.Outcome.the-variants.{Taken}
 use Rattle.refusals.proofs.Outcomes.{refused-taken}
+use Rattle.words.specs.declared.Row.{Row}
 use Rattle.words.proofs.Truth.{on}
 use Rattle.lexer.specs.Blanks.{tokensPast}
 use Rattle.header.specs.declared.Sizes.{Sizes}
@@ -21,7 +22,6 @@ use Rattle.dimacs.specs.declared.Table.{Table}
 use Rattle.dimacs.specs.Text.{tableOf}
 use Rattle.dimacs.proofs.Remarks.{standing}
 use Rattle.dimacs.proofs.Texts.{overlong, by-header}
-use Rattle.tables.specs.declared.Row.{Row}
 use Rattle.tables.specs.Rows.{rowAt}
 use Rattle.excerpts.specs.Excerpts.{skip, behindHeader, clauseOf, placeIn, placeOf}
 use Rattle.excerpts.proofs.Clauses.{LiesFrom, clauses-lie}

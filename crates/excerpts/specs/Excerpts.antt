@@ -8,6 +8,7 @@ use lib.ListN.{take, drop}
 use Rattle.refusals.specs.Numbers.{numberOf}
 use Rattle.refusals.specs.Checks.{Check, check, outcome, given}
 use Rattle.refusals.specs.declared.Refusal.the-variants.{TextsDiffer, NoClause}
+use Rattle.words.specs.declared.Row.{Row}
 use Rattle.lexer.specs.Blanks.{tokensPast}
 use Rattle.header.specs.declared.Sizes.{Sizes}
 use Rattle.header.specs.declared.Sizes.the-variants as sizes
@@ -18,7 +19,6 @@ use Rattle.clauses.specs.Clauses.{Reading, clause, ended, unreadable, clauses}
 use Rattle.dimacs.specs.declared.Table.{Table}
 use Rattle.dimacs.specs.Text.{tableOf}
 use Rattle.dimensions.specs.declared.Dimensions.{Dimensions}
-use Rattle.tables.specs.declared.Row.{Row}
 use Rattle.tables.specs.Tables.{Tables}
 use Rattle.tables.specs.Rows.{rowAt}
 use Rattle.tables.specs.Acceptance.{tableChecks}

@@ -7,9 +7,9 @@ use mathlib.Core.List.{List, [], _∷_}
 use Prim.Native.Nat.{ℕ, suc, _≤_}
 use native.Mathlib.Omega.{arith}
 use lib.ListN.{getD}
+use Rattle.words.specs.declared.Row.{Row}
 use Rattle.words.specs.Sets.{bit}
 use Rattle.words.proofs.Truth.{and-r, and-i}
-use Rattle.tables.specs.declared.Row.{Row}
 use Rattle.tables.specs.Rows.{free, holds}
 use Rattle.occurrences.specs.Index.{holdsLiteral}
 use Rattle.state.specs.declared.Level.{Level}

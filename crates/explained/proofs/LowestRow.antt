@@ -5,8 +5,8 @@ use mathlib.Core.List.{List, [], _∷_}
 use Prim.Native.Nat.{ℕ, zero, suc, _+_, _<_}
 use native.Mathlib.Omega.{arith}
 use lib.ListN.{length, getD}
+use Rattle.words.specs.declared.Row.{Row}
 use Rattle.words.proofs.Truth.{on}
-use Rattle.tables.specs.declared.Row.{Row}
 use Rattle.tables.specs.Rows.{empty}
 use Rattle.scan.specs.Rules.{anyRow}
 use Rattle.explained.specs.Explanation.{lowestFrom, lowestRow}

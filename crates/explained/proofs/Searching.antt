@@ -7,8 +7,8 @@ use native.Mathlib.Omega.{arith}
 use lib.Dec.{eqb, ltb}
 use lib.ListN.{length}
 use borrow.Author.Tests.{ltb-true, ltb-false, eqb-true, ne-eqb}
+use Rattle.words.specs.declared.Row.{Row}
 use Rattle.words.proofs.Truth.{and-l, and-r, on}
-use Rattle.tables.specs.declared.Row.{Row}
 use Rattle.tables.specs.Rows.{rowAt, rowsFrom}
 use Rattle.explained.specs.Explanation.{lowestFrom, lowestRow}
 use Rattle.explained.specs.Search.{foundOr}

@@ -5,10 +5,10 @@ use mathlib.Core.Bool.{Bool, true, false, not, _&&_, _||_}
 use Prim.Native.Nat.{ℕ}
 use lib.Dec.{eqb}
 use lib.Bits.{bitOr}
+use Rattle.words.specs.declared.Row.{Row}
 use Rattle.words.specs.Sets.{bit}
 use Rattle.words.proofs.Truth.{not-or, taut4, agree, agree-eq}
 use Rattle.words.proofs.Bits.{bit-or}
-use Rattle.tables.specs.declared.Row.{Row}
 use Rattle.tables.specs.declared.Judged.{Judged}
 use Rattle.tables.specs.Rows.{free, holds, judged}
 use Rattle.occurrences.specs.Index.{holdsLiteral}

@@ -4,9 +4,9 @@ use mathlib.Core.Bool.{Bool, true, false, _&&_}
 use mathlib.Core.List.{List, [], _∷_}
 use Rattle.refusals.specs.Checks.{given}
 use Rattle.refusals.specs.Numbers.{said}
+use Rattle.words.specs.declared.Row.{Row}
 use Rattle.words.specs.Booleans.{digit}
 use Rattle.dimensions.specs.declared.Dimensions.{Dimensions}
-use Rattle.tables.specs.declared.Row.{Row}
 use Rattle.tables.specs.Tables.{Tables}
 use Rattle.tables.specs.Rows.{rowsOf}
 use Rattle.occurrences.specs.Index.{holdsLiteral}

@@ -1,6 +1,6 @@
 // The lowest row that shows a rule: one in conflict, or one that forces the very literal taken.
 use scan::Rule;
-use tables::Row;
+use words::Row;
 ghost use mathlib.Core.Path.{_≡_};
 ghost use mathlib.Core.Bool.{cond};
 ghost use mathlib.Core.List.{_++_};

@@ -7,8 +7,8 @@ use native.Mathlib.Nat.{add-zero}
 use native.Mathlib.Omega.{arith}
 use lib.ListN.{length, getD, set, length-set}
 use lib.Seq.{sets}
+use Rattle.words.specs.declared.Row.{Row}
 use Rattle.dimensions.specs.declared.Dimensions.{Dimensions}
-use Rattle.tables.specs.declared.Row.{Row}
 use Rattle.tables.specs.Tables.{Tables}
 use Rattle.tables.specs.Rows.{rowAt, rowsFrom, rowsOf, publicRows, freeLiterals}
 use Rattle.tables.proofs.Rows.{literals-width}

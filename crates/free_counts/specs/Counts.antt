@@ -6,9 +6,9 @@ use lib.ListN.{length}
 use lib.Seq.{sets}
 use Rattle.refusals.specs.Checks.{Check, check, outcome, given}
 use Rattle.refusals.specs.declared.Refusal.the-variants.{Wires}
+use Rattle.words.specs.declared.Row.{Row}
 use Rattle.dimensions.specs.declared.Dimensions.{Dimensions}
 use Rattle.dimensions.specs.Sizes.{rowCount}
-use Rattle.tables.specs.declared.Row.{Row}
 use Rattle.tables.specs.Tables.{Tables}
 use Rattle.tables.specs.Rows.{rowsOf, freeLiterals}
 use Rattle.tables.specs.Acceptance.{tableChecks}

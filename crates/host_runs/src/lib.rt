@@ -4,8 +4,8 @@
 use solver::Solved;
 use state::Run;
 use tables::Look;
-use tables::Row;
 use verdicts::Modelled;
+use words::Row;
 ghost use mathlib.Core.Path.{_≡_};
 ghost use lib.ListN.{length};
 ghost use Rattle.refusals.specs.Checks.{outcome};

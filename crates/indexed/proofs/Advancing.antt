@@ -3,7 +3,7 @@ use mathlib.Core.Path.{_≡_, refl, sym, ap, ap₂, _∙_}
 use mathlib.Core.List.{List}
 use Prim.Native.Nat.{ℕ}
 use lib.ListN.{length}
-use Rattle.tables.specs.declared.Row.{Row}
+use Rattle.words.specs.declared.Row.{Row}
 use Rattle.tables.specs.Rows.{rowsFrom}
 use Rattle.scan.specs.declared.Rule.{Rule}
 use Rattle.scan.specs.Rules.{rule}

@@ -11,8 +11,8 @@ use Rattle.refusals.specs.declared.Outcome.the-variants.{Taken, Refused}
 use Rattle.refusals.specs.declared.Refusal.the-variants.{OtherVariables}
 use Rattle.refusals.specs.declared.Refusal.the-variants as refusal
 use Rattle.refusals.proofs.Outcomes.{check-passed, checks-taken}
+use Rattle.words.specs.declared.Row.{Row}
 use Rattle.words.specs.Sameness.{same}
-use Rattle.tables.specs.declared.Row.{Row}
 use Rattle.tables.specs.Rows.{rowsFrom}
 use Rattle.state.specs.declared.Run.{Run}
 use Rattle.state.specs.State.{stateOf}

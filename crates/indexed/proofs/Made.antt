@@ -5,9 +5,9 @@ use Prim.Native.Nat.{ℕ, min, _^_, _<_}
 use native.Mathlib.Omega.{arith}
 use Rattle.refusals.specs.Checks.{outcome}
 use Rattle.refusals.specs.declared.Outcome.the-variants.{Taken}
+use Rattle.words.specs.declared.Row.{Row}
 use Rattle.dimensions.specs.declared.Dimensions.{Dimensions}
 use Rattle.dimensions.specs.Sizes.{rowCount}
-use Rattle.tables.specs.declared.Row.{Row}
 use Rattle.tables.specs.Tables.{Tables}
 use Rattle.tables.specs.Rows.{rowsFrom, rowsOf}
 use Rattle.tables.specs.Acceptance.{lowRow, tableChecks}

@@ -3,9 +3,9 @@ use mathlib.Core.Path.{_≡_, refl, ap, ap₂}
 use mathlib.Core.Bool.{Bool, true, not}
 use mathlib.Core.List.{List, [], _∷_}
 use Prim.Native.Nat.{ℕ, _+_, _≤_}
+use Rattle.words.specs.declared.Row.{Row}
 use Rattle.words.specs.Booleans.{digit}
 use Rattle.words.proofs.Truth.{and-l, and-r}
-use Rattle.tables.specs.declared.Row.{Row}
 use Rattle.tables.proofs.Rows.{satisfied-width}
 use Rattle.scan.specs.Rules.{allRows}
 use Rattle.tables.specs.Acceptance.{lowRow}

@@ -4,7 +4,7 @@ use mathlib.Core.Bool.{true, false}
 use mathlib.Core.List.{List}
 use Prim.Native.Nat.{ℕ, _+_, _≤_}
 use lib.Dec.{ltb}
-use Rattle.tables.specs.declared.Row.{Row}
+use Rattle.words.specs.declared.Row.{Row}
 use Rattle.tables.specs.Rows.{rowsFrom}
 use Rattle.state.specs.declared.Run.{Run}
 use Rattle.state.specs.State.{fresh, stateOf, runOf, ifOpen}

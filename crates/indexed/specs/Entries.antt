@@ -10,9 +10,9 @@ use Rattle.refusals.specs.declared.Outcome.the-variants.{Taken}
 use Rattle.refusals.specs.declared.Outcome.the-variants as outcomes
 use Rattle.refusals.specs.declared.Refusal.the-variants.{OtherVariables}
 use Rattle.refusals.specs.declared.Refusal.the-variants as refusal
+use Rattle.words.specs.declared.Row.{Row}
 use Rattle.words.specs.Sameness.{same}
 use Rattle.dimensions.specs.declared.Dimensions.{Dimensions}
-use Rattle.tables.specs.declared.Row.{Row}
 use Rattle.tables.specs.Tables.{Tables}
 use Rattle.tables.specs.Rows.{rowsOf}
 use Rattle.tables.specs.Acceptance.{tableChecks}

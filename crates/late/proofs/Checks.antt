@@ -13,12 +13,12 @@ use Rattle.refusals.specs.declared.Outcome.the-variants.{Taken, Refused}
 use Rattle.refusals.specs.declared.Refusal.{Refusal}
 use Rattle.refusals.specs.declared.Refusal.the-variants.{RowBit, NotPadding, Closed}
 use Rattle.refusals.proofs.Outcomes.{outcome-taken, outcome-refused, outcome-parts, check-passed, checks-taken}
+use Rattle.words.specs.declared.Row.{Row}
 use Rattle.words.specs.Sets.{bit, any}
 use Rattle.words.proofs.Truth.{on, and-l, and-r}
 use Rattle.words.proofs.Upto.{any-width}
 use Rattle.words.proofs.Operations.{bit-and, bit-high, any-word, and-lt-left}
 use Rattle.dimensions.specs.declared.Dimensions.{Dimensions}
-use Rattle.tables.specs.declared.Row.{Row}
 use Rattle.tables.specs.Tables.{Tables}
 use Rattle.tables.specs.Rows.{rowAt, rowsOf, empty, padding}
 use Rattle.tables.specs.Acceptance.{lowRow, tableChecks}

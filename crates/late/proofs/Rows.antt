@@ -14,10 +14,10 @@ use Rattle.refusals.specs.Checks.{check, outcome}
 use Rattle.refusals.specs.declared.Outcome.the-variants.{Taken}
 use Rattle.refusals.specs.declared.Refusal.the-variants.{RowBit, RowBuffer}
 use Rattle.refusals.proofs.Outcomes.{outcome-parts, check-passed, checks-taken}
+use Rattle.words.specs.declared.Row.{Row}
 use Rattle.words.proofs.Truth.{on, and-l, and-r, and-i, or-three}
 use Rattle.dimensions.specs.declared.Dimensions.{Dimensions}
 use Rattle.dimensions.specs.Sizes.{sizeChecks}
-use Rattle.tables.specs.declared.Row.{Row}
 use Rattle.tables.specs.Tables.{Tables}
 use Rattle.tables.specs.Rows.{rowAt, rowsFrom, publicRows, rowsOf}
 use Rattle.tables.specs.Acceptance.{allBelow, lowRow, short, high, anyShort, anyHigh, wordChecks, tableChecks}

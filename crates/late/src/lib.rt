@@ -4,7 +4,7 @@ use refusals::Outcome;
 use refusals::Refusal;
 use state::Run;
 use state::Standing;
-use tables::Row;
+use words::Row;
 ghost use mathlib.Core.Path.{_≡_};
 ghost use mathlib.Core.Bool.{true, false, _&&_, cond};
 ghost use Prim.Native.Nat.{_+_, _-_, _*_, _≤_, _<_};

@@ -15,12 +15,12 @@ use Rattle.refusals.specs.declared.Outcome.{Outcome}
 use Rattle.refusals.specs.declared.Outcome.the-variants.{Taken, Refused}
 use Rattle.refusals.specs.declared.Refusal.{Refusal}
 use Rattle.refusals.proofs.Outcomes.{outcome-parts, outcome-refused}
+use Rattle.words.specs.declared.Row.{Row}
 use Rattle.words.specs.Booleans.{digit}
 use Rattle.words.specs.Sameness.{same}
 use Rattle.words.proofs.Sameness.{same-true}
 use Rattle.words.proofs.Truth.{on, digit-lt}
 use Rattle.dimensions.specs.declared.Dimensions.{Dimensions}
-use Rattle.tables.specs.declared.Row.{Row}
 use Rattle.tables.specs.Tables.{Tables}
 use Rattle.tables.specs.Rows.{rowAt, rowsOf, empty, padding, satisfied}
 use Rattle.tables.specs.Acceptance.{tableChecks}

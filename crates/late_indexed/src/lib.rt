@@ -4,7 +4,7 @@ use dimensions::Dimensions;
 use late::Condition;
 use refusals::Outcome;
 use state::Run;
-use tables::Row;
+use words::Row;
 ghost use mathlib.Core.Path.{_≡_};
 ghost use Prim.Native.Nat.{_+_, _*_, _≤_, _<_};
 ghost use lib.ListN.{length};

@@ -6,7 +6,7 @@ use mathlib.Core.List.{List, [], _∷_, _++_, append-assoc}
 use Prim.Native.Nat.{ℕ, suc, _+_, _*_, _^_, _≤_, _<_}
 use native.Mathlib.Omega.{arith}
 use lib.ListN.{length, drop}
-use Rattle.tables.specs.declared.Row.{Row}
+use Rattle.words.specs.declared.Row.{Row}
 use Rattle.dimensions.specs.Sizes.{stateWires}
 use Rattle.state.specs.State.{State}
 use Rattle.state.specs.WellFormed.{wellFormedState}

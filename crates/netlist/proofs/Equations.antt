@@ -6,9 +6,9 @@ use mathlib.Core.List.{List}
 use Prim.Native.Nat.{ℕ, suc, _+_, _*_, _-_, _/_, _^_, _≤_, _<_}
 use lib.Dec.{ltb}
 use lib.ListN.{length}
+use Rattle.words.specs.declared.Row.{Row}
 use Rattle.words.specs.Booleans.{_⊕_}
 use Rattle.words.specs.Sets.{bit}
-use Rattle.tables.specs.declared.Row.{Row}
 use Rattle.wires.proofs.Addresses.{rowOf}
 use Rattle.netlist.proofs.Chains.{or}
 use Rattle.netlist.proofs.Digits.{greaterOf}

@@ -9,10 +9,10 @@ use native.Mathlib.Omega.{arith}
 use lib.Dec.{eqb, ltb}
 use lib.ListN.{length}
 use borrow.Author.Tests.{lt-ltb, le-ltb}
+use Rattle.words.specs.declared.Row.{Row}
 use Rattle.words.specs.Booleans.{_⊕_, digit}
 use Rattle.words.specs.Sets.{bit, lowest, wordOf}
 use Rattle.words.proofs.WordOf.{wordOf-lt, wordOf-bit, wordOf-cong}
-use Rattle.tables.specs.declared.Row.{Row}
 use Rattle.tables.specs.Rows.{satisfied, freeIn}
 use Rattle.wires.proofs.Addresses.{rowOf}
 use Rattle.netlist.proofs.Digits.{raised, wordOf-last, compared, keptOf}

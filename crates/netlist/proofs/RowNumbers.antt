@@ -4,11 +4,11 @@ use mathlib.Core.Bool.{Bool, true, false, not, _&&_, _||_}
 use mathlib.Core.List.{List, [], _∷_}
 use Prim.Native.Nat.{ℕ, _<_}
 use lib.ListN.{length}
+use Rattle.words.specs.declared.Row.{Row}
 use Rattle.words.specs.Sets.{any}
 use Rattle.words.proofs.Truth.{on, taut2, agree, agree-eq}
 use Rattle.words.proofs.Upto.{any-i}
 use Rattle.words.proofs.Last.{any-false}
-use Rattle.tables.specs.declared.Row.{Row}
 use Rattle.scan.specs.Rules.{allRows, anyRow}
 use Rattle.wires.proofs.Addresses.{rowOf}
 

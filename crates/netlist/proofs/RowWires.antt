@@ -9,11 +9,11 @@ use native.Mathlib.Nat.{le-refl}
 use native.Mathlib.Omega.{arith}
 use lib.Dec.{eqb, eqb·suc-zero, eqb·suc-suc}
 use lib.ListN.{length}
+use Rattle.words.specs.declared.Row.{Row}
 use Rattle.words.specs.Booleans.{_⊕_, imp}
 use Rattle.words.specs.Sets.{bit, any, count}
 use Rattle.words.proofs.Truth.{on, and-i, mp, taut4, taut5, agree, agree-eq}
 use Rattle.words.proofs.Last.{any-false}
-use Rattle.tables.specs.declared.Row.{Row}
 use Rattle.tables.specs.Rows.{satisfied, satisfies, freeIn}
 use Rattle.tables.proofs.Rows.{satisfied-any, unsatisfied-none, unsatisfied-literals}
 use Rattle.scan.specs.Rules.{unsatisfiedWith}

@@ -9,12 +9,12 @@ use native.Mathlib.Omega.{arith}
 use lib.Dec.{eqb}
 use lib.ListN.{length}
 use borrow.Author.Tests.{ltb-true, eqb-true, not-true}
+use Rattle.words.specs.declared.Row.{Row}
 use Rattle.words.specs.Booleans.{imp, digit}
 use Rattle.words.specs.Sets.{bit, lowest}
 use Rattle.words.proofs.Truth.{on, and-l, and-r, and-i, mp, taut2, taut3, agree, agree-eq, digit-lt}
 use Rattle.words.proofs.Upto.{any-i, count-some, count-one, lowest-hit}
 use Rattle.words.proofs.Last.{any-false, lowest-first}
-use Rattle.tables.specs.declared.Row.{Row}
 use Rattle.tables.specs.Rows.{satisfied, free, freeIn}
 use Rattle.scan.specs.declared.Rule.{Rule}
 use Rattle.scan.specs.declared.Rule.the-variants.{AllSatisfied, Conflict, Unit, Choice}

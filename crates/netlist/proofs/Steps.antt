@@ -8,10 +8,10 @@ use native.Mathlib.Omega.{arith}
 use lib.Dec.{eqb, eqb·zero-suc}
 use lib.ListN.{length}
 use borrow.Author.Tests.{ne-eqb, not-true}
+use Rattle.words.specs.declared.Row.{Row}
 use Rattle.words.specs.Booleans.{_⊕_}
 use Rattle.words.specs.Sets.{bit}
 use Rattle.words.proofs.Truth.{and-l, and-r}
-use Rattle.tables.specs.declared.Row.{Row}
 use Rattle.tables.specs.Rows.{free}
 use Rattle.state.specs.declared.Level.{Level}
 use Rattle.scan.specs.declared.Rule.{Rule}

@@ -7,9 +7,9 @@ use lib.Dec.{ltb}
 use lib.ListN.{length, getD, replicate, length-replicate, getD-replicate}
 use lib.Seq.{ext-getD}
 use borrow.Author.Tests.{ltb-true, ltb-false}
+use Rattle.words.specs.declared.Row.{Row}
 use Rattle.words.specs.Sets.{wordOf}
 use Rattle.words.proofs.Truth.{on}
-use Rattle.tables.specs.declared.Row.{Row}
 use Rattle.occurrences.specs.Index.{at, wordAt, indexOf}
 use Rattle.occurrences.specs.RowWords.{numbered}
 use Rattle.occurrences.proofs.IndexLaws.{index-length, place, literal-at}

@@ -4,9 +4,9 @@ use mathlib.Core.Bool.{true}
 use mathlib.Core.List.{List, [], _∷_, _++_}
 use Prim.Native.Nat.{ℕ, _+_, _*_}
 use lib.ListN.{take, set, replicate}
+use Rattle.words.specs.declared.Row.{Row}
 use Rattle.words.specs.Sets.{bit, wordOf}
 use Rattle.dimensions.specs.Sizes.{dimensions}
-use Rattle.tables.specs.declared.Row.{Row}
 use Rattle.tables.specs.Tables.{allTables}
 use Rattle.tables.specs.Rows.{rowsOf}
 use Rattle.occurrences.specs.Index.{at, rowSet, holdsLiteral, indexOf}

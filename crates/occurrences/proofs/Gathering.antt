@@ -7,9 +7,9 @@ use lib.ListN.{length, getD, drop, replicate, length-append, length-replicate, L
 use lib.Seq.{sets, sets-eq, length-sets, length-take-le, getD-take, getD-append-add}
 use Rattle.refusals.specs.Checks.{outcome}
 use Rattle.refusals.specs.declared.Outcome.the-variants.{Taken}
+use Rattle.words.specs.declared.Row.{Row}
 use Rattle.dimensions.specs.declared.Dimensions.{Dimensions}
 use Rattle.dimensions.specs.Sizes.{rowCount}
-use Rattle.tables.specs.declared.Row.{Row}
 use Rattle.tables.specs.Tables.{Tables}
 use Rattle.tables.specs.Rows.{rowAt, rowsFrom, rowsOf}
 use Rattle.tables.specs.Acceptance.{tableChecks}

@@ -6,7 +6,7 @@ use Prim.Native.Nat.{ℕ, zero, suc, _+_, _*_, _<_}
 use native.Mathlib.Omega.{arith}
 use lib.ListN.{length, getD, length-append, List·getD-append}
 use lib.Seq.{getD-append-add}
-use Rattle.tables.specs.declared.Row.{Row}
+use Rattle.words.specs.declared.Row.{Row}
 use Rattle.occurrences.specs.Index.{wordAt, rowSet, holdsLiteral, setsFrom, indexOf}
 
 module _ (rows : List Row) where

@@ -7,12 +7,12 @@ use lib.Dec.{eqb, ltb, lit≤}
 use lib.Bits.{bitOr, or-zero-l, or-lt, and-shifted}
 use lib.Pow.{pow-lt, shl-lt, shl-exact, shl-shr, shr-shr}
 use borrow.Author.Tests.{ltb-true, ltb-false, eq-eqb}
+use Rattle.words.specs.declared.Row.{Row}
 use Rattle.words.specs.Sets.{bit, put}
 use Rattle.words.proofs.Truth.{on}
 use Rattle.words.proofs.Bits.{bit-or, bit-zero, bit-put}
 use Rattle.words.proofs.Operations.{bit-and, bit-ext, bit-high}
 use Rattle.words.proofs.WordOf.{bit-wordOf, wordOf-lt}
-use Rattle.tables.specs.declared.Row.{Row}
 use Rattle.occurrences.specs.RowWords.{numbered, literalsOf}
 
 power-bit : (i : ℕ) → bit (2 ^ i) i ≡ true

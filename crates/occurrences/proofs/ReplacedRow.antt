@@ -11,13 +11,13 @@ use lib.Bits.{bitXor, or-zero-l, xor-shr, xor-mod, xor-lt}
 use lib.Pow.{pow-lt}
 use lib.ListN.{length, getD, set}
 use borrow.Author.Tests.{eqb-true, eqb-false, eq-eqb, ne-eqb}
+use Rattle.words.specs.declared.Row.{Row}
 use Rattle.words.specs.Booleans.{_⊕_}
 use Rattle.words.specs.Sets.{bit, put}
 use Rattle.words.proofs.Truth.{on, and-l, and-r, taut2, agree, agree-eq}
 use Rattle.words.proofs.Bits.{bit-zero, bit-put}
 use Rattle.words.proofs.Operations.{bit-ext}
 use Rattle.words.proofs.WordOf.{bit-wordOf, wordOf-lt, wordOf-cong}
-use Rattle.tables.specs.declared.Row.{Row}
 use Rattle.tables.specs.Rows.{rowAt, rowsFrom, empty}
 use Rattle.tables.proofs.Numbering.{table-length}
 use Rattle.occurrences.specs.Index.{at, wordAt, indexOf}

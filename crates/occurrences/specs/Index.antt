@@ -2,8 +2,8 @@
 use Prim.Native.Nat.{ℕ, zero, suc, _+_, _*_}
 use mathlib.Core.Bool.{Bool, true, false}
 use mathlib.Core.List.{List, [], _∷_, _++_}
+use Rattle.words.specs.declared.Row.{Row}
 use Rattle.words.specs.Sets.{bit, wordOf}
-use Rattle.tables.specs.declared.Row.{Row}
 
 -- the row of number i, from 0, passes; none past the last does
 unfoldable pub at : (Row → Bool) → List Row → ℕ → Bool

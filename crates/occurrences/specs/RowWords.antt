@@ -6,10 +6,10 @@ use lib.Dec.{eqb, ltb}
 use lib.Bits.{bitXor}
 use lib.ListN.{take, replicate}
 use lib.Seq.{sets}
+use Rattle.words.specs.declared.Row.{Row}
 use Rattle.words.specs.Booleans.{_⊕_}
 use Rattle.words.specs.Sets.{bit, wordOf}
 use Rattle.dimensions.specs.declared.Dimensions.{Dimensions}
-use Rattle.tables.specs.declared.Row.{Row}
 use Rattle.tables.specs.Tables.{Tables}
 use Rattle.occurrences.specs.Index.{holdsLiteral}
 

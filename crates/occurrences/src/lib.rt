@@ -2,7 +2,7 @@
 // does a variable
 // touch"). Nothing here is turned back: each public function is total.
 use dimensions::Dimensions;
-use tables::Row;
+use words::Row;
 ghost use mathlib.Core.Path.{_≡_};
 ghost use Prim.Native.Nat.{_+_, _*_, _≤_, _<_, min};
 ghost use lib.ListN.{length};

@@ -7,11 +7,11 @@ use Prim.Native.Nat.{ℕ, zero, suc, _*_, _^_, _≤_, _<_, zero-le, min}
 use native.Mathlib.Omega.{arith}
 use lib.ListN.{length, getD, take}
 use borrow.Author.Tests.{le-ltb, lt-ltb}
+use Rattle.words.specs.declared.Row.{Row}
 use Rattle.words.proofs.Truth.{and-i}
 use Rattle.refusals.specs.Checks.{given, outcome}
 use Rattle.refusals.specs.declared.Outcome.{Outcome}
 use Rattle.refusals.specs.declared.Outcome.the-variants.{Taken, Refused}
-use Rattle.tables.specs.declared.Row.{Row}
 use Rattle.tables.specs.Rows.{rowsOf}
 use Rattle.tables.specs.Acceptance.{allBelow, tableChecks}
 use Rattle.dimacs.specs.declared.TextTables.{TextTables}

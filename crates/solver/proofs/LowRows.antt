@@ -9,9 +9,9 @@ use lib.ListN.{getD}
 use borrow.Author.Tests.{lt-ltb, ltb-true}
 use Rattle.refusals.specs.Checks.{outcome}
 use Rattle.refusals.specs.declared.Outcome.the-variants.{Taken}
+use Rattle.words.specs.declared.Row.{Row}
 use Rattle.words.proofs.Truth.{and-l, and-r, and-i}
 use Rattle.dimensions.specs.declared.Dimensions.{Dimensions}
-use Rattle.tables.specs.declared.Row.{Row}
 use Rattle.tables.specs.Tables.{Tables}
 use Rattle.tables.specs.Rows.{rowsFrom, rowsOf}
 use Rattle.tables.specs.Acceptance.{lowRow, tableChecks}

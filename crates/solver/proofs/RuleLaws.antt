@@ -6,10 +6,10 @@ use Prim.Native.Nat.{ℕ, zero, suc, _<_}
 use native.Mathlib.Nat.{zero-lt-suc}
 use native.Mathlib.Omega.{arith}
 use borrow.Author.Tests.{eqb-true, eq-eqb, not-true}
+use Rattle.words.specs.declared.Row.{Row}
 use Rattle.words.specs.Sets.{bit, count}
 use Rattle.words.proofs.Truth.{and-l, and-r, and-i, on}
 use Rattle.words.proofs.Upto.{count-some, lowest-hit}
-use Rattle.tables.specs.declared.Row.{Row}
 use Rattle.tables.specs.Rows.{padding, satisfied, free, holds, freeIn}
 use Rattle.tables.proofs.Rows.{unsatisfied-padding, unsatisfied-literals}
 use Rattle.scan.specs.declared.Rule.{Rule}

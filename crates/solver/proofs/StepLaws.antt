@@ -6,9 +6,9 @@ use Prim.Native.Nat.{ℕ, zero, suc, _≤_, _<_, zero-le, suc-le-suc}
 use native.Mathlib.Omega.{arith}
 use lib.ListN.{length}
 use lib.Pow.{pow-pos}
+use Rattle.words.specs.declared.Row.{Row}
 use Rattle.words.specs.Sets.{put}
 use Rattle.words.proofs.Bits.{bit-zero}
-use Rattle.tables.specs.declared.Row.{Row}
 use Rattle.state.specs.declared.Level.{Level}
 use Rattle.scan.specs.declared.Rule.{Rule}
 use Rattle.scan.specs.declared.Rule.the-variants.{AllSatisfied, Conflict, Unit, Choice}

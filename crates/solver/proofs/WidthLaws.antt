@@ -4,10 +4,10 @@ use mathlib.Core.Bool.{Bool, true, false, not, _&&_}
 use mathlib.Core.List.{List}
 use Prim.Native.Nat.{ℕ, _≤_}
 use lib.Dec.{eqb}
+use Rattle.words.specs.declared.Row.{Row}
 use Rattle.words.specs.Sets.{bit, lowest}
 use Rattle.words.proofs.Truth.{on}
 use Rattle.words.proofs.Upto.{lowest-width}
-use Rattle.tables.specs.declared.Row.{Row}
 use Rattle.tables.specs.Rows.{satisfied, freeIn}
 use Rattle.tables.proofs.Rows.{satisfied-width, literals-width}
 use Rattle.scan.specs.declared.Rule.{Rule}

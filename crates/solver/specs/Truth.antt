@@ -2,8 +2,8 @@
 use Prim.Native.Nat.{ℕ}
 use mathlib.Core.Bool.{Bool, not, _&&_, _||_}
 use mathlib.Core.List.{List}
+use Rattle.words.specs.declared.Row.{Row}
 use Rattle.words.specs.Sets.{bit, any, count}
-use Rattle.tables.specs.declared.Row.{Row}
 use Rattle.tables.specs.Rows.{padding, holds}
 use Rattle.scan.specs.Rules.{allRows, anyRow}
 

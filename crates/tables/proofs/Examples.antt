@@ -5,9 +5,9 @@ use mathlib.Core.List.{List, [], _∷_}
 use Prim.Native.Nat.{ℕ}
 use Rattle.refusals.specs.Checks.{outcome}
 use Rattle.refusals.specs.Numbers.{codeOf}
+use Rattle.words.specs.declared.Row.{Row}
 use Rattle.words.specs.Sets.{bit, any, count, lowest}
 use Rattle.dimensions.specs.Sizes.{dimensions}
-use Rattle.tables.specs.declared.Row.{Row}
 use Rattle.tables.specs.Tables.{allTables}
 use Rattle.tables.specs.Rows.{rowsOf, padding, satisfied, freeLiterals, lookAt, lookNumber}
 use Rattle.tables.specs.Acceptance.{allBelow, tableChecks}

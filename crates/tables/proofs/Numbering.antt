@@ -5,9 +5,9 @@ use Prim.Native.Nat.{ℕ, zero, suc, _+_, _<_}
 use native.Mathlib.Omega.{arith}
 use lib.ListN.{length, getD, length-append, List·getD-append}
 use lib.Seq.{getD-append-add}
+use Rattle.words.specs.declared.Row.{Row}
 use Rattle.dimensions.specs.declared.Dimensions.{Dimensions}
 use Rattle.dimensions.specs.Sizes.{rowCount}
-use Rattle.tables.specs.declared.Row.{Row}
 use Rattle.tables.specs.Tables.{Tables}
 use Rattle.tables.specs.Rows.{rowAt, rowsFrom, publicRows, rowsOf, empty}
 

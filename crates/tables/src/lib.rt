@@ -2,18 +2,13 @@
 use dimensions::Dimensions;
 use refusals::Outcome;
 use refusals::Refusal;
+use words::Row;
 ghost use mathlib.Core.Path.{_≡_};
 ghost use Rattle.words.specs.Sets.{bit};
 ghost use Rattle.refusals.specs.Checks.{outcome};
 ghost use Rattle.tables.specs.Tables.{allTables};
 ghost use Rattle.tables.specs.Rows.{lowestOr, judged};
 ghost use Rattle.tables.specs.Acceptance.{tableChecks, allBelow};
-
-// A clause: the variables that it holds positive and those that it holds negative.
-pub struct Row {
-    pub positive: u32,
-    pub negative: u32,
-}
 
 // The variable of a row to look at, counted from 0 as bits are, or none.
 pub enum Look {

@@ -8,6 +8,7 @@ use lib.Dec.{eqb}
 use lib.Bits.{bitOr, or-lt}
 use lib.ListN.{length, getD}
 use borrow.Author.Tests.{eqb-true, not-true, not-false}
+use Rattle.words.specs.declared.Row.{Row}
 use Rattle.words.specs.Sets.{bit, any, count, lowest}
 use Rattle.words.proofs.Truth.{on, and-r, taut3, taut4, agree, agree-eq}
 use Rattle.words.proofs.Upto.{any-i, any-e, any-or, count-some, lowest-hit, lowest-cong}
@@ -15,7 +16,6 @@ use Rattle.words.proofs.Last.{any-cong, any-false}
 use Rattle.words.proofs.Bits.{bit-or}
 use Rattle.words.proofs.Operations.{any-word}
 use Rattle.words.proofs.WordOf.{bit-wordOf, wordOf-lt}
-use Rattle.tables.specs.declared.Row.{Row}
 use Rattle.tables.specs.Rows.{satisfied, free, holds, freeIn}
 use Rattle.scan.specs.declared.Rule.the-variants.{Unit, Choice}
 use Rattle.scan.specs.Rules.{allRows, anyRow, unsatisfiedWith, forces, forcedVariable, forcedTrue, unitOr, choice, rule}

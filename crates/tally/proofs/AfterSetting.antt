@@ -8,12 +8,12 @@ use lib.Dec.{eqb}
 use lib.Bits.{bitAnd, bitOr, or-lt}
 use lib.ListN.{getD}
 use borrow.Author.Tests.{not-true}
+use Rattle.words.specs.declared.Row.{Row}
 use Rattle.words.specs.Sets.{bit, put}
 use Rattle.words.proofs.Truth.{taut3, agree, agree-eq}
 use Rattle.words.proofs.Bits.{bit-or, bit-put, put-lt}
 use Rattle.words.proofs.Operations.{bit-and, bit-not, and-lt-left}
 use Rattle.words.proofs.WordOf.{bit-wordOf, wordOf-lt}
-use Rattle.tables.specs.declared.Row.{Row}
 use Rattle.tables.specs.Rows.{rowsFrom, free}
 use Rattle.scan.specs.Rules.{anyRow, unsatisfiedWith}
 use Rattle.scan.proofs.RowLaws.{any-row-cong, any-row-or, any-row-and, no-row}

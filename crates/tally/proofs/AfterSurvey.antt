@@ -8,6 +8,7 @@ use lib.Dec.{eqb, leb, ltb}
 use lib.Bits.{bitAnd, bitOr}
 use lib.ListN.{getD}
 use borrow.Author.Tests.{eqb-true, ltb-true, ltb-false, lt-leb}
+use Rattle.words.specs.declared.Row.{Row}
 use Rattle.words.specs.Sets.{bit, any, count, wordOf}
 use Rattle.words.proofs.Truth.{on, taut4, agree, agree-eq}
 use Rattle.words.proofs.Upto.{count-cong}
@@ -15,7 +16,6 @@ use Rattle.words.proofs.Last.{any-cong}
 use Rattle.words.proofs.Bits.{bit-zero}
 use Rattle.words.proofs.Operations.{and-lt-left}
 use Rattle.words.proofs.WordOf.{bit-wordOf, wordOf-lt}
-use Rattle.tables.specs.declared.Row.{Row}
 use Rattle.tables.specs.Rows.{rowAt, rowsFrom, satisfied, satisfies, freeIn}
 use Rattle.tables.proofs.Rows.{satisfied-any}
 use Rattle.scan.specs.Rules.{anyRow, unsatisfiedWith}

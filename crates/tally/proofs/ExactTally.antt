@@ -7,6 +7,7 @@ use native.Mathlib.Omega.{arith}
 use lib.Dec.{eqb, ltb}
 use lib.Bits.{bitOr}
 use borrow.Author.Tests.{ltb-true, ltb-false}
+use Rattle.words.specs.declared.Row.{Row}
 use Rattle.words.specs.Sets.{bit, any, wordOf}
 use Rattle.words.proofs.Truth.{on, taut2, agree, agree-eq}
 use Rattle.words.proofs.Upto.{count-cong}
@@ -14,7 +15,6 @@ use Rattle.words.proofs.Last.{any-cong}
 use Rattle.words.proofs.Bits.{bit-or}
 use Rattle.words.proofs.Operations.{bit-and}
 use Rattle.words.proofs.WordOf.{wordOf-cong}
-use Rattle.tables.specs.declared.Row.{Row}
 use Rattle.tables.specs.Rows.{rowAt, rowsFrom, free, freeIn}
 use Rattle.scan.specs.Rules.{anyRow, unsatisfiedWith}
 use Rattle.occurrences.specs.Index.{at, rowSet, holdsLiteral}

@@ -7,13 +7,13 @@ use native.Mathlib.Nat.{not-suc-le-zero}
 use native.Mathlib.Omega.{arith}
 use lib.Dec.{eqb}
 use borrow.Author.Tests.{ne-eqb, eqb-true, eqb-false}
+use Rattle.words.specs.declared.Row.{Row}
 use Rattle.words.specs.Booleans.{digit}
 use Rattle.words.specs.Sets.{bit, put, any, count}
 use Rattle.words.proofs.Truth.{taut4, taut5, agree, agree-eq, on}
 use Rattle.words.proofs.Upto.{any-or, count-cong}
 use Rattle.words.proofs.Last.{any-cong, any-at, count-last}
 use Rattle.words.proofs.Bits.{bit-put}
-use Rattle.tables.specs.declared.Row.{Row}
 use Rattle.tables.specs.Rows.{satisfied, satisfies, free, holds, freeIn, freeLiterals}
 use Rattle.tables.proofs.Rows.{satisfied-any, unsatisfied-literals}
 use Rattle.occurrences.specs.Index.{holdsLiteral}

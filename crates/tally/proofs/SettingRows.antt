@@ -5,12 +5,12 @@ use Prim.Native.Nat.{ℕ, _<_}
 use native.Mathlib.Omega.{arith}
 use lib.Dec.{eqb}
 use borrow.Author.Tests.{eq-eqb, eqb-true}
+use Rattle.words.specs.declared.Row.{Row}
 use Rattle.words.specs.Booleans.{digit}
 use Rattle.words.specs.Sets.{bit, count}
 use Rattle.words.proofs.Truth.{on, and-l, and-r, and-i, not-or, taut2, taut3, taut4, taut5, agree, agree-eq}
 use Rattle.words.proofs.Upto.{count-one}
 use Rattle.words.proofs.Bits.{bit-put}
-use Rattle.tables.specs.declared.Row.{Row}
 use Rattle.tables.specs.Rows.{satisfied, free, holds, freeIn, freeLiterals}
 use Rattle.tables.proofs.Rows.{unsatisfied-literals}
 use Rattle.scan.specs.Rules.{unsatisfiedWith}

@@ -8,11 +8,11 @@ use native.Mathlib.Omega.{arith}
 use lib.Dec.{eqb}
 use lib.ListN.{length}
 use borrow.Author.Tests.{ne-eqb}
+use Rattle.words.specs.declared.Row.{Row}
 use Rattle.words.specs.Booleans.{digit}
 use Rattle.words.specs.Sets.{any, count}
 use Rattle.words.proofs.Truth.{on}
 use Rattle.words.proofs.Last.{any-last, count-last, any-false}
-use Rattle.tables.specs.declared.Row.{Row}
 use Rattle.scan.specs.Rules.{allRows, anyRow}
 use Rattle.occurrences.specs.Index.{at}
 use Rattle.tally.specs.Tallies.{countRows}

@@ -2,9 +2,9 @@
 use Prim.Native.Nat.{ℕ, _+_}
 use mathlib.Core.Bool.{Bool, true, false, not, _&&_}
 use mathlib.Core.List.{List, [], _∷_}
+use Rattle.words.specs.declared.Row.{Row}
 use Rattle.words.specs.Booleans.{digit}
 use Rattle.words.specs.Sets.{put, wordOf}
-use Rattle.tables.specs.declared.Row.{Row}
 use Rattle.tables.specs.Rows.{satisfied}
 use Rattle.scan.specs.Rules.{anyRow, unsatisfiedWith, forces}
 use Rattle.occurrences.specs.Index.{at, rowSet, holdsLiteral}

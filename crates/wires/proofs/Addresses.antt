@@ -6,8 +6,8 @@ use Prim.Native.Nat.{ℕ, suc, _+_, _*_, _≤_, _<_}
 use native.Mathlib.Nat.{le-of-suc-le-suc}
 use native.Mathlib.Omega.{arith}
 use lib.ListN.{length, getD}
+use Rattle.words.specs.declared.Row.{Row}
 use Rattle.words.specs.Sets.{bit}
-use Rattle.tables.specs.declared.Row.{Row}
 use Rattle.dimensions.specs.Sizes.{stateWires}
 use Rattle.gates.specs.Gates.{wire}
 use Rattle.wires.specs.Layout.{upto, joined, rowBits, rowsBits}

@@ -6,8 +6,8 @@ use Prim.Native.Nat.{ℕ, zero, suc, _+_, _*_}
 use native.Mathlib.Nat.{mul-zero, mul-suc, add-mul, mul-add}
 use native.Mathlib.Omega.{arith}
 use lib.ListN.{length, length-append}
+use Rattle.words.specs.declared.Row.{Row}
 use Rattle.dimensions.specs.declared.Dimensions.{Dimensions}
-use Rattle.tables.specs.declared.Row.{Row}
 use Rattle.tables.specs.Tables.{Tables}
 use Rattle.tables.specs.Rows.{rowsOf}
 use Rattle.tables.proofs.Numbering.{tables-length}

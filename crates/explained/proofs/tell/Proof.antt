@@ -1,6 +1,6 @@
 -- `tell` meets its contract: the rule found is the rows', and each case tells what the definition does.
 use mathlib.Core.List.{List, _++_}
-use Rattle.tables.specs.declared.Row.{Row}
+use Rattle.words.specs.declared.Row.{Row}
 use Rattle.scan.specs.Rules.{rowsIn}
 use Rattle.state.specs.State.{stateOf}
 use Rattle.explained.proofs.Telling.{tells-satisfied, tells-conflict, tells-unit, tells-choice}

@@ -4,8 +4,8 @@ use mathlib.Core.List.{List}
 use Prim.Native.Nat.{_^_, _<_}
 use native.Mathlib.Omega.{arith}
 use Rattle.refusals.specs.Checks.{outcome}
+use Rattle.words.specs.declared.Row.{Row}
 use Rattle.tables.specs.Tables.{Tables, allTables}
-use Rattle.tables.specs.declared.Row.{Row}
 use Rattle.indexed.specs.Entries.{indexedChecks}
 use Rattle.indexed.proofs.Made.{made-rows, made}
 use Rattle.indexed.proofs.Checks.{judged}

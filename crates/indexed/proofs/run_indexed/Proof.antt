@@ -1,8 +1,8 @@
 -- `run_indexed` meets its contract: the rows of the words are the tables'.
 use mathlib.Core.Path.{ap, _∙_}
 use mathlib.Core.List.{List}
+use Rattle.words.specs.declared.Row.{Row}
 use Rattle.tables.specs.Tables.{Tables, allTables}
-use Rattle.tables.specs.declared.Row.{Row}
 use Rattle.solver.specs.Step.{always}
 use Rattle.solver.specs.Entries.{answerOf}
 use Rattle.indexed.proofs.Made.{made-rows, made}

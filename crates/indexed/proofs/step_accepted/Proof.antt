@@ -1,8 +1,8 @@
 -- `step_accepted` meets its contract: the rows of the words are the tables'.
 use mathlib.Core.Path.{ap, _∙_}
 use mathlib.Core.List.{List}
+use Rattle.words.specs.declared.Row.{Row}
 use Rattle.tables.specs.Tables.{Tables, allTables}
-use Rattle.tables.specs.declared.Row.{Row}
 use Rattle.indexed.specs.Held.{steppedOver}
 use Rattle.indexed.proofs.Made.{made-rows, made}
 use borrow.Author.Needs.{needs}
