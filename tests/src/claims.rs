@@ -2,6 +2,7 @@
 //! file, as in "`sized` (`dimensions/specs/Sizes`)" or "`pack-read` in `readback/proofs/RoundTrip`", is defined in that file;
 //! any other is defined somewhere in the crates. And the page leaves out nothing that must be believed: it names every file of
 //! definitions, with its lines where a column counts them, every name of the kit's that these files bring, and every type of the code's.
+//! Of what must be believed no name stands in two crates, and of the code's types none.
 
 use crate::contracts;
 use crate::report::Tally;
@@ -22,8 +23,9 @@ const WORDS: &[&str] = &[
 struct Index {
     defined: BTreeMap<String, BTreeSet<String>>,
     paths: BTreeSet<String>,
-    /// How many lines of a file of definitions are no comments, no imports and not empty.
+    /// How many lines of a file of definitions are no comments, no imports and not empty; and what it defines, fields of records aside.
     lines: BTreeMap<String, usize>,
+    meant: BTreeMap<String, BTreeSet<String>>,
     /// What files of definitions bring from the kit, operators without the places of their arguments; and the types of the code that they bring.
     kit: BTreeSet<String>,
     types: BTreeSet<String>,
@@ -83,6 +85,8 @@ impl Index {
         let marks = ["use ", "pub use ", "unfoldable pub use "];
         let counts = |line: &&str| !line.trim().is_empty() && !marks.iter().any(|mark| line.starts_with(mark));
         self.lines.insert(path.into(), text.lines().filter(counts).count());
+        let meant = source::definitions(&text).into_iter().filter(|definition| !definition.field);
+        self.meant.insert(path.into(), meant.map(|definition| definition.name).collect());
         for source::Import { module, name, .. } in source::imports(&text) {
             if !module.starts_with("Rattle·") {
                 self.kit.insert(name.trim_matches('_').into());
@@ -267,6 +271,40 @@ fn miscounted(page: &str, index: &Index) -> Vec<String> {
     faults
 }
 
+/// The files whose definitions must be believed: those of the tables that have a column `say` and a column `lines`.
+fn believed(page: &str, index: &Index) -> Vec<String> {
+    let (mut files, mut listed) = (vec![], None::<bool>);
+    for line in page.lines() {
+        let cells: Vec<&str> = line.split('|').map(str::trim).collect();
+        if cells.len() < 3 {
+            listed = None;
+        } else if listed == Some(true) {
+            unknown(cells[1], index, &mut files);
+        } else if listed.is_none() {
+            listed = Some(["say", "lines"].iter().all(|head| cells.contains(head)));
+        }
+    }
+    files
+}
+
+/// Names that mean two things: of definitions that must be believed, and of types of the code, those that stand in two crates.
+fn homonyms(page: &str, index: &Index) -> Vec<String> {
+    let mut homes: BTreeMap<&String, BTreeSet<&str>> = BTreeMap::new();
+    let files = believed(page, index);
+    let meant = index.meant.iter().filter(|(path, _)| files.contains(path));
+    let code = index.defined.iter().filter(|(path, _)| path.contains("/src/"));
+    for (path, names) in meant.chain(code) {
+        let crate_name = path.split('/').next().unwrap_or("");
+        // of code only the types: functions are called by their crate's name
+        let of_code = path.contains("/src/");
+        for name in names.iter().filter(|name| !of_code || name.starts_with(char::is_uppercase)) {
+            homes.entry(name).or_default().insert(crate_name);
+        }
+    }
+    let twice = homes.into_iter().filter(|(_, crates)| crates.len() > 1);
+    twice.map(|(name, crates)| format!("`{name}` means two things, in {crates:?}")).collect()
+}
+
 /// All that is wrong with a page, and how many names it has.
 fn faults(page: &str, index: &Index) -> (Vec<String>, usize) {
     let mut named = vec![];
@@ -274,6 +312,7 @@ fn faults(page: &str, index: &Index) -> (Vec<String>, usize) {
     let missing = index.lines.keys().chain(&index.kit).chain(&index.types).filter(|name| !named.contains(name));
     faults.extend(missing.map(|name| format!("`{name}` must be believed, and is not named")));
     faults.extend(miscounted(page, index));
+    faults.extend(homonyms(page, index));
     (faults, named.len())
 }
 
@@ -286,6 +325,7 @@ fn small() -> Index {
         "antt",
         "-- a sum\nuse Prim.Native.Nat.{_+_, ℕ}\nuse Rattle.b.specs.declared.Box.{Box}\n\npub sum : ℕ\nsum = 1 + 1\n",
     );
+    index.define("b/specs/Other", "antt", "pub sum : ℕ\npub record Three : Type 0 where\n  pub left-one : ℕ\n");
     index.define("b/proofs/Laws", "antt", "module _ (n : ℕ) where\n  pub sum-zero : sum 0 ≡ 0\n");
     index.define("b/src/lib", "rt", "pub struct Box { }\nimpl Box { pub fn new() { } }\npub fn forkhemit_open() { }");
     index
@@ -295,7 +335,7 @@ fn small() -> Index {
 }
 
 /// What the sample pages must name.
-const BELIEVED: &str = "\n\n`a/specs/Sizes`, `Sums`; `+`, `ℕ`; `Box`";
+const BELIEVED: &str = "\n\n`a/specs/Sizes`, `Sums`; `b/specs/Other`; `+`, `ℕ`; `Box`";
 
 /// Pages, each before what they must name, with what is wrong with them.
 #[rustfmt::skip]
@@ -317,13 +357,15 @@ const SAMPLES: &[(&str, &[&str])] = &[
     ("`b::old`, `Box::old`, `a::new`", &["`b::old` is nothing that is there", "`Box::old` is nothing that is there", "`a::new` is nothing that is there"]),
     ("| definitions | lines |\n|---|---|\n| `a/specs/Sums` | 2 |\n| `a/specs/Sizes`, `Sums`: both | 5 |", &[]),
     ("| definitions | lines |\n|---|---|\n| `a/specs/Sums` | 3 |\n\n| `a/specs/Sums` | 4 |", &["`a/specs/Sums` says 3 lines, and has 2"]),
+    ("| definitions | say | lines |\n|---|---|---|\n| `a/specs/Sums` | a | 2 |\n\n| definitions | lines |\n|---|---|\n| `b/specs/Other` | 3 |", &[]),
+    ("| definitions | say | lines |\n|---|---|---|\n| `a/specs/Sums`, `Sizes` | a | 5 |\n| `b/specs/Other` | b | 3 |", &["`sum` means two things, in {\"a\", \"b\"}"]),
 ];
 
 /// Checks the check on the samples, then the page.
 pub fn run(crates: &Path) -> std::io::Result<Tally> {
     let mut tally = Tally::default();
     let index = small();
-    let all = ["`a/specs/Sizes`", "`a/specs/Sums`", "`+`", "`ℕ`", "`Box`"]
+    let all = ["`a/specs/Sizes`", "`a/specs/Sums`", "`b/specs/Other`", "`+`", "`ℕ`", "`Box`"]
         .map(|name| format!("{name} must be believed, and is not named"));
     let mut samples: Vec<(String, Vec<String>)> = vec![(String::new(), all.to_vec())];
     for (page, expected) in SAMPLES {
@@ -336,6 +378,10 @@ pub fn run(crates: &Path) -> std::io::Result<Tally> {
             println!("FAILED sample {number} of names: {found:?}");
         }
     }
+    let mut two_types = Index::default();
+    two_types.define("a/src/lib", "rt", "pub struct Box { }\npub fn open() { }");
+    two_types.define("b/src/deep/below", "rt", "enum Box { }\npub fn open() { }");
+    tally.count(faults("", &two_types).0 == ["`Box` means two things, in {\"a\", \"b\"}"]);
     let page = fs::read_to_string(crates.join("../docs/PROOFS.md"))?;
     let (faults, named) = faults(&page, &Index::new(crates)?);
     faults.iter().for_each(|fault| println!("FAILED docs/PROOFS.md: {fault}"));
@@ -343,7 +389,7 @@ pub fn run(crates: &Path) -> std::io::Result<Tally> {
     tally.failed += faults.len();
     println!(
         "{named} names in docs/PROOFS.md, {} samples first: {} passed, {} failed",
-        samples.len(),
+        samples.len() + 1,
         tally.passed,
         tally.failed
     );

@@ -13,9 +13,9 @@ use borrow.Author.Tests.{le-ltb, lt-ltb}
 use Rattle.words.proofs.Truth.{on}
 use Rattle.lexer.specs.Bytes.{run}
 use Rattle.numbers.specs.Numbers.{isDigit, digitsAfter}
-use Rattle.lines.specs.declared.Place.the-variants.{Behind, Malformed}
+use Rattle.lines.specs.declared.FieldEnd.the-variants.{Behind, Malformed}
 use Rattle.lines.specs.Numbers.{Field, field, malformed, bounded, closedField, fieldOf}
-use Rattle.lines.specs.Places.{placeOf, placeAt}
+use Rattle.lines.specs.Places.{fieldEnd, fieldEndAt}
 
 -- as `closed`, with v read already and a digit seen
 abbrev closingAfter : ℕ → ℕ → List ℕ → List ℕ → Field
@@ -85,28 +85,28 @@ field-over v closing text h = go (take (run isDigit text) text) (drop (run isDig
 next-byte : (line : List ℕ) (i : ℕ) → i < length line → drop i line ≡ getD line i 0 ∷ drop (i + 1) line
 next-byte line i h = drop-cons line i 0 h ∙ ap (λ (k : ℕ). getD line i 0 ∷ drop k line) (sym (add-one i))
 
-place-behind : (line : List ℕ) (v i : ℕ) → i < length line → placeOf line (field v (drop (i + 1) line)) ≡ Behind v (i + 1)
+place-behind : (line : List ℕ) (v i : ℕ) → i < length line → fieldEnd line (field v (drop (i + 1) line)) ≡ Behind v (i + 1)
 place-behind line v i h = ap (Behind v) (let e = length-drop (i + 1) line in omega arith)
 
 module _ (line : List ℕ) (at closing i v : ℕ) (low : i < length line)
     (inv : fieldAfter v (ltb at i) closing (drop i line) ≡ fieldOf closing (drop at line)) where
   -- a byte that is no digit
   pub ends : isDigit (getD line i 0) ≡ false → v < 2 ^ 64
-      → cond (ltb at i && eqb (getD line i 0) closing) (Behind v (i + 1)) Malformed ≡ placeAt line at closing
+      → cond (ltb at i && eqb (getD line i 0) closing) (Behind v (i + 1)) Malformed ≡ fieldEndAt line at closing
   ends e h = go (ltb at i) (sym (ap (λ (l : List ℕ). fieldAfter v (ltb at i) closing l) (next-byte line i low)) ∙ inv)
     where
       go : (seen : Bool) → fieldAfter v seen closing (getD line i 0 ∷ drop (i + 1) line) ≡ fieldOf closing (drop at line)
-          → cond (seen && eqb (getD line i 0) closing) (Behind v (i + 1)) Malformed ≡ placeAt line at closing
-      go false k = ap (placeOf line) (sym (field-empty v closing (getD line i 0) (drop (i + 1) line) e) ∙ k)
+          → cond (seen && eqb (getD line i 0) closing) (Behind v (i + 1)) Malformed ≡ fieldEndAt line at closing
+      go false k = ap (fieldEnd line) (sym (field-empty v closing (getD line i 0) (drop (i + 1) line) e) ∙ k)
       go true k =
           on (eqb (getD line i 0) closing)
           (λ q.
           let taken : cond (eqb (getD line i 0) closing) (bounded (some v) (drop (i + 1) line)) malformed ≡ field v (drop (i + 1) line) =
           rw q (rw (lt-ltb v (2 ^ 64) h)) in
-          rw q (sym (place-behind line v i low) ∙ ap (placeOf line) (sym (field-closed v closing (getD line i 0) (drop (i + 1) line) e ∙ taken) ∙ k)))
+          rw q (sym (place-behind line v i low) ∙ ap (fieldEnd line) (sym (field-closed v closing (getD line i 0) (drop (i + 1) line) e ∙ taken) ∙ k)))
           (λ q.
           let spoilt : cond (eqb (getD line i 0) closing) (bounded (some v) (drop (i + 1) line)) malformed ≡ malformed = rw q in
-          rw q (ap (placeOf line) (sym (field-closed v closing (getD line i 0) (drop (i + 1) line) e ∙ spoilt) ∙ k)))
+          rw q (ap (fieldEnd line) (sym (field-closed v closing (getD line i 0) (drop (i + 1) line) e ∙ spoilt) ∙ k)))
 
   -- a digit
   pub goes-on : isDigit (getD line i 0) ≡ true → at ≤ i
@@ -116,18 +116,18 @@ module _ (line : List ℕ) (at closing i v : ℕ) (low : i < length line)
       ∙ sym (field-digit v (ltb at i) closing (getD line i 0) (drop (i + 1) line) e)
       ∙ sym (ap (λ (l : List ℕ). fieldAfter v (ltb at i) closing l) (next-byte line i low)) ∙ inv
 
-  pub too-great : isDigit (getD line i 0) ≡ true → at ≤ i → 2 ^ 64 ≤ v * 10 + (getD line i 0 - 48) → Malformed ≡ placeAt line at closing
+  pub too-great : isDigit (getD line i 0) ≡ true → at ≤ i → 2 ^ 64 ≤ v * 10 + (getD line i 0 - 48) → Malformed ≡ fieldEndAt line at closing
   too-great e h k =
-      ap (placeOf line)
+      ap (fieldEnd line)
       (sym (field-over (v * 10 + (getD line i 0 - 48)) closing (drop (i + 1) line) k)
       ∙ sym (ap (λ (s : Bool). fieldAfter (v * 10 + (getD line i 0 - 48)) s closing (drop (i + 1) line)) (lt-ltb at (i + 1) (omega arith)))
       ∙ goes-on e h)
 
 -- no byte left
 pub runs-out : (line : List ℕ) (at closing i v : ℕ) → length line ≤ i → fieldAfter v (ltb at i) closing (drop i line) ≡ fieldOf closing (drop at line)
-    → Malformed ≡ placeAt line at closing
+    → Malformed ≡ fieldEndAt line at closing
 runs-out line at closing i v h inv =
-    ap (placeOf line) (sym (ap (λ (l : List ℕ). fieldAfter v (ltb at i) closing l) (drop-of-length-le line h) ∙ field-end v (ltb at i) closing) ∙ inv)
+    ap (fieldEnd line) (sym (ap (λ (l : List ℕ). fieldAfter v (ltb at i) closing l) (drop-of-length-le line h) ∙ field-end v (ltb at i) closing) ∙ inv)
 
 pub starts : (line : List ℕ) (at closing : ℕ) → fieldAfter 0 (ltb at at) closing (drop at line) ≡ fieldOf closing (drop at line)
 starts line at closing = ap (λ (s : Bool). fieldAfter 0 s closing (drop at line)) (le-ltb at at (omega arith)) ∙ field-start closing (drop at line)

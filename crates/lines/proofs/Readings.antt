@@ -15,9 +15,9 @@ use Rattle.numbers.specs.Numbers.{isDigit, digitsAfter}
 use Rattle.refusals.specs.declared.Refusal.the-variants.{NumberLine}
 use Rattle.lines.specs.declared.Budget.the-variants as budget
 use Rattle.lines.specs.declared.Size.the-variants as size
-use Rattle.lines.specs.declared.Place.the-variants.{Behind, Malformed}
+use Rattle.lines.specs.declared.FieldEnd.the-variants.{Behind, Malformed}
 use Rattle.lines.specs.Numbers.{Field, field, malformed, bounded, closedField, fieldOf, shortLine, budgetOf, sizeOf}
-use Rattle.lines.specs.Places.{placeOf, placeAt, budgetFrom, firstFrom, secondFrom, thirdFrom, fourthFrom}
+use Rattle.lines.specs.Places.{fieldEnd, fieldEndAt, budgetFrom, firstFrom, secondFrom, thirdFrom, fourthFrom}
 
 bounded-rest : (d : Option ℕ) (text rest : List ℕ) (v : ℕ) → bounded d text ≡ field v rest → text ≡ rest
 bounded-rest none text rest v e = cc
@@ -77,10 +77,10 @@ rest-in line at closing v rest e =
     ∙ closed-rest closing (take digits (drop at line)) (drop digits (drop at line)) rest v e in
     ap (λ (r : List ℕ). drop (length line - length r) line) (sym here) ∙ left-behind line (at + digits + 1) ∙ here
 
-pub found : (line : List ℕ) (at closing v end : ℕ) → placeAt line at closing ≡ Behind v end → Found line at closing v end
+pub found : (line : List ℕ) (at closing v end : ℕ) → fieldEndAt line at closing ≡ Behind v end → Found line at closing v end
 found line at closing v end p = go (fieldOf closing (drop at line)) refl p
   where
-    go : (f : Field) → fieldOf closing (drop at line) ≡ f → placeOf line f ≡ Behind v end → Found line at closing v end
+    go : (f : Field) → fieldOf closing (drop at line) ≡ f → fieldEnd line f ≡ Behind v end → Found line at closing v end
     go (field w rest) e q =
         let place : length line - length rest ≡ end = cc in
         let value : w ≡ v = cc in
@@ -91,19 +91,19 @@ found line at closing v end p = go (fieldOf closing (drop at line)) refl p
         }
     go malformed e q = record { reads = cc; behind = cc }
 
-pub lost : (line : List ℕ) (at closing : ℕ) → placeAt line at closing ≡ Malformed → fieldOf closing (drop at line) ≡ malformed
+pub lost : (line : List ℕ) (at closing : ℕ) → fieldEndAt line at closing ≡ Malformed → fieldOf closing (drop at line) ≡ malformed
 lost line at closing p = go (fieldOf closing (drop at line)) p
   where
-    go : (f : Field) → placeOf line f ≡ Malformed → f ≡ malformed
+    go : (f : Field) → fieldEnd line f ≡ Malformed → f ≡ malformed
     go (field w rest) q = cc
     go malformed q = refl
 
 -- ---- the budget line
 
-pub no-budget : (input : List ℕ) → placeAt input 0 10 ≡ Malformed → budgetOf input ≡ budget.Refused NumberLine
+pub no-budget : (input : List ℕ) → fieldEndAt input 0 10 ≡ Malformed → budgetOf input ≡ budget.Refused NumberLine
 no-budget input p = ap (budgetFrom input) (lost input 0 10 p)
 
-pub one-budget : (input : List ℕ) (v end : ℕ) → placeAt input 0 10 ≡ Behind v end → budgetOf input
+pub one-budget : (input : List ℕ) (v end : ℕ) → fieldEndAt input 0 10 ≡ Behind v end → budgetOf input
     ≡ cond (leb end 100) (budget.Of v) (budget.Refused NumberLine)
 one-budget input v end p =
     let f = found input 0 10 v end p in
@@ -122,21 +122,21 @@ budget-below input v e = go (fieldOf 10 input) refl e
 
 -- ---- the dimension line
 
-pub no-first : (input : List ℕ) → placeAt input 0 32 ≡ Malformed → sizeOf input ≡ size.Refused NumberLine
+pub no-first : (input : List ℕ) → fieldEndAt input 0 32 ≡ Malformed → sizeOf input ≡ size.Refused NumberLine
 no-first input p = ap (firstFrom input) (lost input 0 32 p)
 
-pub one-first : (input : List ℕ) (n second : ℕ) → placeAt input 0 32 ≡ Behind n second → sizeOf input ≡ secondFrom input n (fieldOf 32 (drop second input))
+pub one-first : (input : List ℕ) (n second : ℕ) → fieldEndAt input 0 32 ≡ Behind n second → sizeOf input ≡ secondFrom input n (fieldOf 32 (drop second input))
 one-first input n second p = ap (firstFrom input) (found input 0 32 n second p .reads)
 
-pub one-second : (input : List ℕ) (n second left third : ℕ) → placeAt input second 32 ≡ Behind left third
+pub one-second : (input : List ℕ) (n second left third : ℕ) → fieldEndAt input second 32 ≡ Behind left third
     → secondFrom input n (fieldOf 32 (drop second input)) ≡ thirdFrom input n left (fieldOf 32 (drop third input))
 one-second input n second left third p = ap (secondFrom input n) (found input second 32 left third p .reads)
 
-pub one-third : (input : List ℕ) (n left third right fourth : ℕ) → placeAt input third 32 ≡ Behind right fourth
+pub one-third : (input : List ℕ) (n left third right fourth : ℕ) → fieldEndAt input third 32 ≡ Behind right fourth
     → thirdFrom input n left (fieldOf 32 (drop third input)) ≡ fourthFrom input n left right (fieldOf 10 (drop fourth input))
 one-third input n left third right fourth p = ap (thirdFrom input n left) (found input third 32 right fourth p .reads)
 
-pub one-fourth : (input : List ℕ) (n left right fourth public end : ℕ) → placeAt input fourth 10 ≡ Behind public end
+pub one-fourth : (input : List ℕ) (n left right fourth public end : ℕ) → fieldEndAt input fourth 10 ≡ Behind public end
     → fourthFrom input n left right (fieldOf 10 (drop fourth input)) ≡ cond (leb end 100) (size.Of n left right public) (size.Refused NumberLine)
 one-fourth input n left right fourth public end p =
     let f = found input fourth 10 public end p in

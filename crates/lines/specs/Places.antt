@@ -9,17 +9,17 @@ use Rattle.lines.specs.declared.Budget.{Budget}
 use Rattle.lines.specs.declared.Budget.the-variants as budget
 use Rattle.lines.specs.declared.Size.{Size}
 use Rattle.lines.specs.declared.Size.the-variants as size
-use Rattle.lines.specs.declared.Place.{Place}
-use Rattle.lines.specs.declared.Place.the-variants.{Behind, Malformed}
+use Rattle.lines.specs.declared.FieldEnd.{FieldEnd}
+use Rattle.lines.specs.declared.FieldEnd.the-variants.{Behind, Malformed}
 
 -- the place of a field's rest in the line
-abbrev pub placeOf : List ℕ → Field → Place
-placeOf line (field v rest) = Behind v (length line - length rest)
-placeOf line malformed = Malformed
+abbrev pub fieldEnd : List ℕ → Field → FieldEnd
+fieldEnd line (field v rest) = Behind v (length line - length rest)
+fieldEnd line malformed = Malformed
 
 -- the field from a place on
-abbrev pub placeAt : List ℕ → ℕ → ℕ → Place
-placeAt line at closing = placeOf line (fieldOf closing (drop at line))
+abbrev pub fieldEndAt : List ℕ → ℕ → ℕ → FieldEnd
+fieldEndAt line at closing = fieldEnd line (fieldOf closing (drop at line))
 
 -- what the budget line's one field leads to
 abbrev pub budgetFrom : List ℕ → Field → Budget

@@ -5,9 +5,9 @@ ghost use mathlib.Core.Bool.{_&&_, cond};
 ghost use mathlib.Core.List.{[], _∷_};
 ghost use Prim.Native.Nat.{_+_, _<_};
 ghost use lib.Dec.{ltb};
-ghost use Rattle.lines.specs.declared.Place.the-variants.{Behind, Malformed};
+ghost use Rattle.lines.specs.declared.FieldEnd.the-variants.{Behind, Malformed};
 ghost use Rattle.lines.specs.Numbers.{onBudget, budgetOf, budgetCode, budgetNumbers, onSize, sizeOf, sizeSaid};
-ghost use Rattle.lines.specs.Places.{placeAt};
+ghost use Rattle.lines.specs.Places.{fieldEndAt};
 
 // A line's bytes with its LF.
 const LONGEST: usize = 100;
@@ -25,27 +25,27 @@ pub enum Size {
 }
 
 // A number in a line and the place behind the byte that closes it.
-enum Place {
+enum FieldEnd {
     Behind(u64, usize),
     Malformed,
 }
 
 // A number whose digits end at i, where a byte closes it or spoils it.
-fn closed(value: u64, at: usize, i: usize, closes: bool) -> Place
+fn closed(value: u64, at: usize, i: usize, closes: bool) -> FieldEnd
     requires { ⌜ i < 18446744073709551615 ⌝ }
     ensures { λ r. ⌜ r ≡ cond (ltb at i && closes) (Behind value (i + 1)) Malformed ⌝ }
 {
     if at < i {
         if closes {
-            return Place::Behind(value, i + 1);
+            return FieldEnd::Behind(value, i + 1);
         }
     }
-    Place::Malformed
+    FieldEnd::Malformed
 }
 
 // One or more digits from `at` on, at most 2^64 - 1, closed by a byte.
-fn field(line: &[u8], at: usize, closing: u8) -> Place
-    ensures { λ r. ⌜ r ≡ placeAt (now (line .entry)) at closing ⌝ }
+fn field(line: &[u8], at: usize, closing: u8) -> FieldEnd
+    ensures { λ r. ⌜ r ≡ fieldEndAt (now (line .entry)) at closing ⌝ }
 {
     let mut value: u64 = 0;
     let mut i = at;
@@ -56,12 +56,12 @@ fn field(line: &[u8], at: usize, closing: u8) -> Place
         }
         let digit = (b - b'0') as u64;
         if (18446744073709551615 - digit) / 10 < value {
-            return Place::Malformed;
+            return FieldEnd::Malformed;
         }
         value = value * 10 + digit;
         i += 1;
     }
-    Place::Malformed // no byte closes it
+    FieldEnd::Malformed // no byte closes it
 }
 
 // The budget of a line: digits and LF, at most 100 bytes; bytes after the LF are not looked at.
@@ -69,7 +69,7 @@ pub fn read_budget(input: &[u8]) -> Budget
     ensures { λ r. ⌜ r ≡ budgetOf (now (input .entry)) ⌝ }
     ensures { λ r. ⌜ budgetCode r ∷ budgetNumbers r ≡ onBudget (now (input .entry)) (8 ∷ []) (λ v. 0 ∷ (v ∷ [])) ⌝ }
 {
-    let Place::Behind(value, end) = field(input, 0, b'\n') else {
+    let FieldEnd::Behind(value, end) = field(input, 0, b'\n') else {
         return Budget::Refused(Refusal::NumberLine);
     };
     if end <= LONGEST {
@@ -84,16 +84,16 @@ pub fn read_size(input: &[u8]) -> Size
     ensures { λ r.
         ⌜ sizeSaid r ≡ onSize (now (input .entry)) (8 ∷ []) (λ n left right public. 0 ∷ (n ∷ (left ∷ (right ∷ (public ∷ []))))) ⌝ }
 {
-    let Place::Behind(n, second) = field(input, 0, b' ') else {
+    let FieldEnd::Behind(n, second) = field(input, 0, b' ') else {
         return Size::Refused(Refusal::NumberLine);
     };
-    let Place::Behind(left, third) = field(input, second, b' ') else {
+    let FieldEnd::Behind(left, third) = field(input, second, b' ') else {
         return Size::Refused(Refusal::NumberLine);
     };
-    let Place::Behind(right, fourth) = field(input, third, b' ') else {
+    let FieldEnd::Behind(right, fourth) = field(input, third, b' ') else {
         return Size::Refused(Refusal::NumberLine);
     };
-    let Place::Behind(public, end) = field(input, fourth, b'\n') else {
+    let FieldEnd::Behind(public, end) = field(input, fourth, b'\n') else {
         return Size::Refused(Refusal::NumberLine);
     };
     if end <= LONGEST {
