@@ -34,7 +34,7 @@ use Rattle.netlist.specs.Netlist.{gatesOn}
 use Rattle.netlist.specs.Outputs.{closed, outputBits, outputsIn}
 use Rattle.bristol.specs.declared.Written.the-variants.{Past}
 use Rattle.bristol.specs.Writing.{lineAt, writtenLine, requested}
-use Rattle.repeats.specs.Repeats.{Attempt, Lent, Repeat, circuitWords, marks, lastRun, ended, longEnough, longOnes}
+use Rattle.repeats.specs.Repeats.{Attempt, Lent, Repeat, circuitWords, marks, lastRun, repeatsEnded, longEnough, longOnes}
 use Rattle.demand3.specs.Demand3.{rowsByStep, historyOf, answerFor, answerIn, circuitTextOf, publicIn, Seen, seen, AllAccepts, SamePublic, Demand3}
 
 -- ---- steps, runs and attempts
@@ -141,7 +141,7 @@ module _ (d : Dimensions) (x : Demand3 d) where
 
     -- long enough attempts, as many as the answer counts: the repeats end, all marks are there, and they give the answer
     module _ (a : Answer) (plainly : answerFor d tables budget ≡ a) (long : a .count ≤ longOnes d attempts) where
-      pub reached : ended budget whole ≡ true
+      pub reached : repeatsEnded budget whole ≡ true
       reached =
           let enough : answerFor d tables budget .count ≤ longOnes d attempts = omega (arith, ap (λ (y : Answer). y .count) plainly) in
           x .end tables acc budget attempts .1 enough
@@ -166,7 +166,7 @@ module _ (d : Dimensions) (x : Demand3 d) where
           ∙ ap (λ (m : List Bool). (circuitTextOf d, a .count, m, answerText (min (d .n) 32) a, publicIn d tables)) e
 
     -- a host can always go on to the end
-    pub can-end : (k : ℕ) → answerFor d tables budget .count ≤ k → ended budget (historyOf d tables budget (attempts ++ replicate k (roomy d))) ≡ true
+    pub can-end : (k : ℕ) → answerFor d tables budget .count ≤ k → repeatsEnded budget (historyOf d tables budget (attempts ++ replicate k (roomy d))) ≡ true
     can-end k h =
         let enough : answerFor d tables budget .count ≤ longOnes d (attempts ++ replicate k (roomy d)) = omega (arith, roomy-ones d attempts k) in
         x .end tables acc budget (attempts ++ replicate k (roomy d)) .1 enough

@@ -39,7 +39,7 @@ use Rattle.netlist.proofs.EveryState.{gates-carry-out}
 use Rattle.answers.specs.Printed.{answerText}
 use Rattle.bristol.specs.Writing.{circuitChecks}
 use Rattle.bristol.proofs.Joining.{requests-join, requests-end}
-use Rattle.repeats.specs.Repeats.{Attempt, Repeat, circuitWords, marks, lastRun, ended, longOnes}
+use Rattle.repeats.specs.Repeats.{Attempt, Repeat, circuitWords, marks, lastRun, repeatsEnded, longOnes}
 use Rattle.demand3.specs.Demand3.{rowsByStep, AllAccepts, SamePublic, historyOf, Follows, answerFor, answerIn, circuitTextOf, publicIn, Seen, seen}
 use Rattle.demand3.specs.Demand3.{Demand3}
 use Rattle.repeats.proofs.Applying.{words-third, words-accepted}
@@ -127,29 +127,29 @@ module _ (d : Dimensions) (tables : ℕ → Tables) (acc : AllAccepts d tables) 
     }
 
     -- repeats that are fewer than the steps have not ended
-    unended : k < final .steps → ended budget whole ≡ false
+    unended : k < final .steps → repeatsEnded budget whole ≡ false
     unended h =
         let e : anyMark (marks whole) (length whole) ≡ false = ap₂ anyMark marks-are size ∙ no-mark mark k (λ i b. early i (omega arith)) in
         rw e (ne-eqb (length whole) budget (λ q. omega (arith, size, law .most)))
 
-    all-steps : ended budget whole ≡ true → k ≡ final .steps
+    all-steps : repeatsEnded budget whole ≡ true → k ≡ final .steps
     all-steps e =
         on (ltb k (final .steps))
         (λ q. absurd (true≢false (sym e ∙ unended (ltb-true k (final .steps) q))))
         (λ q. omega (arith, ltb-false k (final .steps) q))
 
-    last-is : ended budget whole ≡ true → lastRun (runOf (d .n) fresh) whole ≡ runOf (d .n) (final .final)
+    last-is : repeatsEnded budget whole ≡ true → lastRun (runOf (d .n) fresh) whole ≡ runOf (d .n) (final .final)
     last-is e =
         ap (lastRun (runOf (d .n) fresh)) is ∙ repeated-last d tables fresh k
         ∙ ap (runOf (d .n)) (ap (λ (j : ℕ). after (d .n) rows j fresh) (all-steps e) ∙ sym (law .final-after))
 
-    pub ends : ended budget whole ≡ true → answerIn (d .n) whole ≡ answerFor d tables budget
+    pub ends : repeatsEnded budget whole ≡ true → answerIn (d .n) whole ≡ answerFor d tables budget
     unfolding answerOf runOf
     ends e =
         ap₂ (λ (j : ℕ) (x : Run). record { count = j; verdict = verdictOf (x .standing) (x .t) })
         (length-map whole (λ (r : Repeat). r .mark) ∙ size ∙ all-steps e) (last-is e)
 
-    reaches : final .steps ≤ longOnes d attempts → ended budget whole ≡ true
+    reaches : final .steps ≤ longOnes d attempts → repeatsEnded budget whole ≡ true
     reaches h =
         let e : k ≡ final .steps = omega arith in
         on (ltb (final .steps) budget)
@@ -157,15 +157,15 @@ module _ (d : Dimensions) (tables : ℕ → Tables) (acc : AllAccepts d tables) 
         (λ q. rw (eq-eqb (length whole) budget (omega (arith, size, law .most, ltb-false (final .steps) budget q)))
         (or-true (anyMark (marks whole) (length whole))))
       where
-        go : (j : ℕ) → final .steps ≡ j → closed (final .final) ≡ true → k ≡ final .steps → ended budget whole ≡ true
+        go : (j : ℕ) → final .steps ≡ j → closed (final .final) ≡ true → k ≡ final .steps → repeatsEnded budget whole ≡ true
         go zero q c e = absurd (true≢false (sym c ∙ open-closed (ap (λ (s : State). s .standing) (law .final-after) ∙ start q)))
         go (suc i) q c e = rw (ap₂ anyMark marks-are size ∙ some-mark mark k i (omega arith) (last-mark i (sym q) ∙ c))
 
-    pub reached : answerFor d tables budget .count ≤ longOnes d attempts → ended budget whole ≡ true
+    pub reached : answerFor d tables budget .count ≤ longOnes d attempts → repeatsEnded budget whole ≡ true
     unfolding answerOf
     reached h = reaches h
 
-    marks-by : ended budget whole ≡ true → marks whole ≡ upto (markBy (answerFor d tables budget)) (answerFor d tables budget .count)
+    marks-by : repeatsEnded budget whole ≡ true → marks whole ≡ upto (markBy (answerFor d tables budget)) (answerFor d tables budget .count)
     unfolding answerOf
     marks-by e =
         marks-are ∙ ap (upto mark) (all-steps e)
@@ -176,7 +176,7 @@ module _ (d : Dimensions) (tables : ℕ → Tables) (acc : AllAccepts d tables) 
         (λ q. last-mark i (omega (arith, ltb-false (suc i) (final .steps) q)) ∙ known-closed (final .final .standing) (final .final .t) ∙ rw q))
 
     -- what is seen goes by the answer and the public rows alone
-    shown : ended budget whole ≡ true → seen d tables budget attempts ≡ seenBy d (answerFor d tables budget) (publicIn d tables)
+    shown : repeatsEnded budget whole ≡ true → seen d tables budget attempts ≡ seenBy d (answerFor d tables budget) (publicIn d tables)
     shown e =
         let a = answerFor d tables budget in
         ap (λ (j : ℕ). (circuitTextOf d, j, marks whole, answerText (min (d .n) 32) (answerIn (d .n) whole), publicIn d tables))
@@ -185,7 +185,7 @@ module _ (d : Dimensions) (tables : ℕ → Tables) (acc : AllAccepts d tables) 
 
 same-seen : (d : Dimensions) (tables tables′ : ℕ → Tables) → AllAccepts d tables → AllAccepts d tables′ → SamePublic d tables tables′
     → (budget : ℕ) (attempts attempts′ : List Attempt) → answerFor d tables budget ≡ answerFor d tables′ budget
-    → ended budget (historyOf d tables budget attempts) ≡ true → ended budget (historyOf d tables′ budget attempts′) ≡ true
+    → repeatsEnded budget (historyOf d tables budget attempts) ≡ true → repeatsEnded budget (historyOf d tables′ budget attempts′) ≡ true
     → seen d tables budget attempts ≡ seen d tables′ budget attempts′
 same-seen d tables tables′ acc acc′ same budget attempts attempts′ q e e′ =
     shown d tables acc budget attempts e

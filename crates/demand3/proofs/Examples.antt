@@ -26,7 +26,7 @@ use Rattle.solver.specs.Entries.{answerOf}
 use Rattle.answers.specs.Printed.{answerText}
 use Rattle.netlist.specs.Netlist.{gatesOn}
 use Rattle.netlist.specs.Outputs.{closed}
-use Rattle.repeats.specs.Repeats.{Attempt, Lent, Otherwise, repeats, lastRun, ended, longOnes}
+use Rattle.repeats.specs.Repeats.{Attempt, Lent, Otherwise, repeats, lastRun, repeatsEnded, longOnes}
 use Rattle.demand3.specs.Demand3.{rowsByStep, historyOf, answerFor, circuitTextOf, Seen, seen, AllAccepts, Demand3}
 use Rattle.demand3.proofs.Consequences.{roomy, roomy-ones, marks-are, reached, seen-is, seen-public, Room, hosted, hosts-agree}
 
@@ -193,7 +193,7 @@ module _ (x : Demand3 three) (attempts attempts′ : List Attempt) (long : 3 ≤
 
   -- a pair with another public row has all else that secrecy asks, and is not seen alike
   pub other-seen : (answerFor three with-rule 9 ≡ answerFor three other-rule 9)
-      × (ended 9 (historyOf three with-rule 9 attempts) ≡ true) × (ended 9 (historyOf three other-rule 9 attempts′) ≡ true)
+      × (repeatsEnded 9 (historyOf three with-rule 9 attempts) ≡ true) × (repeatsEnded 9 (historyOf three other-rule 9 attempts′) ≡ true)
       × (seen three with-rule 9 attempts ≡ seen three other-rule 9 attempts′ → ⊥)
   other-seen = (
     with-answer ∙ sym other-answer,

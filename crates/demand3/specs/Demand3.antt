@@ -23,7 +23,7 @@ use Rattle.answers.specs.Printed.{answerText}
 use Rattle.bristol.specs.Text.{circuitText}
 use Rattle.bristol.specs.declared.Written.the-variants.{Past}
 use Rattle.bristol.specs.Writing.{lineAt, writtenLine, requested}
-use Rattle.repeats.specs.Repeats.{Accepts, Attempt, Repeat, returned, circuitWords, marks, lastRun, repeats, ended, longOnes}
+use Rattle.repeats.specs.Repeats.{Accepts, Attempt, Repeat, returned, circuitWords, marks, lastRun, repeats, repeatsEnded, longOnes}
 
 -- ---- history
 
@@ -89,9 +89,9 @@ pub record Demand3 (d : Dimensions) : Type 0 where
       → Follows d tables budget (historyOf d tables budget attempts)
   -- repeats that have ended give the run's answer; and they end where as many attempts as it counts are long enough
   pub end : (tables : ℕ → Tables) → AllAccepts d tables → (budget : ℕ) (attempts : List Attempt)
-      → (ended budget (historyOf d tables budget attempts) ≡ true
+      → (repeatsEnded budget (historyOf d tables budget attempts) ≡ true
       → answerIn (d .n) (historyOf d tables budget attempts) ≡ answerFor d tables budget)
-      × (answerFor d tables budget .count ≤ longOnes d attempts → ended budget (historyOf d tables budget attempts) ≡ true)
+      × (answerFor d tables budget .count ≤ longOnes d attempts → repeatsEnded budget (historyOf d tables budget attempts) ≡ true)
   -- the writer, asked for line 0, 1, 2, … with room for each, puts lines that joined are the text, and says then that it has no more
   pub text : outcome (sizeChecks d) ≡ Taken
       → (lent : ℕ → List ℕ) → ((i : ℕ) → length (lineAt d (circuitWords d) i) ≤ length (lent i)) → (k : ℕ) → 4 + length (gatesOn d) ≤ k
@@ -101,5 +101,5 @@ pub record Demand3 (d : Dimensions) : Type 0 where
   -- each with attempts of its own
   pub secrecy : (tables tables′ : ℕ → Tables) → AllAccepts d tables → AllAccepts d tables′ → SamePublic d tables tables′
       → (budget : ℕ) (attempts attempts′ : List Attempt) → answerFor d tables budget ≡ answerFor d tables′ budget
-      → ended budget (historyOf d tables budget attempts) ≡ true → ended budget (historyOf d tables′ budget attempts′) ≡ true
+      → repeatsEnded budget (historyOf d tables budget attempts) ≡ true → repeatsEnded budget (historyOf d tables′ budget attempts′) ≡ true
       → seen d tables budget attempts ≡ seen d tables′ budget attempts′

@@ -16,7 +16,7 @@ use Rattle.lexer.specs.Bytes.{isLineFeed, run, trimmed}
 use Rattle.lexer.specs.Remarks.{withoutRemarks}
 use Rattle.lexer.specs.Pieces.{cut, notEmpty, linesFrom, partsFrom}
 use Rattle.lexer.specs.Places.{runEnd, part}
-use Rattle.lexer.specs.Blanks.{start, line}
+use Rattle.lexer.specs.Blanks.{start, further}
 use Rattle.lexer.proofs.Runs.{end-ge}
 use Rattle.lexer.proofs.Kept.{keptFrom, kept-is, first-kept, line-run, line-take, line-drop, other-kept, remark-kept}
 use Rattle.refusals.specs.declared.Refusal.the-variants.{Text}
@@ -37,7 +37,7 @@ module _ (text : List ℕ) where
   abbrev LineAt : ℕ → ℕ → Type 0
   LineAt at h =
       (h ≤ length text) × (pastRemarks (linesFrom text at) ≡ linesFrom text h) × (getD (drop h text) 0 0 ≡ 99 → ⊥)
-      × (keptFrom start (drop at text) ≡ keptFrom line (drop h text))
+      × (keptFrom start (drop at text) ≡ keptFrom further (drop h text))
 
   abbrev Search : ℕ → Type 0
   Search at = NoLine at ⊎ ((h : ℕ) × LineAt at h)
@@ -91,15 +91,15 @@ module _ (least : ℕ) (text : List ℕ) where
   -- the text without its remarks has the same sizes in its header, and goes on behind it with what is kept of the text
   pub record Same : Type 0 where
     pub sizes : headerOf least (withoutRemarks text) .sizes ≡ headerOf least text .sizes
-    pub rest : drop (headerOf least (withoutRemarks text) .end) (withoutRemarks text) ≡ keptFrom line (drop (headerOf least text .end) text)
+    pub rest : drop (headerOf least (withoutRemarks text) .end) (withoutRemarks text) ≡ keptFrom further (drop (headerOf least text .end) text)
 
   same : (v : List ℕ) (g h : Header) → withoutRemarks text ≡ v → headerOf least v ≡ g → headerOf least text ≡ h
-      → g .sizes ≡ h .sizes → drop (g .end) v ≡ keptFrom line (drop (h .end) text) → Same
+      → g .sizes ≡ h .sizes → drop (g .end) v ≡ keptFrom further (drop (h .end) text) → Same
   same v g h w eg eh s r =
       let e : headerOf least (withoutRemarks text) ≡ g = ap (headerOf least) w ∙ eg in
       record {
         sizes = ap (λ (x : Header). x .sizes) e ∙ s ∙ sym (ap (λ (x : Header). x .sizes) eh);
-        rest = ap₂ (λ (x : Header) (l : List ℕ). drop (x .end) l) e w ∙ r ∙ sym (ap (λ (x : Header). keptFrom line (drop (x .end) text)) eh);
+        rest = ap₂ (λ (x : Header) (l : List ℕ). drop (x .end) l) e w ∙ r ∙ sym (ap (λ (x : Header). keptFrom further (drop (x .end) text)) eh);
       }
 
   -- a text of remarks alone
@@ -114,7 +114,7 @@ module _ (least : ℕ) (text : List ℕ) where
   unfolding headerOf runEnd
   found h (within, e, c, k) =
       let rest = drop h text in
-      let v = keptFrom line rest in
+      let v = keptFrom further rest in
       let width = run inLine rest in
       let first : pastRemarks (linesFrom v 0) ≡ linesFrom v 0
       = on (ltb 0 (length v))
@@ -128,7 +128,7 @@ module _ (least : ℕ) (text : List ℕ) where
       (ap (sizesOf least) (let i : 0 + run inLine v - 0 ≡ width = omega (arith, line-run rest) in let j : h + width - h ≡ width = omega arith in
       ap (λ (x : ℕ). take x v) i ∙ line-take rest ∙ sym (ap (λ (x : ℕ). take x rest) j)))
       (let i : 0 + run inLine v ≡ width = omega (arith, line-run rest) in
-      ap (λ (x : ℕ). drop x v) i ∙ line-drop rest ∙ ap (keptFrom line) (drop-drop width h text))
+      ap (λ (x : ℕ). drop x v) i ∙ line-drop rest ∙ ap (keptFrom further) (drop-drop width h text))
 
   -- whatever the least row count, a text without its remarks has the same sizes in its header, and behind the header what is kept of the text
   pub header-same : Same

@@ -11,7 +11,7 @@ use Rattle.solver.specs.Entries.{answerOf}
 use Rattle.solver.proofs.LowRows.{accepted-low}
 use Rattle.demand2.specs.Demand2.{Demand2}
 use Rattle.demand2.proofs.Demand2.{demand2-rows}
-use Rattle.repeats.specs.Repeats.{Accepts, Attempt, Repeat, ended, longOnes}
+use Rattle.repeats.specs.Repeats.{Accepts, Attempt, Repeat, repeatsEnded, longOnes}
 use Rattle.repeats.proofs.RepeatChecks.{sizes-taken}
 use Rattle.demand3.specs.Demand3.{historyOf, Follows, answerFor, answerIn, seen, SamePublic, Demand3}
 use Rattle.demand3.proofs.Demand3.{demand3}
@@ -39,8 +39,8 @@ module _ (d : Dimensions) (tables : Tables) (acc : Accepts d tables) (conditions
     history-late = circuit .history (tablesAt d tables conditions) (tables-accepted d conditions tables acc) budget attempts
 
     -- repeats that have ended give the run's answer, and they end where as many attempts as it counts are long enough
-    pub end-late : (ended budget repeated ≡ true → answerIn (d .n) repeated ≡ answerFor d (tablesAt d tables conditions) budget)
-        × (answerFor d (tablesAt d tables conditions) budget .count ≤ longOnes d attempts → ended budget repeated ≡ true)
+    pub end-late : (repeatsEnded budget repeated ≡ true → answerIn (d .n) repeated ≡ answerFor d (tablesAt d tables conditions) budget)
+        × (answerFor d (tablesAt d tables conditions) budget .count ≤ longOnes d attempts → repeatsEnded budget repeated ≡ true)
     end-late = circuit .end (tablesAt d tables conditions) (tables-accepted d conditions tables acc) budget attempts
 
 module _ (d : Dimensions) (tables tables′ : Tables) (acc : Accepts d tables) (acc′ : Accepts d tables′) (conditions conditions′ : List Dated) where
@@ -51,8 +51,8 @@ module _ (d : Dimensions) (tables tables′ : Tables) (acc : Accepts d tables) (
   -- two pairs that agree in verdict, model and count are seen alike, wherever the replacements of each fell
   pub secrecy-late : publicRows d tables ≡ publicRows d tables′ → (budget : ℕ) (attempts attempts′ : List Attempt)
       → answerFor d (tablesAt d tables conditions) budget ≡ answerFor d (tablesAt d tables′ conditions′) budget
-      → ended budget (historyOf d (tablesAt d tables conditions) budget attempts) ≡ true
-      → ended budget (historyOf d (tablesAt d tables′ conditions′) budget attempts′) ≡ true
+      → repeatsEnded budget (historyOf d (tablesAt d tables conditions) budget attempts) ≡ true
+      → repeatsEnded budget (historyOf d (tablesAt d tables′ conditions′) budget attempts′) ≡ true
       → seen d (tablesAt d tables conditions) budget attempts ≡ seen d (tablesAt d tables′ conditions′) budget attempts′
   secrecy-late e budget attempts attempts′ =
       demand3 d (sizes-taken d tables acc) .secrecy (tablesAt d tables conditions) (tablesAt d tables′ conditions′)

@@ -12,15 +12,15 @@ use borrow.Author.Tests.{eqb-true, lt-ltb, le-ltb, ltb-true, ltb-false}
 use Rattle.words.proofs.Truth.{on, and-l, and-r}
 use Rattle.lexer.specs.Bytes.{isSeparator, isLineFeed, run}
 use Rattle.lexer.specs.Places.{runEnd}
-use Rattle.lexer.specs.Blanks.{Standing, start, line, remark, blanked, tokenStart, remarkAt}
+use Rattle.lexer.specs.Blanks.{LinePlace, start, further, remark, blanked, tokenStart, remarkAt}
 use Rattle.lexer.proofs.Cuts.{stops}
 
 abbrev inLine : ℕ → Bool
 inLine b = not (isLineFeed b)
 
 -- a line's start, or further on
-abbrev opens : Bool → Standing
-opens t = cond t start line
+abbrev opens : Bool → LinePlace
+opens t = cond t start further
 
 -- ---- separators in front
 
@@ -65,7 +65,7 @@ unfolding run blanked
 token-stops true b bs e c = on (eqb b 99) (λ d. absurd (let z : true ≡ false = sym (rw d) ∙ c in let y : _≡_ {A = ℕ} 0 1 = cc in omega arith)) (λ d. rw (d, e))
 token-stops false b bs e c = rw e
 
-remark-run : (bs : List ℕ) → run isSeparator (blanked remark bs) ≡ run inLine bs + run isSeparator (blanked line (drop (run inLine bs) bs))
+remark-run : (bs : List ℕ) → run isSeparator (blanked remark bs) ≡ run inLine bs + run isSeparator (blanked further (drop (run inLine bs) bs))
 unfolding blanked run
 remark-run [] = refl
 remark-run (b ∷ bs) =
@@ -74,7 +74,7 @@ remark-run (b ∷ bs) =
     (λ e. rw e (ap suc (remark-run bs) ∙ sym (suc-add _ _)))
 
 remark-passes : (b : ℕ) (bs : List ℕ) → b ≡ 99
-    → run isSeparator (blanked start (b ∷ bs)) ≡ run inLine (b ∷ bs) + run isSeparator (blanked line (drop (run inLine (b ∷ bs)) (b ∷ bs)))
+    → run isSeparator (blanked start (b ∷ bs)) ≡ run inLine (b ∷ bs) + run isSeparator (blanked further (drop (run inLine (b ∷ bs)) (b ∷ bs)))
 unfolding blanked run
 remark-passes b bs e = rw e (ap suc (remark-run bs) ∙ sym (suc-add _ _))
 
@@ -95,7 +95,7 @@ module _ (text : List ℕ) (at from : ℕ) (e : from ≡ runEnd isSeparator text
   unfolding tokenStart runEnd
   front =
       let k = run isSeparator (drop at text) in
-      let a : run isSeparator (blanked line (drop at text))
+      let a : run isSeparator (blanked further (drop at text))
       ≡ k + run isSeparator (blanked (opens (ltb at (at + k) && isLineFeed (getD text (at + k - 1) 0))) (drop (at + k) text))
       = separators-stay false (drop at text)
       ∙ ap (λ (x : Bool). k + run isSeparator (blanked (opens x) (drop k (drop at text)))) (behind-is text at k)
@@ -132,6 +132,6 @@ module _ (text : List ℕ) (at from : ℕ) (e : from ≡ runEnd isSeparator text
         let b = getD text from 0 in
         let is-c : b ≡ 99 = eqb-true b 99 (and-l (eqb b 99) fresh c) in
         let first : drop from text ≡ b ∷ drop (suc from) text = drop-cons text from 0 inside in
-        let s : run isSeparator (blanked start (drop from text)) ≡ k + run isSeparator (blanked line (drop (from + k) text))
-        = rw first (remark-passes b (drop (suc from) text) is-c) ∙ ap (λ (x : List ℕ). k + run isSeparator (blanked line x)) (drop-drop k from text) in
+        let s : run isSeparator (blanked start (drop from text)) ≡ k + run isSeparator (blanked further (drop (from + k) text))
+        = rw first (remark-passes b (drop (suc from) text) is-c) ∙ ap (λ (x : List ℕ). k + run isSeparator (blanked further x)) (drop-drop k from text) in
         front ∙ ap (λ (x : Bool). from + run isSeparator (blanked (opens x) (drop from text))) (and-r (eqb b 99) fresh c) ∙ omega (arith, s)

@@ -10,18 +10,18 @@ use Rattle.words.proofs.Truth.{on}
 use Rattle.lexer.specs.Bytes.{isSeparator, isLineFeed, run}
 use Rattle.lexer.specs.Remarks.{ahead, linesOf, kept, withoutRemarks}
 use Rattle.lexer.specs.Pieces.{Piece, cut, notEmpty}
-use Rattle.lexer.specs.Blanks.{Standing, start, line, remark, standingBehind, blanked}
+use Rattle.lexer.specs.Blanks.{LinePlace, start, further, remark, placeBehind, blanked}
 
 -- whether a byte is left out: a remark's are, with its LF
-abbrev leftOut : Standing → ℕ → Bool
+abbrev leftOut : LinePlace → ℕ → Bool
 leftOut start b = eqb b 99
-leftOut line b = false
+leftOut further b = false
 leftOut remark b = true
 
 -- bytes without the remarks among them, from where the first stands
-unfoldable pub keptFrom : Standing → List ℕ → List ℕ
+unfoldable pub keptFrom : LinePlace → List ℕ → List ℕ
 keptFrom s [] = []
-keptFrom s (b ∷ bs) = cond (leftOut s b) (keptFrom (standingBehind s b) bs) (b ∷ keptFrom (standingBehind s b) bs)
+keptFrom s (b ∷ bs) = cond (leftOut s b) (keptFrom (placeBehind s b) bs) (b ∷ keptFrom (placeBehind s b) bs)
 
 -- ---- by lines and by bytes
 
@@ -37,7 +37,7 @@ laterKept (l ∷ ls) = kept ls
 
 -- what is left of lines is left of bytes, wherever the first byte stands: at a line's start, further on, or in a remark
 abbrev Left : List (List ℕ) → List ℕ → Type 0
-Left ls bs = (kept ls ≡ keptFrom start bs) × (firstKept ls ≡ keptFrom line bs) × (laterKept ls ≡ keptFrom remark bs)
+Left ls bs = (kept ls ≡ keptFrom start bs) × (firstKept ls ≡ keptFrom further bs) × (laterKept ls ≡ keptFrom remark bs)
 
 more : (b : ℕ) {x y : List ℕ} → x ≡ y → b ∷ x ≡ b ∷ y
 more b e = ap (λ (l : List ℕ). b ∷ l) e
@@ -73,31 +73,31 @@ abbrev inLine : ℕ → Bool
 inLine b = not (isLineFeed b)
 
 -- from within a line on, the first byte is the same when remarks are left out
-pub first-kept : (bs : List ℕ) → getD (keptFrom line bs) 0 0 ≡ getD bs 0 0
+pub first-kept : (bs : List ℕ) → getD (keptFrom further bs) 0 0 ≡ getD bs 0 0
 unfolding keptFrom
 first-kept [] = refl
 first-kept (b ∷ bs) = refl
 
 -- from within a line on, there are as many bytes up to the line's LF when remarks are left out
-pub line-run : (bs : List ℕ) → run inLine (keptFrom line bs) ≡ run inLine bs
+pub line-run : (bs : List ℕ) → run inLine (keptFrom further bs) ≡ run inLine bs
 unfolding keptFrom run
 line-run [] = refl
 line-run (b ∷ bs) = on (eqb b 10) (λ e. rw e) (λ e. rw e (ap suc (line-run bs)))
 
 -- from within a line on, the bytes up to the line's LF are the same when remarks are left out
-pub line-take : (bs : List ℕ) → take (run inLine bs) (keptFrom line bs) ≡ take (run inLine bs) bs
+pub line-take : (bs : List ℕ) → take (run inLine bs) (keptFrom further bs) ≡ take (run inLine bs) bs
 unfolding keptFrom run
 line-take [] = refl
 line-take (b ∷ bs) = on (eqb b 10) (λ e. rw e) (λ e. rw e (more b (line-take bs)))
 
 -- from within a line on, the bytes up to the line's LF may be dropped before remarks are left out or after, with the same result
-pub line-drop : (bs : List ℕ) → drop (run inLine bs) (keptFrom line bs) ≡ keptFrom line (drop (run inLine bs) bs)
+pub line-drop : (bs : List ℕ) → drop (run inLine bs) (keptFrom further bs) ≡ keptFrom further (drop (run inLine bs) bs)
 unfolding keptFrom run
 line-drop [] = refl
 line-drop (b ∷ bs) = on (eqb b 10) (λ e. rw (e, keptFrom) (rw e)) (λ e. rw e (line-drop bs))
 
 -- a line that is no remark is kept
-pub other-kept : (bs : List ℕ) → (getD bs 0 0 ≡ 99 → ⊥) → keptFrom start bs ≡ keptFrom line bs
+pub other-kept : (bs : List ℕ) → (getD bs 0 0 ≡ 99 → ⊥) → keptFrom start bs ≡ keptFrom further bs
 unfolding keptFrom
 other-kept [] h = refl
 other-kept (b ∷ bs) h = rw (ne-eqb b 99 h)
@@ -145,7 +145,7 @@ module _ (p : ℕ → Bool) where
   -- where LF and space are separators, a remark as spaces leaves the same words as none
   SameWords : List ℕ → Type 0
   SameWords bs =
-      (words (blanked line bs) ≡ words (keptFrom line bs))
+      (words (blanked further bs) ≡ words (keptFrom further bs))
       × (all (words (blanked start bs)) ≡ all (words (keptFrom start bs)))
       × (all (words (blanked remark bs)) ≡ all (words (keptFrom remark bs)))
 
@@ -188,8 +188,9 @@ module _ (p : ℕ → Bool) where
       ap (λ (x : List Piece). bytesOf (notEmpty x)) c ∙ filled-bytes q qs ∙ ap₂ filledWords w m
 
 -- from within a line on, a text without its remarks has the same tokens, their places aside, as the text with each byte of a remark a space
-pub same-tokens : (at i : ℕ) (bs : List ℕ) → bytesOf (notEmpty (cut isSeparator i (keptFrom line bs)))
-    ≡ bytesOf (notEmpty (cut isSeparator at (blanked line bs)))
+pub same-tokens : (at i : ℕ) (bs : List ℕ) → bytesOf (notEmpty (cut isSeparator i (keptFrom further bs)))
+    ≡ bytesOf (notEmpty (cut isSeparator at (blanked further bs)))
 unfolding SameWords
 same-tokens at i bs =
-    pieces-words isSeparator i (keptFrom line bs) ∙ ap all (sym (same-words isSeparator refl refl bs .0)) ∙ sym (pieces-words isSeparator at (blanked line bs))
+    pieces-words isSeparator i (keptFrom further bs) ∙ ap all (sym (same-words isSeparator refl refl bs .0))
+    ∙ sym (pieces-words isSeparator at (blanked further bs))

@@ -12,7 +12,7 @@ use Rattle.words.proofs.Truth.{on}
 use Rattle.lexer.specs.Bytes.{isSeparator, run}
 use Rattle.lexer.specs.Pieces.{Piece, cut, notEmpty}
 use Rattle.lexer.specs.Places.{runEnd, part, firstOf}
-use Rattle.lexer.specs.Blanks.{Standing, line, inRemark, standingBehind, blanked, tokensPast, tokenStart}
+use Rattle.lexer.specs.Blanks.{LinePlace, further, inRemark, placeBehind, blanked, tokensPast, tokenStart}
 use Rattle.lexer.specs.declared.pieces.Piece.the-variants.{At, Nothing}
 use Rattle.lexer.proofs.Runs.{end-le}
 use Rattle.lexer.proofs.Cuts.{run-over, no-run, skip-run, one-piece, behind-part, FoundBy}
@@ -22,7 +22,7 @@ inWord b = not (isSeparator b)
 
 -- ---- a token's bytes are the text's, and its line goes on behind it
 
-word-run : (bs : List ℕ) → run inWord (blanked line bs) ≡ run inWord bs
+word-run : (bs : List ℕ) → run inWord (blanked further bs) ≡ run inWord bs
 unfolding blanked run
 word-run [] = refl
 word-run (b ∷ bs) =
@@ -30,7 +30,7 @@ word-run (b ∷ bs) =
     (λ e. rw (eqb-true b 10 e))
     (λ e. on (inWord b) (λ w. rw (w, e) (ap suc (word-run bs))) (λ w. rw w))
 
-word-take : (bs : List ℕ) → take (run inWord bs) (blanked line bs) ≡ take (run inWord bs) bs
+word-take : (bs : List ℕ) → take (run inWord bs) (blanked further bs) ≡ take (run inWord bs) bs
 unfolding blanked run
 word-take [] = refl
 word-take (b ∷ bs) =
@@ -38,7 +38,7 @@ word-take (b ∷ bs) =
     (λ e. rw (eqb-true b 10 e))
     (λ e. on (inWord b) (λ w. rw (w, e) (ap (λ (l : List ℕ). b ∷ l) (word-take bs))) (λ w. rw w))
 
-word-drop : (bs : List ℕ) → drop (run inWord bs) (blanked line bs) ≡ blanked line (drop (run inWord bs) bs)
+word-drop : (bs : List ℕ) → drop (run inWord bs) (blanked further bs) ≡ blanked further (drop (run inWord bs) bs)
 unfolding blanked run
 word-drop [] = refl
 word-drop (b ∷ bs) =
@@ -47,23 +47,23 @@ word-drop (b ∷ bs) =
     (λ e. on (inWord b) (λ w. rw (w, e) (word-drop bs)) (λ w. rw (w, blanked) refl))
 
 -- behind separators and remarks a token stands as further on in a line
-separators-drop : (s : Standing) (bs : List ℕ)
-    → drop (run isSeparator (blanked s bs)) (blanked s bs) ≡ blanked line (drop (run isSeparator (blanked s bs)) bs)
+separators-drop : (s : LinePlace) (bs : List ℕ)
+    → drop (run isSeparator (blanked s bs)) (blanked s bs) ≡ blanked further (drop (run isSeparator (blanked s bs)) bs)
 unfolding blanked run
 separators-drop s [] = refl
 separators-drop s (b ∷ bs) =
     on (inRemark s b)
-    (λ e. rw e (rw e at (separators-drop (standingBehind s b) bs)))
-    (λ e. on (isSeparator b) (λ w. rw (e, w) (rw e at (separators-drop (standingBehind s b) bs))) (λ w. rw (e, w)))
+    (λ e. rw e (rw e at (separators-drop (placeBehind s b) bs)))
+    (λ e. on (isSeparator b) (λ w. rw (e, w) (rw e at (separators-drop (placeBehind s b) bs))) (λ w. rw (e, w)))
 
 -- ---- the tokens of a text from a place on
 
 module _ (text : List ℕ) (at : ℕ) where
   abbrev rest : List ℕ
-  rest = blanked line (drop at text)
+  rest = blanked further (drop at text)
 
-  behind-start : drop (run isSeparator rest) rest ≡ blanked line (drop (at + run isSeparator rest) text)
-  behind-start = separators-drop line (drop at text) ∙ ap (blanked line) (drop-drop (run isSeparator rest) at text)
+  behind-start : drop (run isSeparator rest) rest ≡ blanked further (drop (at + run isSeparator rest) text)
+  behind-start = separators-drop further (drop at text) ∙ ap (blanked further) (drop-drop (run isSeparator rest) at text)
 
   skip-token : tokensPast text at ≡ tokensPast text (tokenStart text at)
   unfolding tokenStart tokensPast
@@ -77,8 +77,8 @@ module _ (text : List ℕ) (at : ℕ) where
   unfolding tokenStart blanked
   stops h =
       let k = run isSeparator rest in
-      no-run isSeparator (getD text (at + k) 0) (blanked (standingBehind line (getD text (at + k) 0)) (drop (suc (at + k)) text))
-      (ap (run isSeparator) (sym (behind-start ∙ ap (blanked line) (drop-cons text (at + k) 0 h))) ∙ run-over isSeparator rest)
+      no-run isSeparator (getD text (at + k) 0) (blanked (placeBehind further (getD text (at + k) 0)) (drop (suc (at + k)) text))
+      (ap (run isSeparator) (sym (behind-start ∙ ap (blanked further) (drop-cons text (at + k) 0 h))) ∙ run-over isSeparator rest)
 
   module _ (s e : ℕ) (hs : s ≡ tokenStart text at) (he : e ≡ runEnd inWord text s) (h : s < length text) where
     stop : isSeparator (getD text s 0) ≡ false
@@ -91,15 +91,15 @@ module _ (text : List ℕ) (at : ℕ) where
     unfolding tokensPast runEnd blanked
     next =
         let k = run inWord (drop s text) in
-        let b = blanked line (drop s text) in
+        let b = blanked further (drop s text) in
         let one : notEmpty (cut isSeparator s b) ≡ token b (run inWord b)
-        = rw (drop-cons text s 0 h) (one-piece isSeparator s (getD text s 0) (blanked (standingBehind line (getD text s 0)) (drop (suc s) text)) stop) in
+        = rw (drop-cons text s 0 h) (one-piece isSeparator s (getD text s 0) (blanked (placeBehind further (getD text s 0)) (drop (suc s) text)) stop) in
         let width : k ≡ e - s = omega (arith, he) in
         skip-token ∙ ap (tokensPast text) (sym hs) ∙ one
         ∙ ap (token b) (word-run (drop s text))
         ∙ ap₂ (λ (w : List ℕ) (l : List Piece). record { at = s; bytes = w } ∷ l)
         (word-take (drop s text) ∙ ap (λ (i : ℕ). take i (drop s text)) width)
-        (ap (λ (l : List ℕ). notEmpty (cut isSeparator (s + k) l)) (word-drop (drop s text) ∙ ap (blanked line) (drop-drop k s text))
+        (ap (λ (l : List ℕ). notEmpty (cut isSeparator (s + k) l)) (word-drop (drop s text) ∙ ap (blanked further) (drop-drop k s text))
         ∙ ap (tokensPast text) (sym he))
 
     within : e ≤ length text

@@ -14,18 +14,18 @@ use Rattle.words.proofs.Truth.{on}
 use Rattle.lexer.specs.Bytes.{run}
 use Rattle.numbers.specs.Numbers.{isDigit, digitsAfter}
 use Rattle.lines.specs.declared.FieldEnd.the-variants.{Behind, Malformed}
-use Rattle.lines.specs.Numbers.{Field, field, malformed, bounded, closedField, fieldOf}
+use Rattle.lines.specs.Numbers.{Field, field, noField, bounded, closedField, fieldOf}
 use Rattle.lines.specs.Places.{fieldEnd, fieldEndAt}
 
 -- as `closed`, with v read already and a digit seen
 abbrev closingAfter : ℕ → ℕ → List ℕ → List ℕ → Field
-closingAfter v closing ds [] = malformed
-closingAfter v closing ds (b ∷ rest) = cond (eqb b closing) (bounded (digitsAfter v ds) rest) malformed
+closingAfter v closing ds [] = noField
+closingAfter v closing ds (b ∷ rest) = cond (eqb b closing) (bounded (digitsAfter v ds) rest) noField
 
 -- `seen` says whether a digit was seen
 abbrev closedAfter : ℕ → Bool → ℕ → List ℕ → List ℕ → Field
 closedAfter v true closing ds rest = closingAfter v closing ds rest
-closedAfter v false closing [] rest = malformed
+closedAfter v false closing [] rest = noField
 closedAfter v false closing (d ∷ ds) rest = closingAfter v closing (d ∷ ds) rest
 
 unfoldable pub fieldAfter : ℕ → Bool → ℕ → List ℕ → Field
@@ -40,7 +40,7 @@ field-start closing text = go (take (run isDigit text) text) (drop (run isDigit 
     go (d ∷ ds) [] = refl
     go (d ∷ ds) (b ∷ rest) = refl
 
-field-end : (v : ℕ) (seen : Bool) (closing : ℕ) → fieldAfter v seen closing [] ≡ malformed
+field-end : (v : ℕ) (seen : Bool) (closing : ℕ) → fieldAfter v seen closing [] ≡ noField
 unfolding fieldAfter run
 field-end v true closing = refl
 field-end v false closing = refl
@@ -59,24 +59,24 @@ field-digit v seen closing b bs e = rw (e, run) (go seen (take (run isDigit bs) 
     go false ds rest = one false ds rest
 
 -- a byte that is no digit closes the field or spoils it
-field-closed : (v closing b : ℕ) (bs : List ℕ) → isDigit b ≡ false → fieldAfter v true closing (b ∷ bs) ≡ cond (eqb b closing) (bounded (some v) bs) malformed
+field-closed : (v closing b : ℕ) (bs : List ℕ) → isDigit b ≡ false → fieldAfter v true closing (b ∷ bs) ≡ cond (eqb b closing) (bounded (some v) bs) noField
 unfolding fieldAfter run digitsAfter
 field-closed v closing b bs e = rw (e, run)
 
-field-empty : (v closing b : ℕ) (bs : List ℕ) → isDigit b ≡ false → fieldAfter v false closing (b ∷ bs) ≡ malformed
+field-empty : (v closing b : ℕ) (bs : List ℕ) → isDigit b ≡ false → fieldAfter v false closing (b ∷ bs) ≡ noField
 unfolding fieldAfter run
 field-empty v closing b bs e = rw (e, run)
 
 -- no digits make a value smaller
-field-over : (v closing : ℕ) (text : List ℕ) → 2 ^ 64 ≤ v → fieldAfter v true closing text ≡ malformed
+field-over : (v closing : ℕ) (text : List ℕ) → 2 ^ 64 ≤ v → fieldAfter v true closing text ≡ noField
 unfolding fieldAfter digitsAfter
 field-over v closing text h = go (take (run isDigit text) text) (drop (run isDigit text) text)
   where
-    over : (v : ℕ) (ds rest : List ℕ) → 2 ^ 64 ≤ v → bounded (digitsAfter v ds) rest ≡ malformed
+    over : (v : ℕ) (ds rest : List ℕ) → 2 ^ 64 ≤ v → bounded (digitsAfter v ds) rest ≡ noField
     over v [] rest h = rw (le-ltb v (2 ^ 64) h)
     over v (d ∷ ds) rest h = on (isDigit d) (λ e. rw (e, digitsAfter) (over (v * 10 + (d - 48)) ds rest (omega arith))) (λ e. rw (e, digitsAfter))
 
-    go : (ds rest : List ℕ) → closedAfter v true closing ds rest ≡ malformed
+    go : (ds rest : List ℕ) → closedAfter v true closing ds rest ≡ noField
     go ds [] = refl
     go ds (b ∷ rest) = on (eqb b closing) (λ e. rw e (over v ds rest h)) (λ e. rw e)
 
@@ -101,11 +101,11 @@ module _ (line : List ℕ) (at closing i v : ℕ) (low : i < length line)
       go true k =
           on (eqb (getD line i 0) closing)
           (λ q.
-          let taken : cond (eqb (getD line i 0) closing) (bounded (some v) (drop (i + 1) line)) malformed ≡ field v (drop (i + 1) line) =
+          let taken : cond (eqb (getD line i 0) closing) (bounded (some v) (drop (i + 1) line)) noField ≡ field v (drop (i + 1) line) =
           rw q (rw (lt-ltb v (2 ^ 64) h)) in
           rw q (sym (place-behind line v i low) ∙ ap (fieldEnd line) (sym (field-closed v closing (getD line i 0) (drop (i + 1) line) e ∙ taken) ∙ k)))
           (λ q.
-          let spoilt : cond (eqb (getD line i 0) closing) (bounded (some v) (drop (i + 1) line)) malformed ≡ malformed = rw q in
+          let spoilt : cond (eqb (getD line i 0) closing) (bounded (some v) (drop (i + 1) line)) noField ≡ noField = rw q in
           rw q (ap (fieldEnd line) (sym (field-closed v closing (getD line i 0) (drop (i + 1) line) e ∙ spoilt) ∙ k)))
 
   -- a digit

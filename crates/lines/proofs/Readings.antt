@@ -16,7 +16,7 @@ use Rattle.refusals.specs.declared.Refusal.the-variants.{NumberLine}
 use Rattle.lines.specs.declared.Budget.the-variants as budget
 use Rattle.lines.specs.declared.Size.the-variants as size
 use Rattle.lines.specs.declared.FieldEnd.the-variants.{Behind, Malformed}
-use Rattle.lines.specs.Numbers.{Field, field, malformed, bounded, closedField, fieldOf, shortLine, budgetOf, sizeOf}
+use Rattle.lines.specs.Numbers.{Field, field, noField, bounded, closedField, fieldOf, shortLine, budgetOf, sizeOf}
 use Rattle.lines.specs.Places.{fieldEnd, fieldEndAt, budgetFrom, firstFrom, secondFrom, thirdFrom, fourthFrom}
 
 bounded-rest : (d : Option ℕ) (text rest : List ℕ) (v : ℕ) → bounded d text ≡ field v rest → text ≡ rest
@@ -89,14 +89,14 @@ found line at closing v end p = go (fieldOf closing (drop at line)) refl p
           reads = e ∙ ap (λ (x : ℕ). field x rest) value ∙ ap (field v) (sym there);
           behind = ap (λ (r : List ℕ). length line - length r) there ∙ place;
         }
-    go malformed e q = record { reads = cc; behind = cc }
+    go noField e q = record { reads = cc; behind = cc }
 
-pub lost : (line : List ℕ) (at closing : ℕ) → fieldEndAt line at closing ≡ Malformed → fieldOf closing (drop at line) ≡ malformed
+pub lost : (line : List ℕ) (at closing : ℕ) → fieldEndAt line at closing ≡ Malformed → fieldOf closing (drop at line) ≡ noField
 lost line at closing p = go (fieldOf closing (drop at line)) p
   where
-    go : (f : Field) → fieldEnd line f ≡ Malformed → f ≡ malformed
+    go : (f : Field) → fieldEnd line f ≡ Malformed → f ≡ noField
     go (field w rest) q = cc
-    go malformed q = refl
+    go noField q = refl
 
 -- ---- the budget line
 
@@ -114,7 +114,7 @@ pub budget-below : (input : List ℕ) (v : ℕ) → budgetOf input ≡ budget.Of
 budget-below input v e = go (fieldOf 10 input) refl e
   where
     go : (f : Field) → fieldOf 10 input ≡ f → budgetFrom input f ≡ budget.Of v → v < 2 ^ 64
-    go malformed h k = let z : _≡_ {A = ℕ} 0 1 = cc in omega arith
+    go noField h k = let z : _≡_ {A = ℕ} 0 1 = cc in omega arith
     go (field w rest) h k =
         on (shortLine input rest)
         (λ q. let f = rw q at k in let same : w ≡ v = cc in omega (arith, field-below 10 input rest w h))

@@ -8,13 +8,13 @@ use Rattle.lines.specs.declared.Budget.{Budget}
 use Rattle.lines.specs.declared.Budget.the-variants as budget
 use Rattle.lines.specs.declared.Size.{Size}
 use Rattle.lines.specs.declared.Size.the-variants as size
-use Rattle.lines.specs.Numbers.{Field, field, malformed, fieldOf, shortLine, onField, onBudget, budgetOf, budgetCode, budgetNumbers, onSize, sizeOf}
+use Rattle.lines.specs.Numbers.{Field, field, noField, fieldOf, shortLine, onField, onBudget, budgetOf, budgetCode, budgetNumbers, onSize, sizeOf}
 use Rattle.lines.specs.Numbers.{sizeSaid}
 
 -- what is said of a field, and of a test
 said-field : {A : Type 0} (says : A → List ℕ) (f : Field) (a : A) (g : ℕ → List ℕ → A) (h : ℕ → List ℕ → List ℕ)
     → ((v : ℕ) (rest : List ℕ) → says (g v rest) ≡ h v rest) → says (onField f a g) ≡ onField f (says a) h
-said-field says malformed a g h e = refl
+said-field says noField a g h e = refl
 said-field says (field v rest) a g h e = e v rest
 
 said-if : {A : Type 0} (says : A → List ℕ) (b : Bool) (x y : A) → says (cond b x y) ≡ cond b (says x) (says y)

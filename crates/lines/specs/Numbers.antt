@@ -17,18 +17,18 @@ use Rattle.lines.specs.declared.Size.the-variants as size
 -- a number of 64 bits and the text behind it, or none
 pub data Field : Type 0 where
   field : ℕ → List ℕ → Field
-  malformed : Field
+  noField : Field
 
 -- a value of 64 bits
 abbrev pub bounded : Option ℕ → List ℕ → Field
-bounded (some v) rest = cond (ltb v (2 ^ 64)) (field v rest) malformed
-bounded none rest = malformed
+bounded (some v) rest = cond (ltb v (2 ^ 64)) (field v rest) noField
+bounded none rest = noField
 
 -- digits, and the text behind them, which is to start with the closing byte
 abbrev pub closedField : ℕ → List ℕ → List ℕ → Field
-closedField closing [] rest = malformed
-closedField closing (d ∷ ds) [] = malformed
-closedField closing (d ∷ ds) (b ∷ rest) = cond (eqb b closing) (bounded (digitsAfter 0 (d ∷ ds)) rest) malformed
+closedField closing [] rest = noField
+closedField closing (d ∷ ds) [] = noField
+closedField closing (d ∷ ds) (b ∷ rest) = cond (eqb b closing) (bounded (digitsAfter 0 (d ∷ ds)) rest) noField
 
 -- one or more digits in front of a text, at most 2 ^ 64 - 1, closed by a byte
 unfoldable pub fieldOf : ℕ → List ℕ → Field
@@ -40,7 +40,7 @@ shortLine input rest = leb (length input - length rest) 100
 
 -- what a field leads to, with the text behind it
 abbrev pub onField {ℓ} : {A : Type ℓ} → Field → A → (ℕ → List ℕ → A) → A
-onField malformed a f = a
+onField noField a f = a
 onField (field v rest) a f = f v rest
 
 -- what the budget line leads to: digits and LF

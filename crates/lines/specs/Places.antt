@@ -3,7 +3,7 @@ use Prim.Native.Nat.{ℕ, _-_}
 use mathlib.Core.Bool.{cond}
 use mathlib.Core.List.{List}
 use lib.ListN.{length, drop}
-use Rattle.lines.specs.Numbers.{Field, field, malformed, fieldOf, shortLine, onField}
+use Rattle.lines.specs.Numbers.{Field, field, noField, fieldOf, shortLine, onField}
 use Rattle.refusals.specs.declared.Refusal.the-variants.{NumberLine}
 use Rattle.lines.specs.declared.Budget.{Budget}
 use Rattle.lines.specs.declared.Budget.the-variants as budget
@@ -15,7 +15,7 @@ use Rattle.lines.specs.declared.FieldEnd.the-variants.{Behind, Malformed
 -- the place of a field's rest in the line
 abbrev pub fieldEnd : List ℕ → Field → FieldEnd
 fieldEnd line (field v rest) = Behind v (length line - length rest)
-fieldEnd line malformed = Malformed
+fieldEnd line noField = Malformed
 
 -- the field from a place on
 abbrev pub fieldEndAt : List ℕ → ℕ → ℕ → FieldEnd

@@ -28,7 +28,9 @@ use Rattle.netlist.proofs.LastWires.{wires-behind, last-wires}
 use Rattle.netlist.proofs.Values.{Holds, holds}
 use Rattle.netlist.proofs.Counts.{circuit-length}
 use Rattle.netlist.proofs.SectionGates.{Sections, sections}
-use Rattle.netlist.proofs.Wiring.{firstWires, secondWires, cells-met, changes-met, halves-joined}
+use Rattle.netlist.proofs.Wiring.{firstWires, secondWires, halves-joined}
+use Rattle.netlist.proofs.CellWiring.{cells-met}
+use Rattle.netlist.proofs.ChangeWiring.{changes-met}
 use Rattle.netlist.proofs.Accepted.{circuit-ordered}
 
 module _ (n b : ℕ) (rows : List Row) (s : State) (a-row : 0 < length rows) (room : n ≤ 2 ^ b) where
@@ -77,7 +79,7 @@ module _ (n b : ℕ) (rows : List Row) (s : State) (a-row : 0 < length rows) (ro
           (state-at n (bitsIn s) rest);
       cells = cells-met (wire list) a placed (omega arith) (omega arith) (omega (arith, a-row));
       changes = changes-met (wire list) a placed (omega arith);
-      joined = halves-joined (wire list) a placed;
+      joined = halves-joined (wire list) a;
       formed = formed-e n s formed;
       a-row = a-row;
       room = room;

@@ -20,6 +20,8 @@ pub mod Families
 pub mod Counts
 pub mod SectionGates
 pub mod Wiring
+pub mod CellWiring
+pub mod ChangeWiring
 pub mod Accepted
 pub mod CircuitOutputs
 pub mod EveryState

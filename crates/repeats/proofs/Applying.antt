@@ -41,7 +41,7 @@ use Rattle.readback.proofs.RoundTrip.{read-front}
 use Rattle.netlist.specs.Netlist.{gatesOn}
 use Rattle.netlist.specs.Outputs.{closed, outputBits, outputsIn}
 use Rattle.netlist.proofs.EveryState.{gates-accepted, outputs-filled}
-use Rattle.repeats.specs.Application.{Applied, turnedBack, nextRun, judged, wiresAfter, applied}
+use Rattle.repeats.specs.Application.{Applied, turnedBack, nextRun, applicationOutcome, wiresAfter, applied}
 use Rattle.repeats.specs.Repeats.{Accepts, Attempt, Lent, Otherwise, Repeat, returned, circuitWords, attempted, comesOf, longEnough}
 use Rattle.repeats.proofs.RepeatChecks.{sizes-taken}
 use Rattle.repeats.proofs.Judging.{refused, refuse-packing, refuse-wires, take-all, wires-then}
@@ -73,7 +73,7 @@ module _ (d : Dimensions) (tables : Tables) (acc : Accepts d tables) (run : Run)
   fits = sizes-taken d tables acc
 
   -- too few bytes
-  few-bytes : length bytes < inputWires d → judged d tables (circuitWords d) run bytes wires ≡ Refused Wires
+  few-bytes : length bytes < inputWires d → applicationOutcome d tables (circuitWords d) run bytes wires ≡ Refused Wires
   few-bytes h = refuse-packing d tables (circuitWords d) run bytes wires Wires (sym (refuse-room d tables run (length bytes) acc h))
 
   module _ (room : inputWires d ≤ length bytes) where
@@ -87,7 +87,7 @@ module _ (d : Dimensions) (tables : Tables) (acc : Accepts d tables) (run : Run)
     formed = ap (λ (k : ℕ). wellFormedState k (stateOf run)) (sym (held .same)) ∙ formed-run-e run (held .formed) .state
 
     -- too few wires
-    few-wires : length wires < inputWires d + length (gatesOn d) → judged d tables (circuitWords d) run bytes wires ≡ Refused Wires
+    few-wires : length wires < inputWires d + length (gatesOn d) → applicationOutcome d tables (circuitWords d) run bytes wires ≡ Refused Wires
     few-wires h = refuse-wires d tables (circuitWords d) run bytes wires packs (words-accepted d fits) (omega (arith, words-third d))
 
     -- enough of both
@@ -101,7 +101,7 @@ module _ (d : Dimensions) (tables : Tables) (acc : Accepts d tables) (run : Run)
       enough : inputWires d + length (circuitWords d) / 3 ≤ length wires
       enough = omega (arith, words-third d)
 
-      all-taken : judged d tables (circuitWords d) run bytes wires ≡ Taken
+      all-taken : applicationOutcome d tables (circuitWords d) run bytes wires ≡ Taken
       all-taken = take-all d tables (circuitWords d) run bytes wires packs (words-accepted d fits) enough
 
       pub wires-are : wiresAfter d tables (circuitWords d) run bytes wires ≡ over (bytesOf values) wires
@@ -178,7 +178,7 @@ module _ (d : Dimensions) (tables : Tables) (acc : Accepts d tables) (s : State)
     abbrev enoughWires : Bool
     enoughWires = leb (inputWires d + length (gatesOn d)) (length wires)
 
-    judged-back : judged d tables (circuitWords d) run bytes wires ≡ Refused Wires
+    judged-back : applicationOutcome d tables (circuitWords d) run bytes wires ≡ Refused Wires
         → applied d tables (circuitWords d) run bytes wires handed ≡ turnedBack run Wires
     judged-back e = refused d tables (circuitWords d) run bytes wires handed Wires e
 

@@ -34,7 +34,7 @@ use Rattle.wires.proofs.Lengths.{input-length}
 use Rattle.wires.proofs.Checks.{Passed, passed, packed-front}
 use Rattle.readback.specs.Reading.{readBack}
 use Rattle.netlist.specs.Outputs.{outputsIn}
-use Rattle.repeats.specs.Application.{Applied, turnedBack, nextRun, inputs, judged, wiresAfter, applied}
+use Rattle.repeats.specs.Application.{Applied, turnedBack, nextRun, inputs, applicationOutcome, wiresAfter, applied}
 
 -- behind a state's wires there is room for the closing one: a row of each station has two wires at least
 pub outputs-fit : (d : Dimensions) (tables : Tables) → Accepted d tables → stateWires (d .n) + 4 ≤ inputWires d
@@ -45,13 +45,14 @@ outputs-fit d tables a =
 module _ (d : Dimensions) (tables : Tables) (gates : List ℕ) (run : Run) (bytes wires : List ℕ) where
   -- ---- refused
 
-  pub refused : (handed : ℕ) (r : Refusal) → judged d tables gates run bytes wires ≡ Refused r
+  pub refused : (handed : ℕ) (r : Refusal) → applicationOutcome d tables gates run bytes wires ≡ Refused r
       → applied d tables gates run bytes wires handed ≡ turnedBack run r
   unfolding applied
   refused handed r e = rw e
 
-  pub refuse-packing : (r : Refusal) → outcome (packChecks d tables run (length bytes)) ≡ Refused r → judged d tables gates run bytes wires ≡ Refused r
-  unfolding judged
+  pub refuse-packing : (r : Refusal) → outcome (packChecks d tables run (length bytes)) ≡ Refused r
+      → applicationOutcome d tables gates run bytes wires ≡ Refused r
+  unfolding applicationOutcome
   refuse-packing r e = outcome-refused (packChecks d tables run (length bytes)) (evaluationChecks gates (inputs d tables run bytes) wires) r e
 
   -- ---- packed
@@ -66,15 +67,15 @@ module _ (d : Dimensions) (tables : Tables) (gates : List ℕ) (run : Run) (byte
     inputs-length : length (inputs d tables run bytes) ≡ inputWires d
     inputs-length = ap length inputs-are ∙ length-map bits digit ∙ input-length d tables (stateOf run)
 
-    evaluation-decides : judged d tables gates run bytes wires ≡ outcome (evaluationChecks gates (inputs d tables run bytes) wires)
-    unfolding judged
+    evaluation-decides : applicationOutcome d tables gates run bytes wires ≡ outcome (evaluationChecks gates (inputs d tables run bytes) wires)
+    unfolding applicationOutcome
     evaluation-decides = outcome-taken (packChecks d tables run (length bytes)) (evaluationChecks gates (inputs d tables run bytes) wires) e
 
     module _ (a : accepted (inputWires d) gates ≡ true) where
       good : accepted (length (inputs d tables run bytes)) gates ≡ true
       good = ap (λ (k : ℕ). accepted k gates) inputs-length ∙ a
 
-      pub refuse-wires : length wires < inputWires d + length gates / 3 → judged d tables gates run bytes wires ≡ Refused Wires
+      pub refuse-wires : length wires < inputWires d + length gates / 3 → applicationOutcome d tables gates run bytes wires ≡ Refused Wires
       refuse-wires h =
           evaluation-decides ∙ sym (Evaluation.no-room gates (inputs d tables run bytes) wires good (omega (arith, inputs-length)) .0)
 
@@ -84,7 +85,7 @@ module _ (d : Dimensions) (tables : Tables) (gates : List ℕ) (run : Run) (byte
         evaluated =
             Evaluation.taken gates (inputs d tables run bytes) wires good (omega (arith, inputs-length)) (ap Memory.bits inputs-are ∙ bits-bytes bits)
 
-        pub take-all : judged d tables gates run bytes wires ≡ Taken
+        pub take-all : applicationOutcome d tables gates run bytes wires ≡ Taken
         take-all = evaluation-decides ∙ sym (evaluated .0)
 
         pub wires-then : wiresAfter d tables gates run bytes wires ≡ over (bytesOf (wiresOf bits (gatesOf gates))) wires
@@ -114,11 +115,11 @@ module _ (d : Dimensions) (tables : Tables) (gates : List ℕ) (run : Run) (byte
   unfolding nextRun
   read-run e = not-refused (readBack (d .n) (take handed outputs) .outcome) _ run e
 
-  evaluated-next : judged d tables gates run bytes wires ≡ Taken → applied d tables gates run bytes wires handed ≡ nextRun (d .n) run handed outputs
+  evaluated-next : applicationOutcome d tables gates run bytes wires ≡ Taken → applied d tables gates run bytes wires handed ≡ nextRun (d .n) run handed outputs
   unfolding applied
   evaluated-next q = ap (λ (o : Outcome). given o (nextRun (d .n) run handed outputs) (turnedBack run)) q
 
-  wires-room : outcome (packChecks d tables run (length bytes)) ≡ Taken → judged d tables gates run bytes wires
+  wires-room : outcome (packChecks d tables run (length bytes)) ≡ Taken → applicationOutcome d tables gates run bytes wires
       ≡ Taken → inputWires d + length gates / 3 ≤ length wires
   wires-room p t =
       let i = inputs d tables run bytes in
@@ -127,9 +128,9 @@ module _ (d : Dimensions) (tables : Tables) (gates : List ℕ) (run : Run) (byte
       omega (arith, ltb-false (length wires) (length i + length gates / 3) (check-passed few Wires _ k), inputs-length d tables gates run bytes wires p)
 
   pub taken : applied d tables gates run bytes wires handed .outcome ≡ Taken → Taking d tables gates run bytes wires handed
-  taken e = go (judged d tables gates run bytes wires) refl (outcome (packChecks d tables run (length bytes))) refl
+  taken e = go (applicationOutcome d tables gates run bytes wires) refl (outcome (packChecks d tables run (length bytes))) refl
     where
-      go : (o : Outcome) → judged d tables gates run bytes wires ≡ o → (p : Outcome) → outcome (packChecks d tables run (length bytes)) ≡ p
+      go : (o : Outcome) → applicationOutcome d tables gates run bytes wires ≡ o → (p : Outcome) → outcome (packChecks d tables run (length bytes)) ≡ p
           → Taking d tables gates run bytes wires handed
       go (Refused r) q p k = absurd (refused-taken (sym (ap (λ (a : Applied). a .outcome) (refused d tables gates run bytes wires handed r q)) ∙ e))
       go Taken q (Refused r) k = absurd (refused-taken (sym (refuse-packing d tables gates run bytes wires r k) ∙ q))

@@ -41,8 +41,8 @@ inputs d tables run bytes = take (inputWires d) (packed d tables run bytes)
 
 module _ (d : Dimensions) (tables : Tables) (gates : List ℕ) (run : Run) (bytes wires : List ℕ) where
   -- what packing and evaluation say, before a byte is written
-  unfoldable pub judged : Outcome
-  judged = outcome (packChecks d tables run (length bytes) ++ evaluationChecks gates (inputs d tables run bytes) wires)
+  unfoldable pub applicationOutcome : Outcome
+  applicationOutcome = outcome (packChecks d tables run (length bytes) ++ evaluationChecks gates (inputs d tables run bytes) wires)
 
   -- the wires after packing and evaluation, where neither turns back
   abbrev pub wiresAfter : List ℕ
@@ -50,5 +50,5 @@ module _ (d : Dimensions) (tables : Tables) (gates : List ℕ) (run : Run) (byte
 
   -- the next run and its mark, where so many of the output wires are handed to the read-back; refused, the run as it was
   unfoldable pub applied : ℕ → Applied
-  unfolding judged nextRun
-  applied handed = given judged (nextRun (d .n) run handed (outputsIn d gates wiresAfter)) (turnedBack run)
+  unfolding applicationOutcome nextRun
+  applied handed = given applicationOutcome (nextRun (d .n) run handed (outputsIn d gates wiresAfter)) (turnedBack run)

@@ -80,8 +80,8 @@ repeats d tables (suc rest) run (a ∷ later) =
     (λ next. repeats d (laterTables tables) rest next later)
 
 -- repeats end with a mark that is 1, or when they are as many as the budget
-abbrev pub ended : ℕ → List Repeat → Bool
-ended budget h = any (λ i. getD (marks h) i false) (length h) || eqb (length h) budget
+abbrev pub repeatsEnded : ℕ → List Repeat → Bool
+repeatsEnded budget h = any (λ i. getD (marks h) i false) (length h) || eqb (length h) budget
 
 -- buffers with room for the inputs and for all wires, and all of the state's wires handed to the read-back
 abbrev pub longEnough : Dimensions → Attempt → Bool

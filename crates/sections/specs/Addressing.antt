@@ -4,8 +4,8 @@ use lib.Dec.{leb}
 use Rattle.words.specs.Sets.{lowest}
 use Rattle.dimensions.specs.declared.Dimensions.{Dimensions}
 use Rattle.dimensions.specs.Sizes.{rowCount}
-use Rattle.sections.specs.declared.Reading.{Reading}
-use Rattle.sections.specs.declared.Acting.{Acting}
+use Rattle.sections.specs.declared.ReadingAddresses.{ReadingAddresses}
+use Rattle.sections.specs.declared.ActingAddresses.{ActingAddresses}
 use Rattle.sections.specs.declared.Addresses.{Addresses}
 
 -- how many binary digits the number of one of n variables has, n at most 32: the least b with n ≤ 2^b
@@ -26,7 +26,7 @@ abbrev pub lineOf : ℕ → ℕ
 lineOf b = 1 + 8 * (3 + b)
 
 -- the sections that read the rows and find the greatest key, behind so many inputs, for b digits of a variable's number
-abbrev pub readingOf : ℕ → ℕ → ℕ → ℕ → Reading
+abbrev pub readingOf : ℕ → ℕ → ℕ → ℕ → ReadingAddresses
 readingOf n m b inputs =
     let pairs = m / 2 in
     let nodes = m - 1 - pairs in
@@ -49,7 +49,7 @@ readingOf n m b inputs =
     }
 
 -- the sections that act on it
-abbrev pub actingOf : ℕ → ℕ → ℕ → Acting
+abbrev pub actingOf : ℕ → ℕ → ℕ → ActingAddresses
 actingOf n b greatest =
     let rule = greatest + 2 * (3 + b) in
     let targets = rule + 12 + 2 * 2 ^ b in

@@ -51,7 +51,7 @@ pub struct Addresses {
 }
 
 // Those of the sections that read the rows and find the greatest key.
-struct Reading {
+struct ReadingAddresses {
     pairs: u32,
     nodes: u32,
     literals: u32,
@@ -64,7 +64,7 @@ struct Reading {
 }
 
 // Those of the sections that act on it.
-struct Acting {
+struct ActingAddresses {
     rule: u32,
     targets: u32,
     guards: u32,
@@ -142,7 +142,7 @@ fn layout(n: u32, m: u32, b: u32) -> Addresses
 }
 
 // The sections that read the rows, behind so many inputs.
-fn layout_reading(n: u32, m: u32, b: u32, inputs: u32) -> Reading
+fn layout_reading(n: u32, m: u32, b: u32, inputs: u32) -> ReadingAddresses
     requires { ⌜ (n ≤ 255) × (m ≤ 765) × (b ≤ 5) × (n * m ≤ 195075) × (m * b ≤ 3825) × (inputs ≤ 1048576) ⌝ }
     ensures { λ r. ⌜ r ≡ readingOf n m b inputs ⌝ }
     ensures { λ r. ⌜ (r .pairs ≤ 765) × (m ≤ 2 * r .pairs + 1) × (r .greatest ≤ 6291456) ⌝ }
@@ -156,7 +156,7 @@ fn layout_reading(n: u32, m: u32, b: u32, inputs: u32) -> Reading
     let digits = ranks + 5 * m;
     let keys = digits + digits::digits_to(n, m, b);
     let tree = keys + m * (3 + b);
-    Reading {
+    ReadingAddresses {
         pairs,
         nodes,
         literals,
@@ -170,7 +170,7 @@ fn layout_reading(n: u32, m: u32, b: u32, inputs: u32) -> Reading
 }
 
 // The sections that act on the greatest key.
-fn layout_acting(n: u32, b: u32, greatest: u32) -> Acting
+fn layout_acting(n: u32, b: u32, greatest: u32) -> ActingAddresses
     requires { ⌜ (n ≤ 255) × (b ≤ 5) × (n * n ≤ 65025) × (greatest ≤ 6291456) ⌝ }
     ensures { λ r. ⌜ r ≡ actingOf n b greatest ⌝ }
     ensures { λ r. ⌜ r .outputs ≤ 8388608 ⌝ }
@@ -183,7 +183,7 @@ fn layout_acting(n: u32, b: u32, greatest: u32) -> Acting
     let block = (1 + 3 * n) * n;
     let assignments = levels + 3 * block;
     let depths = assignments + 10 * n;
-    Acting {
+    ActingAddresses {
         rule,
         targets,
         guards,

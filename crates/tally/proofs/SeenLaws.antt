@@ -18,8 +18,8 @@ use Rattle.words.proofs.Operations.{bit-and, bit-not, bit-high, and-lt-left}
 use Rattle.words.proofs.WordOf.{bit-wordOf, wordOf-bit, wordOf-cong, wordOf-lt}
 use Rattle.tables.specs.Rows.{free}
 use Rattle.tally.specs.declared.Tally.{Tally}
-use Rattle.tally.specs.declared.surveying.Seen.{Seen}
-use Rattle.tally.specs.declared.surveying.AllSeen.{AllSeen}
+use Rattle.tally.specs.declared.surveying.RowsSeen.{RowsSeen}
+use Rattle.tally.specs.declared.surveying.AllRowsSeen.{AllRowsSeen}
 use Rattle.tally.specs.Surveys.{metWith, freeWith, listed, wordMet, wordFree, allWith, metBy, freeBy, seenIn, allSeen, unmetBy, fewBy, surveyed}
 use Rattle.tally.specs.Words.{gathered}
 use Rattle.tally.proofs.WordLaws.{word-is}
@@ -30,12 +30,12 @@ ones-bit k j h = let e : 2 ^ k - 1 ≡ (2 ^ k - 1) - 0 = omega arith in ap (λ (
 
 -- ---- one more variable, in words
 
-module _ (s : Seen) (hm : s .met < 2 ^ 64) where
-  pub met-is : (x : ℕ) → x < 2 ^ 64 → _≡_ {A = Seen} (record { met = bitOr (s .met) x; one = s .one; two = s .two }) (metWith s x)
+module _ (s : RowsSeen) (hm : s .met < 2 ^ 64) where
+  pub met-is : (x : ℕ) → x < 2 ^ 64 → _≡_ {A = RowsSeen} (record { met = bitOr (s .met) x; one = s .one; two = s .two }) (metWith s x)
   met-is x h = λ i. record { met = word-is (bitOr (s .met) x) _ (or-lt 64 (s .met) x hm h) (λ j c. bit-or (s .met) x j) i; one = s .one; two = s .two }
 
   pub free-is : (p q : ℕ) → s .one < 2 ^ 64 → s .two < 2 ^ 64 → p < 2 ^ 64 → q < 2 ^ 64
-      → _≡_ {A = Seen} (record {
+      → _≡_ {A = RowsSeen} (record {
         met = bitOr (s .met) (bitAnd p q);
         one = bitOr (s .one) (bitOr p q);
         two = bitOr (s .two) (bitAnd (s .one) (bitOr p q));
@@ -65,7 +65,7 @@ module _ (index : List ℕ) (t f : ℕ) where
   }
 
   -- none looked at
-  pub seen-none : _≡_ {A = AllSeen} (record {
+  pub seen-none : _≡_ {A = AllRowsSeen} (record {
     a = record { met = 0; one = 0; two = 0 };
     b = record { met = 0; one = 0; two = 0 };
     c = record { met = 0; one = 0; two = 0 };
@@ -76,10 +76,10 @@ module _ (index : List ℕ) (t f : ℕ) where
   seen-none = λ i. record { a = none-in 0 i; b = none-in 1 i; c = none-in 2 i; d = none-in 3 i; e = none-in 4 i; f = none-in 5 i }
 
   module _ (v w : ℕ) where
-    abbrev seen : Seen
+    abbrev seen : RowsSeen
     seen = seenIn index t f v w
 
-    abbrev next : Seen
+    abbrev next : RowsSeen
     next = seenIn index t f (suc v) w
 
     met-next : (x : ℕ → Bool) → ((j : ℕ) → x j ≡ metBy index t f w j v) → wordOf (λ j. bit (seen .met) j || x j) 64 ≡ next .met
@@ -111,7 +111,7 @@ module _ (index : List ℕ) (t f : ℕ) where
           ∙ wordOf-cong _ _ 64 (λ j c. sym (ap (λ (x : Bool). bit (seen .two) j || x) (and-false (bit (seen .one) j)) ∙ or-false (bit (seen .two) j)))
           ∙ two-next (λ j. false) (λ j. sym (ap (λ (x : Bool). x && (listed index w j v || listed index w j (32 + v))) e))
 
-      set-next : (m : ℕ) → m ≡ next .met → _≡_ {A = Seen} (record { met = m; one = seen .one; two = seen .two }) next
+      set-next : (m : ℕ) → m ≡ next .met → _≡_ {A = RowsSeen} (record { met = m; one = seen .one; two = seen .two }) next
       set-next m q = λ i. record { met = q i; one = one-same i; two = two-same i }
 
     abbrev p : ℕ → Bool
@@ -144,7 +144,7 @@ module _ (index : List ℕ) (t f : ℕ) where
         ∙ met-next (λ j. p j || q j) (λ j. sym (rw (x, y) (agree-eq (taut2 (λ p q. agree (p && q || p && true || q && true) (p || q)) refl (p j) (q j))))))
 
   -- one more looked at
-  pub seen-next : (v : ℕ) (s r : AllSeen) (x y : Bool) → s ≡ allSeen index t f v → x ≡ bit t v → y ≡ bit f v → r ≡ allWith index x y v s
+  pub seen-next : (v : ℕ) (s r : AllRowsSeen) (x y : Bool) → s ≡ allSeen index t f v → x ≡ bit t v → y ≡ bit f v → r ≡ allWith index x y v s
       → r ≡ allSeen index t f (v + 1)
   seen-next v s r x y e p q h = h ∙ ap (allWith index x y v) e ∙ go x y (sym p) (sym q) ∙ ap (allSeen index t f) (sym (add-one v))
     where
@@ -183,7 +183,7 @@ module _ (index : List ℕ) (t f : ℕ) where
       }
 
   -- all looked at
-  pub seen-all : (v : ℕ) (s : AllSeen) → v ≤ 32 → 32 ≤ v → s ≡ allSeen index t f v → s ≡ allSeen index t f 32
+  pub seen-all : (v : ℕ) (s : AllRowsSeen) → v ≤ 32 → 32 ≤ v → s ≡ allSeen index t f v → s ≡ allSeen index t f 32
   seen-all v s g h e = let q : v ≡ 32 = omega arith in e ∙ ap (allSeen index t f) q
 
 -- ---- rows below the count
@@ -217,7 +217,7 @@ module _ (count w : ℕ) where
 -- ---- all rows
 
 -- those that no variable satisfies, from those below the count
-pub unmet-is : (rows : ℕ) (s : AllSeen) {a b c d e g : ℕ}
+pub unmet-is : (rows : ℕ) (s : AllRowsSeen) {a b c d e g : ℕ}
     → a ≡ wordOf (low rows 0) 64 → b ≡ wordOf (low rows 1) 64 → c ≡ wordOf (low rows 2) 64
     → d ≡ wordOf (low rows 3) 64 → e ≡ wordOf (low rows 4) 64 → g ≡ wordOf (low rows 5) 64
     → bitAnd a (18446744073709551615 - s .a .met) ∷ (bitAnd b (18446744073709551615 - s .b .met) ∷ (bitAnd c (18446744073709551615 - s .c .met)
@@ -225,7 +225,7 @@ pub unmet-is : (rows : ℕ) (s : AllSeen) {a b c d e g : ℕ}
     ≡ unmetBy rows s
 unmet-is rows s p q r t u o = cc
 
-pub survey-is : (words index : List ℕ) (n t f : ℕ) (seen : AllSeen) (unsatisfied few : List ℕ) (r : Tally)
+pub survey-is : (words index : List ℕ) (n t f : ℕ) (seen : AllRowsSeen) (unsatisfied few : List ℕ) (r : Tally)
     → seen ≡ allSeen index t f 32 → unsatisfied ≡ unmetBy n seen → few ≡ fewBy unsatisfied seen
     → r ≡ gathered words (4294967295 - bitOr t f) 0 0 unsatisfied few → r ≡ surveyed words index n t f
 unfolding surveyed

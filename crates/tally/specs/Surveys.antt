@@ -9,18 +9,18 @@ use lib.ListN.{getD}
 use Rattle.words.specs.Sets.{bit, any, count, wordOf}
 use Rattle.tables.specs.Rows.{free}
 use Rattle.tally.specs.declared.Tally.{Tally}
-use Rattle.tally.specs.declared.surveying.Seen.{Seen}
-use Rattle.tally.specs.declared.surveying.AllSeen.{AllSeen}
+use Rattle.tally.specs.declared.surveying.RowsSeen.{RowsSeen}
+use Rattle.tally.specs.declared.surveying.AllRowsSeen.{AllRowsSeen}
 use Rattle.tally.specs.Words.{gathered}
 
 -- ---- how code goes
 
 -- what is seen of 64 rows, with one more literal that is true: `own` are its rows
-abbrev pub metWith : Seen → ℕ → Seen
+abbrev pub metWith : RowsSeen → ℕ → RowsSeen
 metWith s own = record { met = wordOf (λ j. bit (s .met) j || bit own j) 64; one = s .one; two = s .two }
 
 -- with one more variable that is free: the rows of its two literals
-abbrev pub freeWith : Seen → ℕ → ℕ → Seen
+abbrev pub freeWith : RowsSeen → ℕ → ℕ → RowsSeen
 freeWith s positive negative = record {
   met = wordOf (λ j. bit (s .met) j || (bit positive j && bit negative j)) 64;
   one = wordOf (λ j. bit (s .one) j || (bit positive j || bit negative j)) 64;
@@ -28,14 +28,14 @@ freeWith s positive negative = record {
 }
 
 -- rows 64 w to 64 w + 63, literals by their numbers in the index
-abbrev pub wordMet : List ℕ → ℕ → ℕ → Seen → Seen
+abbrev pub wordMet : List ℕ → ℕ → ℕ → RowsSeen → RowsSeen
 wordMet index l w s = metWith s (getD index (6 * l + w) 0)
 
-abbrev pub wordFree : List ℕ → ℕ → ℕ → Seen → Seen
+abbrev pub wordFree : List ℕ → ℕ → ℕ → RowsSeen → RowsSeen
 wordFree index v w s = freeWith s (getD index (6 * v + w) 0) (getD index (6 * (32 + v) + w) 0)
 
 -- each word
-abbrev pub eachSeen : (ℕ → Seen → Seen) → AllSeen → AllSeen
+abbrev pub eachSeen : (ℕ → RowsSeen → RowsSeen) → AllRowsSeen → AllRowsSeen
 eachSeen word s = record {
   a = word 0 (s .a);
   b = word 1 (s .b);
@@ -46,17 +46,17 @@ eachSeen word s = record {
 }
 
 -- a set of rows by each word
-abbrev pub eachWord : (ℕ → Seen → ℕ) → AllSeen → List ℕ
+abbrev pub eachWord : (ℕ → RowsSeen → ℕ) → AllRowsSeen → List ℕ
 eachWord word s = word 0 (s .a) ∷ (word 1 (s .b) ∷ (word 2 (s .c) ∷ (word 3 (s .d) ∷ (word 4 (s .e) ∷ (word 5 (s .f) ∷ [])))))
 
-abbrev pub allMet : List ℕ → ℕ → AllSeen → AllSeen
+abbrev pub allMet : List ℕ → ℕ → AllRowsSeen → AllRowsSeen
 allMet index l s = eachSeen (wordMet index l) s
 
-abbrev pub allFree : List ℕ → ℕ → AllSeen → AllSeen
+abbrev pub allFree : List ℕ → ℕ → AllRowsSeen → AllRowsSeen
 allFree index v s = eachSeen (wordFree index v) s
 
 -- with one more variable, in T and in F or not
-abbrev pub allWith : List ℕ → Bool → Bool → ℕ → AllSeen → AllSeen
+abbrev pub allWith : List ℕ → Bool → Bool → ℕ → AllRowsSeen → AllRowsSeen
 allWith index t f v s = cond t (cond f (allMet index (32 + v) (allMet index v s)) (allMet index v s))
     (cond f (allMet index (32 + v) s) (allFree index v s))
 
@@ -76,14 +76,14 @@ abbrev pub freeBy : List ℕ → ℕ → ℕ → ℕ → ℕ → ℕ → Bool
 freeBy index t f w j v = free t f v && (listed index w j v || listed index w j (32 + v))
 
 -- what the variables below k show of rows 64 w to 64 w + 63
-abbrev pub seenIn : List ℕ → ℕ → ℕ → ℕ → ℕ → Seen
+abbrev pub seenIn : List ℕ → ℕ → ℕ → ℕ → ℕ → RowsSeen
 seenIn index t f k w = record {
   met = wordOf (λ j. any (metBy index t f w j) k) 64;
   one = wordOf (λ j. any (freeBy index t f w j) k) 64;
   two = wordOf (λ j. leb 2 (count (freeBy index t f w j) k)) 64;
 }
 
-abbrev pub allSeen : List ℕ → ℕ → ℕ → ℕ → AllSeen
+abbrev pub allSeen : List ℕ → ℕ → ℕ → ℕ → AllRowsSeen
 allSeen index t f k = record {
   a = seenIn index t f k 0;
   b = seenIn index t f k 1;
@@ -94,11 +94,11 @@ allSeen index t f k = record {
 }
 
 -- the rows that no variable satisfies; those at or above the count are in no set
-abbrev pub unmetBy : ℕ → AllSeen → List ℕ
+abbrev pub unmetBy : ℕ → AllRowsSeen → List ℕ
 unmetBy rows s = eachWord (λ w x. bitAnd (wordOf (λ j. ltb (64 * w + j) rows) 64) (18446744073709551615 - x .met)) s
 
 -- the rows of a set that hold at most one free variable
-abbrev pub fewBy : List ℕ → AllSeen → List ℕ
+abbrev pub fewBy : List ℕ → AllRowsSeen → List ℕ
 fewBy set s = eachWord (λ w x. bitAnd (getD set w 0) (18446744073709551615 - x .two)) s
 
 unfoldable pub surveyed : List ℕ → List ℕ → ℕ → ℕ → ℕ → Tally

@@ -6,27 +6,27 @@ ghost use Rattle.words.specs.Sets.{wordOf};
 ghost use Rattle.tally.specs.Surveys.{metWith, freeWith, wordMet, wordFree, allMet, allFree, allWith, allSeen, unmetBy, fewBy};
 
 // Of 64 rows those that a variable looked at satisfies, those that hold one that is free, and those that hold two.
-pub struct Seen {
+pub struct RowsSeen {
     pub met: u64,
     pub one: u64,
     pub two: u64,
 }
 
 // The same for all rows, word by word.
-pub struct AllSeen {
-    pub a: Seen,
-    pub b: Seen,
-    pub c: Seen,
-    pub d: Seen,
-    pub e: Seen,
-    pub f: Seen,
+pub struct AllRowsSeen {
+    pub a: RowsSeen,
+    pub b: RowsSeen,
+    pub c: RowsSeen,
+    pub d: RowsSeen,
+    pub e: RowsSeen,
+    pub f: RowsSeen,
 }
 
 // What is seen of 64 rows with one more literal that is true: `own` are its rows.
-fn met_with(s: Seen, own: u64) -> Seen
+fn met_with(s: RowsSeen, own: u64) -> RowsSeen
     ensures { λ r. ⌜ r ≡ metWith s own ⌝ }
 {
-    Seen {
+    RowsSeen {
         met: s.met | own,
         one: s.one,
         two: s.two,
@@ -34,11 +34,11 @@ fn met_with(s: Seen, own: u64) -> Seen
 }
 
 // The same with one more variable that is free: these are the rows of its two literals.
-fn free_with(s: Seen, positive: u64, negative: u64) -> Seen
+fn free_with(s: RowsSeen, positive: u64, negative: u64) -> RowsSeen
     ensures { λ r. ⌜ r ≡ freeWith s positive negative ⌝ }
 {
     let both = positive | negative;
-    Seen {
+    RowsSeen {
         met: s.met | positive & negative,
         one: s.one | both,
         two: s.two | s.one & both,
@@ -46,7 +46,7 @@ fn free_with(s: Seen, positive: u64, negative: u64) -> Seen
 }
 
 // The first for rows 64 w to 64 w + 63, with the literal's rows from the index.
-fn word_met(index: &[u64; 384], literal: usize, w: usize, s: Seen) -> Seen
+fn word_met(index: &[u64; 384], literal: usize, w: usize, s: RowsSeen) -> RowsSeen
     requires { ⌜ (literal < 64) × (w < 6) ⌝ }
     ensures { λ r. ⌜ r ≡ wordMet (now (index .entry)) literal w s ⌝ }
 {
@@ -54,7 +54,7 @@ fn word_met(index: &[u64; 384], literal: usize, w: usize, s: Seen) -> Seen
 }
 
 // The second for these rows.
-fn word_free(index: &[u64; 384], v: usize, w: usize, s: Seen) -> Seen
+fn word_free(index: &[u64; 384], v: usize, w: usize, s: RowsSeen) -> RowsSeen
     requires { ⌜ (v < 32) × (w < 6) ⌝ }
     ensures { λ r. ⌜ r ≡ wordFree (now (index .entry)) v w s ⌝ }
 {
@@ -62,7 +62,7 @@ fn word_free(index: &[u64; 384], v: usize, w: usize, s: Seen) -> Seen
 }
 
 // What is seen of all rows with one more literal that is true.
-fn all_met(index: &[u64; 384], literal: usize, s: AllSeen) -> AllSeen
+fn all_met(index: &[u64; 384], literal: usize, s: AllRowsSeen) -> AllRowsSeen
     requires { ⌜ literal < 64 ⌝ }
     ensures { λ r. ⌜ r ≡ allMet (now (index .entry)) literal s ⌝ }
 {
@@ -72,7 +72,7 @@ fn all_met(index: &[u64; 384], literal: usize, s: AllSeen) -> AllSeen
     let d = s.d;
     let e = s.e;
     let g = s.f;
-    AllSeen {
+    AllRowsSeen {
         a: word_met(index, literal, 0, a),
         b: word_met(index, literal, 1, b),
         c: word_met(index, literal, 2, c),
@@ -83,7 +83,7 @@ fn all_met(index: &[u64; 384], literal: usize, s: AllSeen) -> AllSeen
 }
 
 // What is seen of all rows with one more variable that is free.
-fn all_free(index: &[u64; 384], v: usize, s: AllSeen) -> AllSeen
+fn all_free(index: &[u64; 384], v: usize, s: AllRowsSeen) -> AllRowsSeen
     requires { ⌜ v < 32 ⌝ }
     ensures { λ r. ⌜ r ≡ allFree (now (index .entry)) v s ⌝ }
 {
@@ -93,7 +93,7 @@ fn all_free(index: &[u64; 384], v: usize, s: AllSeen) -> AllSeen
     let d = s.d;
     let e = s.e;
     let g = s.f;
-    AllSeen {
+    AllRowsSeen {
         a: word_free(index, v, 0, a),
         b: word_free(index, v, 1, b),
         c: word_free(index, v, 2, c),
@@ -104,7 +104,7 @@ fn all_free(index: &[u64; 384], v: usize, s: AllSeen) -> AllSeen
 }
 
 // What is seen of all rows with one more variable, in T and in F or not.
-fn all_with(index: &[u64; 384], t: bool, f: bool, v: usize, s: AllSeen) -> AllSeen
+fn all_with(index: &[u64; 384], t: bool, f: bool, v: usize, s: AllRowsSeen) -> AllRowsSeen
     requires { ⌜ v < 32 ⌝ }
     ensures { λ r. ⌜ r ≡ allWith (now (index .entry)) t f v s ⌝ }
 {
@@ -122,15 +122,15 @@ fn all_with(index: &[u64; 384], t: bool, f: bool, v: usize, s: AllSeen) -> AllSe
 }
 
 // What all 32 variables show of the rows.
-pub(crate) fn look(index: &[u64; 384], t: u32, f: u32) -> AllSeen
+pub(crate) fn look(index: &[u64; 384], t: u32, f: u32) -> AllRowsSeen
     ensures { λ r. ⌜ r ≡ allSeen (now (index .entry)) t f 32 ⌝ }
 {
-    let none = Seen {
+    let none = RowsSeen {
         met: 0,
         one: 0,
         two: 0,
     };
-    let mut seen = AllSeen {
+    let mut seen = AllRowsSeen {
         a: none,
         b: none,
         c: none,
@@ -163,7 +163,7 @@ fn below(count: usize, w: usize) -> u64
 }
 
 // The rows below the count that no variable satisfies.
-pub(crate) fn unsatisfied(count: usize, seen: AllSeen) -> [u64; 6]
+pub(crate) fn unsatisfied(count: usize, seen: AllRowsSeen) -> [u64; 6]
     ensures { λ r. ⌜ r ≡ unmetBy count seen ⌝ }
 {
     let a = seen.a;
@@ -183,7 +183,7 @@ pub(crate) fn unsatisfied(count: usize, seen: AllSeen) -> [u64; 6]
 }
 
 // The rows of a set that hold at most one free variable.
-pub(crate) fn few(set: [u64; 6], seen: AllSeen) -> [u64; 6]
+pub(crate) fn few(set: [u64; 6], seen: AllRowsSeen) -> [u64; 6]
     ensures { λ r. ⌜ r ≡ fewBy set seen ⌝ }
 {
     let a = seen.a;
