@@ -1,10 +1,11 @@
-//! What makes sources, proofs and docs/DECISIONS.md hard to read, counted: long lines, long ways back to a place of the code, words that
-//! say nothing, long cells of tables, and blocks of lines that stand in two places. Each number is held to its ceiling in
-//! tests/ceilings.txt.
+//! What makes sources, proofs and docs/DECISIONS.md hard to read, counted: long lines and files, long ways back to a place of the code,
+//! words that say nothing, laws without a word, long cells of tables, and blocks of lines that stand in two places. Each number is held to
+//! its ceiling in tests/ceilings.txt.
 
 use crate::contracts;
 use crate::report::Tally;
-use std::collections::HashMap;
+use crate::source;
+use std::collections::{BTreeSet, HashMap};
 use std::fs;
 use std::path::Path;
 
@@ -14,6 +15,8 @@ const DECISIONS: &str = "docs/DECISIONS.md";
 /// Characters of a line of code or of a definition, and of a line of a proof.
 const LINE: usize = 140;
 const PROOF_LINE: usize = 160;
+/// Lines of a file.
+const FILE: usize = 400;
 /// So many steps back, one behind the other, are a way that should have a name.
 const STEPS_BACK: usize = 6;
 /// Characters of a table's cell.
@@ -36,6 +39,11 @@ impl File {
     fn part(&self) -> &str {
         self.path.strip_prefix("crates/").and_then(|path| path.split('/').nth(1)).unwrap_or("")
     }
+
+    /// Its crate.
+    fn home(&self) -> &str {
+        self.path.strip_prefix("crates/").and_then(|path| path.split('/').next()).unwrap_or("")
+    }
 }
 
 /// A place where something stands that is counted, how much it counts, and what to say of it; the worst has the greatest size.
@@ -53,7 +61,7 @@ struct Kind {
     places: fn(&[File]) -> Vec<Place>,
 }
 
-const KINDS: [Kind; 7] = [
+const KINDS: [Kind; 9] = [
     Kind { name: "lines over 140 characters in src", places: |files| long_lines(files, "src", LINE) },
     Kind { name: "lines over 140 characters in specs", places: |files| long_lines(files, "specs", LINE) },
     Kind { name: "lines over 160 characters in proofs", places: |files| long_lines(files, "proofs", PROOF_LINE) },
@@ -61,6 +69,8 @@ const KINDS: [Kind; 7] = [
     Kind { name: "files with \"Assumes nothing\"", places: empty_words },
     Kind { name: "cells over 300 characters in docs/DECISIONS.md", places: long_cells },
     Kind { name: "lines in blocks of eight that stood before", places: repeated },
+    Kind { name: "laws that another crate uses with no sentence above", places: unexplained },
+    Kind { name: "files over 400 lines", places: long_files },
 ];
 
 /// A place that counts as one.
@@ -129,6 +139,41 @@ fn long_cells(files: &[File]) -> Vec<Place> {
         }
     }
     found
+}
+
+/// The laws that files of another crate bring by name and that no comment stands above.
+fn unexplained(files: &[File]) -> Vec<Place> {
+    let mut used = BTreeSet::new();
+    for file in files.iter().filter(|file| file.path.ends_with(".antt")) {
+        for source::Import { module, name, .. } in source::imports(&file.text) {
+            if let Some((owner, within)) =
+                module.strip_prefix("Rattle·").and_then(|module| module.split_once(".proofs."))
+            {
+                if owner != file.home() && !name.is_empty() {
+                    used.insert((format!("crates/{owner}/proofs/{}.antt", within.replace('.', "/")), name));
+                }
+            }
+        }
+    }
+    let mut found = vec![];
+    // what a function's check makes by itself has no file
+    let laws = used.iter().filter_map(|(path, name)| Some((files.iter().find(|file| file.path == *path)?, name)));
+    for (file, name) in laws {
+        let lines: Vec<&str> = file.text.lines().collect();
+        let defines =
+            |line: &&str| line.contains("pub ") && source::definitions(line).iter().any(|law| law.name == *name);
+        let at = lines.iter().position(defines);
+        if !at.map_or(false, |at| at > 0 && lines[at - 1].trim_start().starts_with("--")) {
+            found.push(single(file, at.map_or(0, |at| at + 1), 1, format!("{name} has no sentence above")));
+        }
+    }
+    found
+}
+
+/// Files of crates with more lines than a reader finds the way through.
+fn long_files(files: &[File]) -> Vec<Place> {
+    let sizes = files.iter().filter(|file| !file.part().is_empty()).map(|file| (file, file.text.lines().count()));
+    sizes.filter(|(_, size)| *size > FILE).map(|(file, size)| single(file, 1, size, format!("{size} lines"))).collect()
 }
 
 /// The lines of a file of a crate that can be part of a block, with their numbers: no comments, no `use`, no line of few letters.
@@ -264,6 +309,14 @@ fn samples() -> Vec<(Vec<(&'static str, String)>, usize, usize)> {
         (vec![(law, "  said the same once\n".repeat(16))], 6, 8),
         (vec![(law, "use lib.ListN.{length}\n".repeat(30)), (other_code, "    }\n".repeat(30))], 6, 0),
         (vec![("tests/src/a.rs", eight("a")), ("tests/src/b.rs", eight("a"))], 6, 0),
+        (vec![(law, "-- why\npub one : A\none = a\n".into()), (other_law, "use Rattle.a.proofs.Laws.{one}\n".into())], 7, 0),
+        (vec![(law, "pub one two : A\n".into()), (other_law, "use Rattle.a.proofs.Laws.{one as first, two}\n".into())], 7, 2),
+        (vec![(law, "-- why\n\npub one : A\n".into()), (other_law, "use Rattle.a.proofs.Laws.{one}\n".into())], 7, 1),
+        (vec![(law, "pub one : A\n".into()), ("crates/a/specs/M.antt", "use Rattle.a.proofs.Laws.{one}\n".into())], 7, 0),
+        (vec![(law, "pub one : A\n".into()), (other_law, "use Rattle.a.proofs.f.Met.{met}\nuse lib.Laws.{one}\n".into())], 7, 0),
+        (vec![(law, "-- why\none : A\n".into()), (other_law, "use Rattle.a.proofs.Laws.{one}\n".into())], 7, 1),
+        (vec![(law, "\n".repeat(400)), (code, "\n".repeat(400)), ("tests/src/a.rs", "\n".repeat(900))], 8, 0),
+        (vec![(law, "\n".repeat(401)), (code, "\n".repeat(900))], 8, 2),
     ]
 }
 
