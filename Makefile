@@ -27,8 +27,8 @@ run: target/static/pair
 # declared in include/forkhemit.h
 lib: target/lib/libforkhemit.a
 
-# what the library has, in nine crates
-HOSTS := host_runs host_indexed host_late host_explained host_circuits host_repeats host_texts host_excerpts host_lines
+# what the library has, in ten crates
+HOSTS := host_runs host_indexed host_solve host_late host_explained host_circuits host_repeats host_texts host_excerpts host_lines
 
 # One after the other: two calls of `rt staticlib` at once spoil each other's notes on the crates that both use. In the crates' object files
 # all names are local but those of the functions that hosts call, so the files stand side by side in one archive.

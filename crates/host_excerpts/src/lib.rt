@@ -1,6 +1,6 @@
 // For hosts in C and Rust: where a row's clause stands in its station's text. The function is a thin call of a proved entry. A slice passes
-// as a pointer and
-// then a length, an array as a pointer. It returns 0 where the call is taken, else the refusal's number, and then it writes nothing.
+// as a pointer and then a length, an array as a pointer. It returns 0 where the call is taken, else the refusal's number, and then it
+// writes nothing.
 use excerpts::Placed;
 ghost use mathlib.Core.Path.{_≡_};
 ghost use Rattle.dimensions.specs.Sizes.{dimensions};

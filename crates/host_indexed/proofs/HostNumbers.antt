@@ -1,5 +1,5 @@
--- What the index, the number of unsatisfied rows, the step and the run that go by them give on a host's numbers as bytes is what they give on the
--- numbers: refused sizes are refused alike, since the checks begin with those.
+-- What the index, the number of unsatisfied rows and the step that goes by them give on a host's numbers as bytes is what they give on the numbers:
+-- refused sizes are refused alike, since the checks begin with those.
 use mathlib.Core.Path.{_≡_, sym, ap, _∙_}
 use mathlib.Core.List.{List}
 use Prim.Native.Nat.{ℕ}
@@ -17,9 +17,6 @@ use Rattle.tables.specs.Acceptance.{tableChecks}
 use Rattle.tables.proofs.Accepted.{refuse-size}
 use Rattle.state.specs.declared.Run.{Run}
 use Rattle.state.specs.WellFormed.{stateChecks}
-use Rattle.solver.specs.declared.Solved.{Solved}
-use Rattle.solver.specs.declared.Solved.the-variants as solved′
-use Rattle.solver.specs.Entries.{solved}
 use Rattle.indexed.specs.declared.Counted.{Counted}
 use Rattle.indexed.specs.declared.Counted.the-variants as counted′
 use Rattle.indexed.specs.declared.SteppedIndexed.{SteppedIndexed}
@@ -50,10 +47,6 @@ module _ (tables : Tables) (d : Dimensions) (q : Refusal) (h : outcome (sizeChec
       ap (λ (o : Outcome). steppedBy o (d .n) rows run number)
       (outcome-refused (tableChecks d tables) (indexedChecks (d .n) rows index run number) q accept-refused)
 
-  solve-refused : (budget : ℕ) → solved d tables budget ≡ solved′.Refused q
-  unfolding solved
-  solve-refused budget = rw accept-refused
-
 -- ---- any sizes
 
 module _ (asked d : Dimensions) (e : d ≡ asBytes asked) (tables : Tables) where
@@ -75,6 +68,3 @@ module _ (asked d : Dimensions) (e : d ≡ asBytes asked) (tables : Tables) wher
       on-numbers asked (λ x. steppedIndexed x tables index run k) (λ q. record { outcome = Refused q; run = run; number = k })
       (λ x q h. step-refused tables x q h index run k) d e s r
       ∙ ap (λ (x : Run). steppedIndexed asked tables index x k) held
-
-  pub solve-is : (budget : ℕ) (s : Solved) → s ≡ solved d tables budget → s ≡ solved asked tables budget
-  solve-is budget = on-numbers asked (λ x. solved x tables budget) solved′.Refused (λ x q h. solve-refused tables x q h budget) d e

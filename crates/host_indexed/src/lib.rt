@@ -1,9 +1,7 @@
-// For hosts in C and Rust: the rows of each literal as an index, the number of unsatisfied rows, and the step and the budgeted run that go
-// by them.
+// For hosts in C and Rust: the rows of each literal as an index, the number of unsatisfied rows, and the step that goes by them.
 // Each function is a thin call of a proved entry. A slice passes as a pointer and then a length, an array as a pointer.
 // It returns 0 where the call is taken, else the refusal's number, and then all lent memory is as it was.
 use indexed::Counted;
-use solver::Solved;
 ghost use mathlib.Core.Path.{_≡_};
 ghost use mathlib.Core.List.{[], _∷_};
 ghost use Rattle.refusals.specs.Checks.{outcome};
@@ -11,7 +9,6 @@ ghost use Rattle.refusals.specs.Numbers.{codeOf};
 ghost use Rattle.dimensions.specs.Sizes.{dimensions};
 ghost use Rattle.tables.specs.Tables.{allTables};
 ghost use Rattle.tables.specs.Acceptance.{tableChecks};
-ghost use Rattle.solver.specs.Entries.{solved, solvedCode, solvedNumbers};
 ghost use Rattle.indexed.specs.Entries.{indexAfter, counted, countedCode, countedNumbers};
 ghost use Rattle.stored.specs.Words.{runIn};
 ghost use Rattle.lent.specs.Lent.{numbersOr, storedIf};
@@ -111,40 +108,4 @@ pub extern "C" fn forkhemit_step_indexed(
     lent::store_if(outcome, next, run);
     *number = [stepped.number];
     codes::code(outcome)
-}
-
-// The answer of a fresh run under a budget by the indexed run: count, verdict, model; 1, 2, 4 or 3 where it is turned back.
-#[no_mangle]
-pub extern "C" fn forkhemit_solve_indexed(
-    n: u64,
-    left_rows: u64,
-    right_rows: u64,
-    public_rows: u64,
-    left: &[u32],
-    right: &[u32],
-    public: &[u32],
-    budget: u64,
-    answer: &mut [u64; 3],
-) -> u8
-    ensures { λ r.
-        ⌜ r ≡ solvedCode (solved (dimensions n «left_rows» «right_rows» «public_rows»)
-        (allTables (now (left .entry)) (now (right .entry)) (now (public .entry))) budget) ⌝ }
-    ensures { λ _.
-        ⌜ now (answer .exit) ≡ numbersOr
-        (solvedNumbers (solved (dimensions n «left_rows» «right_rows» «public_rows»)
-        (allTables (now (left .entry)) (now (right .entry)) (now (public .entry))) budget)) (now (answer .entry)) ⌝ }
-{
-    let d = codes::dimensions(n, left_rows, right_rows, public_rows);
-    match indexed::solve_indexed(d, left, right, public, budget) {
-        Solved::Of(given) => {
-            let verdict = given.verdict;
-            *answer = [
-                given.count,
-                codes::verdict_number(verdict),
-                codes::model_word(verdict),
-            ];
-            return 0;
-        }
-        Solved::Refused(refusal) => return refusals::number(refusal),
-    }
 }

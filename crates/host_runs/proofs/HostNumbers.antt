@@ -1,4 +1,4 @@
--- What acceptance, counts of rows, the fresh run, step and budgeted run give on a host's numbers as bytes is what they give on the numbers: refused sizes are
+-- What acceptance, counts of rows, the fresh run and the step give on a host's numbers as bytes is what they give on the numbers: refused sizes are
 -- refused alike, since the checks begin with those.
 use mathlib.Core.Path.{_≡_, ap, _∙_}
 use mathlib.Core.List.{List, _∷_}
@@ -20,9 +20,7 @@ use Rattle.state.specs.State.{fresh, runOf}
 use Rattle.state.specs.WellFormed.{stateChecks}
 use Rattle.free_counts.specs.Counts.{countChecks, countsAfter}
 use Rattle.solver.specs.declared.Stepped.{Stepped}
-use Rattle.solver.specs.declared.Solved.{Solved}
-use Rattle.solver.specs.declared.Solved.the-variants as solved′
-use Rattle.solver.specs.Entries.{stepped, solved}
+use Rattle.solver.specs.Entries.{stepped}
 use Rattle.stored.specs.Words.{runIn}
 use Rattle.lent.specs.Lent.{storedIf}
 use Rattle.codes.specs.Codes.{variableChecks}
@@ -47,10 +45,6 @@ module _ (tables : Tables) (d : Dimensions) (q : Refusal) (h : outcome (sizeChec
   unfolding stepped
   step-refused run = rw (outcome-refused (tableChecks d tables) (stateChecks d run) q accept-refused)
 
-  solve-refused : (budget : ℕ) → solved d tables budget ≡ solved′.Refused q
-  unfolding solved
-  solve-refused budget = rw accept-refused
-
 -- ---- any n
 
 pub fresh-is : (n k : ℕ) → k ≡ min n 255 → (words : List ℕ)
@@ -73,9 +67,6 @@ module _ (asked d : Dimensions) (e : d ≡ asBytes asked) (tables : Tables) wher
     counts-are counts after r =
         on-numbers asked (λ x. countsAfter x tables run counts) (λ q. counts) (λ x q h. counts-refused tables x q h run counts) d e after r
         ∙ ap (λ (x : Run). countsAfter asked tables x counts) held
-
-  pub solve-is : (budget : ℕ) (s : Solved) → s ≡ solved d tables budget → s ≡ solved asked tables budget
-  solve-is budget = on-numbers asked (λ x. solved x tables budget) solved′.Refused (λ x q h. solve-refused tables x q h budget) d e
 
   pub step-is : (words : List ℕ) (run : Run) → run ≡ runIn words → (s : Stepped) → s ≡ stepped d tables run → s ≡ stepIn asked tables words
   step-is words run held s r =

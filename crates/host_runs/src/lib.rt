@@ -1,7 +1,6 @@
-// For hosts in C and Rust: whether tables are accepted, the judging of rows, the giant step in place, and the budgeted run.
+// For hosts in C and Rust: whether tables are accepted, the judging of rows, the fresh run, the giant step in place, and the model.
 // Each function is a thin call of a proved entry. A slice passes as a pointer and then a length, an array as a pointer.
 // It returns 0 where the call is taken, else the refusal's number, and then it writes nothing.
-use solver::Solved;
 use state::Run;
 use tables::Look;
 use verdicts::Modelled;
@@ -13,7 +12,6 @@ ghost use Rattle.dimensions.specs.Sizes.{dimensions};
 ghost use Rattle.tables.specs.Tables.{allTables};
 ghost use Rattle.tables.specs.Rows.{lookNumber};
 ghost use Rattle.tables.specs.Acceptance.{tableChecks};
-ghost use Rattle.solver.specs.Entries.{solved, solvedCode, solvedNumbers};
 ghost use Rattle.verdicts.specs.Verdicts.{modelOf, modelCode, modelNumbers};
 ghost use Rattle.state.specs.State.{fresh, runOf};
 ghost use Rattle.stored.specs.Words.{runIn};
@@ -142,42 +140,6 @@ pub extern "C" fn forkhemit_step(
     let next = stepped.run;
     lent::store_if(outcome, next, run);
     codes::code(outcome)
-}
-
-// The answer of a fresh run under a budget: count, verdict, model; 1, 2, 4 or 3 where it is turned back, and then no number is written.
-#[no_mangle]
-pub extern "C" fn forkhemit_solve(
-    n: u64,
-    left_rows: u64,
-    right_rows: u64,
-    public_rows: u64,
-    left: &[u32],
-    right: &[u32],
-    public: &[u32],
-    budget: u64,
-    answer: &mut [u64; 3],
-) -> u8
-    ensures { λ r.
-        ⌜ r ≡ solvedCode (solved (dimensions n «left_rows» «right_rows» «public_rows»)
-        (allTables (now (left .entry)) (now (right .entry)) (now (public .entry))) budget) ⌝ }
-    ensures { λ _.
-        ⌜ now (answer .exit) ≡ numbersOr
-        (solvedNumbers (solved (dimensions n «left_rows» «right_rows» «public_rows»)
-        (allTables (now (left .entry)) (now (right .entry)) (now (public .entry))) budget)) (now (answer .entry)) ⌝ }
-{
-    let d = codes::dimensions(n, left_rows, right_rows, public_rows);
-    match solver::solve(d, left, right, public, budget) {
-        Solved::Of(given) => {
-            let verdict = given.verdict;
-            *answer = [
-                given.count,
-                codes::verdict_number(verdict),
-                codes::model_word(verdict),
-            ];
-            return 0;
-        }
-        Solved::Refused(refusal) => return refusals::number(refusal),
-    }
 }
 
 // The model of a satisfied run, the variables that are true, as a word; 12 or 14 where it is turned back, and then no number is written.
