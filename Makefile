@@ -1,9 +1,9 @@
 # make test: proves and tests everything. make run: solves the example. make lib: the library for hosts, target/lib/libforkhemit.a.
-# make install PREFIX=/usr/local: programs, library, header, man pages and documents there (below DESTDIR); make uninstall takes them away.
+# make install PREFIX=/DIR: programs, library, header, man pages and documents there (below DESTDIR); make uninstall takes them away.
 # make examples: builds the example hosts and runs them. make bench: compares with other solvers and with plain Rust.
 # make checktime: how long each crate's check takes, from nothing. make pictures: draws docs/pictures anew.
 # make fmt: puts every file in its layout. make fmt-check: says which are not.
-.PHONY: test run lib install uninstall examples bench checktime pictures fmt fmt-check
+.PHONY: test run lib install absolute uninstall examples bench checktime pictures fmt fmt-check
 # `rt` keeps notes in target: one call at a time.
 .NOTPARALLEL:
 
@@ -57,7 +57,7 @@ target/shared/libforkhemit.so: target/lib/libforkhemit.a include/forkhemit.h
 	cc -shared -nostartfiles -o $@ -Wl,-soname,$(SONAME),-z,text,-z,defs,-z,now,-z,noexecstack -Wl,--whole-archive $< -Wl,--no-whole-archive
 
 # `pair` and `circuit` are too general as names of commands: there they begin with the product's.
-install: $(PROGRAMS:%=target/static/%) target/lib/libforkhemit.a target/shared/libforkhemit.so
+install: absolute $(PROGRAMS:%=target/static/%) target/lib/libforkhemit.a target/shared/libforkhemit.so
 	install -d $(DESTDIR)$(PREFIX)/bin $(DESTDIR)$(PREFIX)/include $(LIB)/pkgconfig $(MAN) $(DOC)
 	for program in $(PROGRAMS); do \
 	  install -m 755 target/static/$$program $(DESTDIR)$(PREFIX)/bin/forkhemit-$$program && \
@@ -71,8 +71,13 @@ install: $(PROGRAMS:%=target/static/%) target/lib/libforkhemit.a target/shared/l
 	$(FILLED) forkhemit.pc.in | install -m 644 /dev/stdin $(LIB)/pkgconfig/forkhemit.pc
 	install -m 644 LICENSE CHANGES.md docs/GUIDE.md $(DOC)
 	find examples -type f -exec install -D -m 644 {} $(DOC)/{} \;
+	@echo 'installed. Before a host over the shared library runs: ldconfig, or LD_LIBRARY_PATH=$(LIBDIR)'
 
-uninstall:
+# The pkg-config file and the man pages' readers go by it, wherever they stand.
+absolute:
+	@case '$(PREFIX)' in /*) ;; *) echo "PREFIX is a whole path, as /usr/local, and not '$(PREFIX)'" >&2; exit 1 ;; esac
+
+uninstall: absolute
 	rm -f $(PROGRAMS:%=$(DESTDIR)$(PREFIX)/bin/forkhemit-%) $(PROGRAMS:%=$(MAN)/forkhemit-%.1) $(DESTDIR)$(PREFIX)/include/forkhemit.h
 	rm -f $(LIB)/libforkhemit.a $(LIB)/libforkhemit.so $(LIB)/$(SONAME) $(LIB)/libforkhemit.so.$(VERSION) $(LIB)/pkgconfig/forkhemit.pc
 	rm -rf $(DOC)

@@ -3,10 +3,11 @@
  * Every function is proved to meet its contract, which stands in crates/host_runs, host_indexed, host_solve, host_late, host_explained,
  * host_circuits, host_repeats, host_texts, host_excerpts and host_lines.
  * `make lib` writes the archive to link, target/lib/libforkhemit.a, for x86-64 Linux; it needs C's memcpy and memset and nothing else. docs/GUIDE.md
- * has the calls in the order in which a host makes them, examples/host hosts in C and in Rust.
+ * has the calls in the order in which a host makes them, examples/host hosts in C, in Rust and in Python.
  *
- * `make install PREFIX=..` puts this header, archive and shared library there. `pkg-config --cflags --libs forkhemit` then says how to compile
- * and link, and the guide and the examples stand in share/doc/forkhemit.
+ * `make install PREFIX=/DIR` puts this header, archive and shared library there. `pkg-config --cflags --libs forkhemit` then says how to compile
+ * and link, and the guide and the examples stand in share/doc/forkhemit. With these flags the shared library is taken, which the loader must
+ * find: `ldconfig` once, or LD_LIBRARY_PATH (docs/GUIDE.md, "Linking"). With the archive named in their place nothing need be set.
  *
  * Rules for every call
  * - An array, as `uint64_t sizes[4]`, is lent as a pointer: it has at least so many elements. Any other buffer is lent as a pointer and
@@ -23,7 +24,8 @@
  *
  * Tables: n variables, 1 to 32; each station has 1 to 128 rows. The public table, known to both stations, has 0 to 128 rows; it stands and
  * is judged behind the right one, so there are at most 384 rows in all. A row is two words, the variables that it holds positive and those
- * that it holds negative; bit i - 1 stands for variable i. A table of r rows is 2 * r words; words past them are not looked at.
+ * that it holds negative; bit i - 1 stands for variable i. A row that holds a variable in both words is padding: it is always satisfied and
+ * says nothing. A table of r rows is 2 * r words; words past them are not looked at.
  */
 #ifndef FORKHEMIT_H
 #define FORKHEMIT_H
@@ -45,13 +47,16 @@
 #define FORKHEMIT_TABLE_WORDS 256
 /* Bytes that take any one line of the circuit text. */
 #define FORKHEMIT_LINE_BYTES 128
+/* Bytes that take any answer. */
+#define FORKHEMIT_ANSWER_BYTES 256
 
 #ifdef __cplusplus
 extern "C" {
 #endif
 
-/* Why a call was turned back. The lowest that applies is returned, except that 4 comes before 3, and the 3 of a new row last; of three texts whatever refuses the left
- * one, then the right one, then the public one. In a text, a header's 1 or 2 comes before 5, and an overlong text is 5 before all else. */
+/* Why a call was turned back. The lowest that applies is returned, except that 4 comes before 3, and the 3 of a new row last; of three texts
+ * whatever refuses the left one, then the right one, then the public one. In a text, a header's 1 or 2 comes before 5, and an overlong text is
+ * 5 before all else. */
 enum forkhemit_refusal_number {
     FORKHEMIT_TAKEN = 0,            /* not turned back */
     FORKHEMIT_VARIABLES = 1,        /* n outside 1 to 32 */
@@ -125,7 +130,8 @@ uint8_t forkhemit_judge(uint32_t positive, uint32_t negative, uint32_t t, uint32
 /* run: the fresh run of n variables. 1. */
 uint8_t forkhemit_fresh(uint64_t n, uint32_t run[FORKHEMIT_RUN_WORDS]);
 
-/* run: after one giant step, in place. 1, 2, 4, 3, 12, 13. */
+/* run: after one giant step, in place. A run that is closed already stays as it is, and the call is taken: look at word 1 before a step is
+ * counted. 1, 2, 4, 3, 12, 13. */
 uint8_t forkhemit_step(uint64_t n, uint64_t left_rows, uint64_t right_rows, uint64_t public_rows,
                        const uint32_t *left, size_t left_length, const uint32_t *right, size_t right_length,
                        const uint32_t *public_table, size_t public_length, uint32_t run[FORKHEMIT_RUN_WORDS]);
@@ -133,7 +139,9 @@ uint8_t forkhemit_step(uint64_t n, uint64_t left_rows, uint64_t right_rows, uint
 /* A fresh run until it closes or the budget of steps is spent; 2^(n+1) - 1 steps are always enough.
  * answer: steps taken, verdict (forkhemit_verdict), model as a word, 0 without one.
  * Every call begins afresh and keeps nothing. To go on where a budget ended, keep a run of your own, forkhemit_fresh's, and give it more
- * steps with forkhemit_step or more repeats with forkhemit_repeat: it goes on from where it stands, and the counts add up. 1, 2, 4, 3. */
+ * steps with forkhemit_step or more repeats with forkhemit_repeat: it goes on from where it stands, and the counts add up. A call for each
+ * step judges tables and run each time: where the answer alone counts, it is sooner there with this call again and twice the budget.
+ * 1, 2, 4, 3. */
 uint8_t forkhemit_solve(uint64_t n, uint64_t left_rows, uint64_t right_rows, uint64_t public_rows,
                         const uint32_t *left, size_t left_length, const uint32_t *right, size_t right_length,
                         const uint32_t *public_table, size_t public_length, uint64_t budget, uint64_t answer[3]);
@@ -183,7 +191,8 @@ uint8_t forkhemit_step_indexed(uint64_t n, uint64_t left_rows, uint64_t right_ro
                                const uint32_t *public_table, size_t public_length, const uint64_t index[FORKHEMIT_INDEX_WORDS],
                                uint32_t run[FORKHEMIT_RUN_WORDS], uint64_t number[1]);
 
-/* answer: as forkhemit_solve, which reads every row in every step; here a variable that is set leads to its own rows only. 1, 2, 4, 3. */
+/* answer: as forkhemit_solve, which reads every row in every step; here a variable that is set leads to its own rows only. To go on after
+ * a budget, see there. 1, 2, 4, 3. */
 uint8_t forkhemit_solve_indexed(uint64_t n, uint64_t left_rows, uint64_t right_rows, uint64_t public_rows,
                                 const uint32_t *left, size_t left_length, const uint32_t *right, size_t right_length,
                                 const uint32_t *public_table, size_t public_length, uint64_t budget, uint64_t answer[3]);
@@ -191,7 +200,7 @@ uint8_t forkhemit_solve_indexed(uint64_t n, uint64_t left_rows, uint64_t right_r
 /* ---- late conditions */
 
 /*
- * While its run is open, a station may put another row in the place of one of its own padding rows: rows that hold a variable in both words.
+ * While its run is open, a station may put another row in the place of one of its own padding rows.
  * Steps and repeats read the tables as they stand when they begin, so call these between two of them, never during one. Satisfiable and
  * unsatisfiable are then about the tables as they are when the run closes, and 2^(n+1) - 1 steps from the fresh run are still enough. Row
  * counts do not change, so neither does the circuit: leave padding rows in the tables from the start.
@@ -298,9 +307,10 @@ uint8_t forkhemit_write_lines(uint64_t n, uint64_t left_rows, uint64_t right_row
 /* budget: the number of a budget line, digits and LF, at most 100 bytes; bytes behind the LF are not looked at. 8. */
 uint8_t forkhemit_read_budget(const uint8_t *line, size_t line_length, uint64_t budget[1]);
 
-/* text: the answer as the pair program prints it, then what stood there. length: its bytes, at most 256. A verdict that is no
- * forkhemit_verdict is unknown; with satisfiable, the first n variables of the model are printed. 1. */
-uint8_t forkhemit_answer(uint64_t n, uint64_t count, uint64_t verdict, uint64_t model, uint8_t text[256], uint64_t length[1]);
+/* text: the answer as the pair program prints it, then what stood there. length: its bytes, at most FORKHEMIT_ANSWER_BYTES. A verdict
+ * that is no forkhemit_verdict is unknown; with satisfiable, the first n variables of the model are printed. 1. */
+uint8_t forkhemit_answer(uint64_t n, uint64_t count, uint64_t verdict, uint64_t model, uint8_t text[FORKHEMIT_ANSWER_BYTES],
+                         uint64_t length[1]);
 
 #ifdef __cplusplus
 }

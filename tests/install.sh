@@ -67,6 +67,8 @@ masked() { (umask 077 && make --silent install PREFIX="$prefix"); }
 trial 'installed' masked
 if [ "$failed" -gt 0 ]; then end; fi
 trial 'everybody can read all of it' prints '' find "$prefix" ! -type l ! -perm -o=r -o -type d ! -perm -o=x
+relative() { ! make --silent install PREFIX=prefix && [ ! -e prefix ]; }
+trial 'a PREFIX that is no whole path is turned back' relative
 trial 'installed below DESTDIR' make --silent install PREFIX="$prefix" DESTDIR="$room/stage"
 trial 'with the same files' diff -r --no-dereference "$prefix" "$room/stage$prefix"
 trial 'nothing is left to be filled in' prints '' grep -rnI '@[A-Z]*@' "$prefix"

@@ -115,7 +115,7 @@ int main(void)
     same(model[0] == answer[2], "the same model");
 
     /* texts */
-    UNSET(uint8_t, text, 256);
+    UNSET(uint8_t, text, FORKHEMIT_ANSWER_BYTES);
     UNSET(uint64_t, length, 1);
     TAKEN(forkhemit_answer(d[0], answer[0], answer[1], answer[2], text, length));
     fwrite(text, 1, length[0], stdout);

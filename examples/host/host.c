@@ -89,7 +89,7 @@ int main(int count, char **arguments)
     if (answer[0] != repeated[0] || answer[1] != verdict || answer[2] != model[0])
         return wrong("the budgeted run answers otherwise");
 
-    uint8_t text[256];
+    uint8_t text[FORKHEMIT_ANSWER_BYTES];
     uint64_t length[1] = {0};
     refusal = forkhemit_answer(d[0], repeated[0], verdict, model[0], text, length);
     if (refusal != 0)

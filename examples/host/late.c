@@ -110,7 +110,7 @@ int main(int count, char **arguments)
 
     /* The answer is about the tables as they are at the close. */
     uint64_t model[1] = {0}, length[1] = {0};
-    uint8_t text[256];
+    uint8_t text[FORKHEMIT_ANSWER_BYTES];
     if (run[1] == FORKHEMIT_SATISFIED)
         taken(forkhemit_model(run, model));
     taken(forkhemit_answer(d[0], steps, run[1], model[0], text, length));

@@ -14,7 +14,7 @@ use std::path::Path;
 /// Words that the page has in quotes and that name nothing of the project's.
 #[rustfmt::skip]
 const WORDS: &[&str] = &[
-    "rt ci", "requires", "ensures", "cc", "memcpy", "memset", "read", "write", "axioms=5", "axioms=2", "crates/NAME/src", "crates/NAME/specs",
+    "rt ci", "requires", "ensures", "cc", "memcpy", "memset", "read", "write", "axioms=5", "axioms=2", "logic-built=trusted", "libraries-built=trusted", "target", "crates/NAME/src", "crates/NAME/specs",
     "crates/NAME/proofs", "crates/NAME/must-fail", "×", "→", "⊥", "now", ".entry", ".exit", "use",
 ];
 
