@@ -57,50 +57,21 @@ fn solve(n: usize, tables: &[Vec<u32>; 3]) -> [u64; 3] {
     solve_by(forkhemit_solve, n, tables, u64::MAX)
 }
 
-/// A run of the library within a budget.
-fn solve_by(solve: Solve, n: usize, [left, right, public]: &[Vec<u32>; 3], budget: u64) -> [u64; 3] {
-    let mut answer = [0; 3];
-    let [l, r, p] = [left, right, public].map(|words| words.len() as u64 / 2);
-    // The tables and the answer are lent for the call.
-    let number = unsafe {
-        solve(
-            n as u64,
-            l,
-            r,
-            p,
-            left.as_ptr(),
-            left.len(),
-            right.as_ptr(),
-            right.len(),
-            public.as_ptr(),
-            public.len(),
-            budget,
-            &mut answer,
-        )
-    };
-    assert_eq!(number, 0, "the tables are accepted");
-    answer
+/// Calls a function of the library over three tables, which are lent for the call, and over what follows them.
+macro_rules! lent {
+    ($function:expr, $n:expr, $tables:expr, $($more:expr),+) => {{
+        let [left, right, public] = $tables;
+        let [l, r, p] = [left, right, public].map(|words| words.len() as u64 / 2);
+        let [(a, x), (b, y), (c, z)] = [left, right, public].map(|words| (words.as_ptr(), words.len()));
+        unsafe { $function($n as u64, l, r, p, a, x, b, y, c, z, $($more),+) }
+    }};
 }
 
-/// One step of the library's, the tables and the run being judged.
-fn step(n: usize, [left, right, public]: &[Vec<u32>; 3], run: &mut [u32; 101]) -> u8 {
-    let [l, r, p] = [left, right, public].map(|words| words.len() as u64 / 2);
-    // The tables and the run are lent for the call.
-    unsafe {
-        forkhemit_step(
-            n as u64,
-            l,
-            r,
-            p,
-            left.as_ptr(),
-            left.len(),
-            right.as_ptr(),
-            right.len(),
-            public.as_ptr(),
-            public.len(),
-            run,
-        )
-    }
+/// A run of the library within a budget.
+fn solve_by(solve: Solve, n: usize, tables: &[Vec<u32>; 3], budget: u64) -> [u64; 3] {
+    let mut answer = [0; 3];
+    assert_eq!(lent!(solve, n, tables, budget, &mut answer), 0, "the tables are accepted");
+    answer
 }
 
 /// The library's run beside the plain one, over all tables; the median over repeated rounds.
@@ -168,7 +139,7 @@ fn single_steps(n: usize, m: usize, padding: usize) {
         let (mut runs, mut others) = (vec![fresh; TABLES], vec![fresh; TABLES]);
         let (_, time) = clock::of(|| {
             for ((tables, run), &count) in all.iter().zip(&mut runs).zip(&counts) {
-                (0..count).for_each(|_| assert_eq!(step(n, tables, run), 0));
+                (0..count).for_each(|_| assert_eq!(lent!(forkhemit_step, n, tables, run), 0));
             }
         });
         let (_, other) = clock::of(|| {
@@ -182,29 +153,6 @@ fn single_steps(n: usize, m: usize, padding: usize) {
     }
     let (a, b) = (median(proved), median(plain));
     println!("a step by itself, n = {n}, m = {m}: {a:.0} ns, plain Rust {b:.0} ns, ratio {:.2} ({total} steps)", a / b);
-}
-
-/// The free literals of each row, counted by the library, the tables and the run being judged.
-fn count_free(n: usize, [left, right, public]: &[Vec<u32>; 3], run: &[u32; 101], counts: &mut [u8]) -> u8 {
-    let [l, r, p] = [left, right, public].map(|words| words.len() as u64 / 2);
-    // The tables, the run and the counts are lent for the call.
-    unsafe {
-        forkhemit_count_free(
-            n as u64,
-            l,
-            r,
-            p,
-            left.as_ptr(),
-            left.len(),
-            right.as_ptr(),
-            right.len(),
-            public.as_ptr(),
-            public.len(),
-            run,
-            counts.as_mut_ptr(),
-            counts.len(),
-        )
-    }
 }
 
 /// Free literals counted side by side, a byte a row, after some steps, beside plain Rust that judges tables and run too.
@@ -221,7 +169,7 @@ fn counts(n: usize, m: usize) {
     for _ in 0..RUNS {
         let (_, time) = clock::of(|| {
             for ((tables, run), counts) in all.iter().zip(&runs).zip(counts.chunks_mut(m)) {
-                assert_eq!(count_free(n, tables, run, counts), 0);
+                assert_eq!(lent!(forkhemit_count_free, n, tables, run, counts.as_mut_ptr(), counts.len()), 0);
             }
         });
         let (_, other) = clock::of(|| {

@@ -250,22 +250,39 @@ fn blocks(page: &str) -> Vec<String> {
     blocks
 }
 
-/// What is wrong with the numbers in columns that are headed `lines`: each is the sum over the files that the row begins with.
-fn miscounted(page: &str, index: &Index) -> Vec<String> {
-    let (mut faults, mut column) = (vec![], None::<usize>);
+/// The rows of a page's tables, each as the cells of its table's head and its own.
+fn rows(page: &str) -> Vec<(Vec<&str>, Vec<&str>)> {
+    let (mut found, mut head) = (vec![], None::<Vec<&str>>);
     for line in page.lines() {
         let cells: Vec<&str> = line.split('|').map(str::trim).collect();
         if cells.len() < 3 {
-            column = None;
-        } else if let Some(place) = column.filter(|&place| place < cells.len() && !cells[place].starts_with('-')) {
-            let mut named = vec![];
-            unknown(cells[1], index, &mut named);
-            let sum: usize = named.iter().filter_map(|path| index.lines.get(path)).sum();
-            if cells[place] != sum.to_string() {
-                faults.push(format!("{} says {} lines, and has {sum}", cells[1], cells[place]));
-            }
-        } else if column.is_none() {
-            column = cells.iter().position(|cell| *cell == "lines");
+            head = None;
+        } else if let Some(head) = &head {
+            found.push((head.clone(), cells));
+        } else {
+            head = Some(cells);
+        }
+    }
+    // the line of dashes below a head is none
+    found.retain(|(_, cells)| !cells[1].starts_with('-'));
+    found
+}
+
+/// The files that a row begins with.
+fn files_of(cells: &[&str], index: &Index) -> Vec<String> {
+    let mut named = vec![];
+    unknown(cells[1], index, &mut named);
+    named.into_iter().filter(|path| index.lines.contains_key(path)).collect()
+}
+
+/// What is wrong with the numbers in columns that are headed `lines`: each is the sum over the files that the row begins with.
+fn miscounted(page: &str, index: &Index) -> Vec<String> {
+    let mut faults = vec![];
+    for (head, cells) in rows(page) {
+        let said = head.iter().position(|cell| *cell == "lines").and_then(|place| cells.get(place));
+        let sum: usize = files_of(&cells, index).iter().map(|path| index.lines[path]).sum();
+        if let Some(said) = said.filter(|said| **said != sum.to_string()) {
+            faults.push(format!("{} says {said} lines, and has {sum}", cells[1]));
         }
     }
     faults
@@ -273,18 +290,8 @@ fn miscounted(page: &str, index: &Index) -> Vec<String> {
 
 /// The files whose definitions must be believed: those of the tables that have a column `say` and a column `lines`.
 fn believed(page: &str, index: &Index) -> Vec<String> {
-    let (mut files, mut listed) = (vec![], None::<bool>);
-    for line in page.lines() {
-        let cells: Vec<&str> = line.split('|').map(str::trim).collect();
-        if cells.len() < 3 {
-            listed = None;
-        } else if listed == Some(true) {
-            unknown(cells[1], index, &mut files);
-        } else if listed.is_none() {
-            listed = Some(["say", "lines"].iter().all(|head| cells.contains(head)));
-        }
-    }
-    files
+    let tables = rows(page).into_iter().filter(|(head, _)| ["say", "lines"].iter().all(|cell| head.contains(cell)));
+    tables.flat_map(|(_, cells)| files_of(&cells, index)).collect()
 }
 
 /// Names that mean two things: of definitions that must be believed, and of types of the code, those that stand in two crates.
