@@ -1,16 +1,20 @@
-# make test: proves and tests everything. make run: solves the example. make lib: the library for hosts, target/lib/libforkhemit.a.
+# make: programs, archive and shared library. make test: proves and tests everything. make run: solves the example.
+# make lib: the library for hosts, target/lib/libforkhemit.a.
 # make install PREFIX=/DIR: programs, library, header, man pages and documents there (below DESTDIR); make uninstall takes them away.
 # make examples: builds the example hosts and runs them. make bench: compares with other solvers and with plain Rust.
 # make checktime: how long each crate's check takes, from nothing. make pictures: draws docs/pictures anew.
 # make fmt: puts every file in its layout. make fmt-check: says which are not.
-.PHONY: test run lib install absolute uninstall examples bench checktime pictures fmt fmt-check
+.PHONY: all test run lib install absolute uninstall examples bench checktime pictures fmt fmt-check
 # `rt` keeps notes in target: one call at a time.
 .NOTPARALLEL:
 
+PROGRAMS := pair circuit
+
+# all that `make install` copies
+all: $(PROGRAMS:%=target/static/%) target/lib/libforkhemit.a target/shared/libforkhemit.so
+
 test:
 	.ci/run
-
-PROGRAMS := pair circuit
 
 $(PROGRAMS:%=target/obj/%.o): target/obj/%.o: crates.txt $(shell find crates -name '*.rt' -o -name '*.antt')
 	rt check $*
@@ -57,7 +61,7 @@ target/shared/libforkhemit.so: target/lib/libforkhemit.a include/forkhemit.h
 	cc -shared -nostartfiles -o $@ -Wl,-soname,$(SONAME),-z,text,-z,defs,-z,now,-z,noexecstack -Wl,--whole-archive $< -Wl,--no-whole-archive
 
 # `pair` and `circuit` are too general as names of commands: there they begin with the product's.
-install: absolute $(PROGRAMS:%=target/static/%) target/lib/libforkhemit.a target/shared/libforkhemit.so
+install: absolute all
 	install -d $(DESTDIR)$(PREFIX)/bin $(DESTDIR)$(PREFIX)/include $(LIB)/pkgconfig $(MAN) $(DOC)
 	for program in $(PROGRAMS); do \
 	  install -m 755 target/static/$$program $(DESTDIR)$(PREFIX)/bin/forkhemit-$$program && \

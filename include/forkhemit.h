@@ -56,7 +56,7 @@ extern "C" {
 
 /* Why a call was turned back. The lowest that applies is returned, except that 4 comes before 3, and the 3 of a new row last; of three texts
  * whatever refuses the left one, then the right one, then the public one. In a text, a header's 1 or 2 comes before 5, and an overlong text is
- * 5 before all else. */
+ * 5 before all else. forkhemit_clause judges the tables before the texts. */
 enum forkhemit_refusal_number {
     FORKHEMIT_TAKEN = 0,            /* not turned back */
     FORKHEMIT_VARIABLES = 1,        /* n outside 1 to 32 */
@@ -225,7 +225,7 @@ uint8_t forkhemit_replace_indexed(uint64_t n, uint64_t left_rows, uint64_t right
 
 /* ---- the rule behind each step */
 
-/* The rule of the giant step that a step followed. */
+/* The rule of the giant step that a step followed. These numbers are not those of the guide's four rules: its second is 2 and 3 here. */
 enum forkhemit_rule {
     FORKHEMIT_NO_RULE = 0,                /* the run was closed already */
     FORKHEMIT_ALL_SATISFIED = 1,          /* all rows are satisfied: the run closes */
@@ -239,8 +239,8 @@ enum forkhemit_rule {
  *   rule      one of forkhemit_rule
  *   row       the lowest row in conflict, or the lowest that forces the very literal taken, its sign included; 0 where there is none.
  *             Rows count from 1: the left ones, then the right ones, then the public ones
- *   variable  the variable set, from 1, and value its value, 0 or 1: by rules 4 and 5 the literal taken, by rule 2 the variable that goes
- *             to F, with 0; else 0 and 0
+ *   variable  the variable set, from 1, and value its value, 0 or 1: where a literal was forced or chosen, that one; in a conflict with a
+ *             level the variable that goes to F, with 0; else 0 and 0
  * The rows are looked at twice, so forkhemit_step is faster. 1, 2, 4, 3, 12, 13. */
 uint8_t forkhemit_step_explained(uint64_t n, uint64_t left_rows, uint64_t right_rows, uint64_t public_rows,
                                  const uint32_t *left, size_t left_length, const uint32_t *right, size_t right_length,
