@@ -172,7 +172,7 @@ fn compared(label: &str, gates: &[u32], inputs: usize, numbers: &mut Numbers) {
     }
     assert!(wires.iter().all(|filled| filled == &wires[0]), "all fill the same wires");
     let [p, l, g, s, t] = [0, 1, 2, 3, 4].map(|k| median(times[k].clone()));
-    println!("{label:<30}{p:>5.0} us{:>11.2}{:>12.2}{:>13.2}{:>13.2}", t / p, l / p, g / p, s / p);
+    println!("{label:<30}{p:>5.0} us{:>11.2}{:>12.2}{:>13.2}{:>13.2}", p / t, p / l, p / g, p / s);
 }
 
 fn main() {
@@ -180,7 +180,7 @@ fn main() {
     let cell = [0, 0, 1, 0, 0, 1, 0, 0, 0, 1, 0, 0];
     let mut numbers = Numbers(2026);
     println!(
-        "speed of the proved evaluator on 200,000 gates, the other's being 1 (median of {RUNS} runs side by side)"
+        "time of the proved evaluator on 200,000 gates, the other's being 1 (median of {RUNS} runs side by side)"
     );
     println!(
         "{:<30}{:>8}{:>11}{:>12}{:>13}{:>13}",
