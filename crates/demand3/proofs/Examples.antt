@@ -26,7 +26,10 @@ use Rattle.solver.specs.Entries.{answerOf}
 use Rattle.answers.specs.Printed.{answerText}
 use Rattle.netlist.specs.Netlist.{gatesOn}
 use Rattle.netlist.specs.Outputs.{closed}
+use Rattle.refusals.specs.declared.Outcome.the-variants.{Taken}
 use Rattle.repeats.specs.Repeats.{Attempt, Lent, Otherwise, repeats, lastRun, repeatsEnded, longOnes}
+use Rattle.repeats.specs.Repeating.{repeated}
+use Rattle.demand3.proofs.Answering.{answered, repeat-answers}
 use Rattle.demand3.specs.Demand3.{rowsByStep, historyOf, answerFor, circuitTextOf, Seen, seen, AllAccepts, Demand3}
 use Rattle.demand3.proofs.Consequences.{roomy, roomy-ones, marks-are, reached, seen-is, seen-public, Room, hosted, hosts-agree}
 
@@ -101,6 +104,11 @@ unlike-closes (suc (suc i)) h = absurd (omega arith)
 pub nothing-seen : seen small marked 9 [] ≡ (circuitTextOf small, 0, [], answerText 2 (answer 0 Unknown), λ i. [])
 unfolding repeats lastRun runOf
 nothing-seen = refl
+
+-- one call of `repeat` on the fresh run, where it is taken
+pub marked-call : (gates bytes wires : List ℕ) → repeated small (marked 0) 9 gates bytes wires (runOf 2 fresh) .outcome ≡ Taken
+    → answered (repeated small (marked 0) 9 gates bytes wires (runOf 2 fresh)) ≡ answer 3 (Satisfiable 2)
+marked-call gates bytes wires e = repeat-answers small (marked 0) 9 gates bytes wires e ∙ marked-answer
 
 module _ (x : Demand3 small) where
   -- three attempts that are long enough, whatever others there are

@@ -3,3 +3,4 @@ pub mod Demand3
 pub mod Consequences
 pub mod Examples
 pub mod Answering
+pub mod Calls

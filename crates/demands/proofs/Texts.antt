@@ -22,7 +22,7 @@ use Rattle.demand2.specs.Demand2.{Demand2}
 use Rattle.demand2.proofs.Demand2.{demand2}
 use Rattle.repeats.specs.Repeats.{Attempt, longOnes}
 use Rattle.repeats.proofs.RepeatChecks.{sizes-taken}
-use Rattle.demand3.specs.Demand3.{historyOf, answerFor, Follows, seen, AllAccepts, Demand3}
+use Rattle.demand3.specs.Demand3.{historyOf, answerFor, answerIn, Follows, seen, AllAccepts, Demand3}
 use Rattle.demand3.proofs.Demand3.{demand3}
 use Rattle.demand3.proofs.Consequences.{answer-is}
 
@@ -60,3 +60,9 @@ module _ (left right public : List ℕ) (taken : textTables left right public .o
       ap (answerText (min (read .n) 32)) (answer-is sizes circuit-demand3 tables read-accepted steps attempts (answerFor sizes tables steps) refl long)
       ∙ ap (λ (k : ℕ). answerText k (answerFor sizes tables steps)) low
       ∙ sym (ap (solvedText (read .n)) (reply-answers left right public line steps taken e))
+
+  -- the text of the answer that the repeats give
+  pub reply-printed : (line : List ℕ) (steps : ℕ) → budgetOf line ≡ budget.Of steps → (attempts : List Attempt)
+      → answerFor sizes tables steps .count ≤ longOnes sizes attempts
+      → answerText (min (read .n) 32) (answerIn (read .n) (historyOf sizes tables steps attempts)) ≡ replyText left right public line
+  reply-printed = reply-demand3

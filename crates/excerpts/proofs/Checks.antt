@@ -1,6 +1,6 @@
 -- What asking for a clause is refused with, test by test, and what is known of a row that is not refused. From the order of the checks.
 use mathlib.Core.Path.{_≡_, refl, sym, ap, _∙_}
-use mathlib.Core.Bool.{Bool, true, false, not, _&&_}
+use mathlib.Core.Bool.{Bool, true, false, not, _&&_, _||_, cond}
 use mathlib.Core.List.{List, [], _∷_, _++_}
 use Prim.Native.Nat.{ℕ, _+_, _≤_}
 use native.Mathlib.Omega.{arith}
@@ -10,7 +10,7 @@ use Rattle.refusals.specs.Checks.{Check, check, outcome, given}
 use Rattle.refusals.specs.declared.Outcome.{Outcome}
 use Rattle.refusals.specs.declared.Outcome.the-variants.{Taken, Refused}
 use Rattle.refusals.specs.declared.Refusal.{Refusal}
-use Rattle.refusals.specs.declared.Refusal.the-variants.{TextsDiffer, NoClause}
+use Rattle.refusals.specs.declared.Refusal.the-variants.{Text, TextsDiffer, NoClause}
 use Rattle.refusals.proofs.Outcomes.{outcome-taken, outcome-refused, outcome-parts, check-passed, checks-taken}
 use Rattle.words.proofs.Truth.{and-l, and-r}
 use Rattle.dimensions.specs.declared.Dimensions.{Dimensions}
@@ -19,7 +19,7 @@ use Rattle.tables.specs.Acceptance.{tableChecks}
 use Rattle.tables.proofs.Accepted.{Accepted, accepted}
 use Rattle.dimacs.specs.declared.Table.{Table}
 use Rattle.dimacs.specs.Text.{tableOf}
-use Rattle.excerpts.specs.Excerpts.{outcomeChecks, ofSizes, hasClause, textChecks, excerptChecks}
+use Rattle.excerpts.specs.Excerpts.{outcomeChecks, ofSizes, hasClause, textChecks, overlong, excerptChecks}
 
 -- ---- two texts
 
@@ -75,15 +75,24 @@ module _ (d : Dimensions) (tables : Tables) (leftText rightText : List ℕ) (num
   abbrev r : Table
   r = tableOf 1 rightText
 
-  -- what the tables are refused with, asking for a clause is refused with
-  pub tables-refused : (q : Refusal) → outcome (tableChecks d tables) ≡ Refused q → Refused q ≡ outcome (excerptChecks d tables leftText rightText number)
-  tables-refused q e = sym (outcome-refused (tableChecks d tables) (textChecks d l r number) q e)
+  -- an overlong text, before all else
+  pub overlong-refused : overlong leftText || overlong rightText ≡ true → Refused Text ≡ outcome (excerptChecks d tables leftText rightText number)
+  overlong-refused h = rw h
 
-  pub tables-taken : outcome (tableChecks d tables) ≡ Taken → (left right : Table) → left ≡ l → right ≡ r
-      → (o : Outcome) → o ≡ outcome (textChecks d left right number) → o ≡ outcome (excerptChecks d tables leftText rightText number)
-  tables-taken e left right p q o h =
-      h ∙ ap (λ (x : Table). outcome (textChecks d x right number)) p ∙ ap (λ (x : Table). outcome (textChecks d l x number)) q
-      ∙ sym (outcome-taken (tableChecks d tables) (textChecks d l r number) e)
+  -- two texts that are not
+  module _ (fit : overlong leftText || overlong rightText ≡ false) where
+    behind : outcome (excerptChecks d tables leftText rightText number) ≡ outcome (tableChecks d tables ++ textChecks d l r number)
+    behind = ap (λ (b : Bool). cond b (Refused Text) (outcome (tableChecks d tables ++ textChecks d l r number))) fit
+
+    -- what the tables are refused with, asking for a clause is refused with
+    pub tables-refused : (q : Refusal) → outcome (tableChecks d tables) ≡ Refused q → Refused q ≡ outcome (excerptChecks d tables leftText rightText number)
+    tables-refused q e = sym (behind ∙ outcome-refused (tableChecks d tables) (textChecks d l r number) q e)
+
+    pub tables-taken : outcome (tableChecks d tables) ≡ Taken → (left right : Table) → left ≡ l → right ≡ r
+        → (o : Outcome) → o ≡ outcome (textChecks d left right number) → o ≡ outcome (excerptChecks d tables leftText rightText number)
+    tables-taken e left right p q o h =
+        h ∙ ap (λ (x : Table). outcome (textChecks d x right number)) p ∙ ap (λ (x : Table). outcome (textChecks d l x number)) q
+        ∙ sym (behind ∙ outcome-taken (tableChecks d tables) (textChecks d l r number) e)
 
   -- what is known of a row that is not refused
   pub record Asked : Type 0 where
@@ -93,7 +102,7 @@ module _ (d : Dimensions) (tables : Tables) (leftText rightText : List ℕ) (num
 
   pub asked : outcome (excerptChecks d tables leftText rightText number) ≡ Taken → Asked
   asked e =
-      let parts = outcome-parts (tableChecks d tables) (textChecks d l r number) e in
+      let parts = outcome-parts (tableChecks d tables) (textChecks d l r number) (checks-taken (overlong leftText || overlong rightText) Text _ e) in
       let station : Bool = ltb 0 number && leb number (d .left + d .right) in
       let sized : Bool = ofSizes l (d .n) (d .left) && ofSizes r (d .n) (d .right) in
       let own = and-l station sized (has-clause d l r number (parts .1)) in

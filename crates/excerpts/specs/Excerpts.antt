@@ -1,13 +1,13 @@
 -- A clause's own bytes, by the number of its row: document 02, "The rule behind each step". Rows are numbered from 1, the left station's
 -- first.
 use Prim.Native.Nat.{ℕ, zero, suc, _+_, _-_}
-use mathlib.Core.Bool.{Bool, true, not, _&&_, cond}
+use mathlib.Core.Bool.{Bool, true, not, _&&_, _||_, cond}
 use mathlib.Core.List.{List, [], _∷_, _++_}
 use lib.Dec.{eqb, ltb, leb}
-use lib.ListN.{take, drop}
+use lib.ListN.{length, take, drop}
 use Rattle.refusals.specs.Numbers.{numberOf}
 use Rattle.refusals.specs.Checks.{Check, check, outcome, given}
-use Rattle.refusals.specs.declared.Refusal.the-variants.{TextsDiffer, NoClause}
+use Rattle.refusals.specs.declared.Refusal.the-variants.{Text, TextsDiffer, NoClause}
 use Rattle.words.specs.declared.Row.{Row}
 use Rattle.lexer.specs.Blanks.{tokensPast}
 use Rattle.header.specs.declared.Sizes.{Sizes}
@@ -47,9 +47,15 @@ textChecks d l r number =
     outcomeChecks l ++ (outcomeChecks r
     ++ (check (not (eqb (l .n) (r .n))) TextsDiffer ∷ check (not (hasClause d l r number)) NoClause ∷ []))
 
--- 1, 2, 4, 3 of the tables, then the texts'
+-- "an overlong text is 5 before all else"
+abbrev pub overlong : List ℕ → Bool
+overlong text = ltb 65536 (length text)
+
+-- 5 where a text is overlong; 1, 2, 4, 3 of the tables, then the texts'
 abbrev pub excerptChecks : Dimensions → Tables → List ℕ → List ℕ → ℕ → List Check
-excerptChecks d tables leftText rightText number = tableChecks d tables ++ textChecks d (tableOf 1 leftText) (tableOf 1 rightText) number
+excerptChecks d tables leftText rightText number =
+    check (overlong leftText || overlong rightText) Text
+    ∷ (tableChecks d tables ++ textChecks d (tableOf 1 leftText) (tableOf 1 rightText) number)
 
 -- ---- where it stands
 

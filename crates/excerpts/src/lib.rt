@@ -64,7 +64,8 @@ fn judge(d: Dimensions, left: Table, right: Table, number: u64) -> Outcome
     Outcome::Taken
 }
 
-// Whether the clause of a row may be asked for: the tables' 1, 2, 4, 3, the left text's 1, 2, 5, the right text's, 6, then 17.
+// Whether the clause of a row may be asked for: 5 for an overlong text, the tables' 1, 2, 4, 3, the left text's 1, 2, 5, the right text's,
+// 6, then 17.
 pub fn check(
     d: Dimensions,
     left: &[u32],
@@ -78,6 +79,9 @@ pub fn check(
         ⌜ r ≡ outcome (excerptChecks d (allTables (now (left .entry)) (now (right .entry)) (now (public .entry))) (now («left_text» .entry))
         (now («right_text» .entry)) number) ⌝ }
 {
+    if (65536 < left_text.len()) | (65536 < right_text.len()) {
+        return Outcome::Refused(Refusal::Text);
+    }
     let checked = tables::accept(d, left, right, public);
     match checked {
         Outcome::Refused(refusal) => Outcome::Refused(refusal),

@@ -49,15 +49,15 @@ fn number_or(found: u32, row: Row, number: u32, rule: Rule, t: u32, f: u32) -> u
     found
 }
 
-// The number found before; where it is 0, that of the lowest row that shows the rule in one more table, whose first row has number `first`.
-fn search(found: u32, words: &[u32], first: u32, rule: Rule, t: u32, f: u32) -> u32
+// The number found earlier; where it is 0, that of the lowest row that shows the rule in one more table, whose first row's is `first`.
+fn search(earlier: u32, words: &[u32], first: u32, rule: Rule, t: u32, f: u32) -> u32
     requires { ⌜ length (now words) ≤ 510 ⌝ }
     requires { ⌜ 1 ≤ first ⌝ }
     requires { ⌜ first ≤ 511 ⌝ }
-    ensures { λ r. ⌜ r ≡ foundOr found (Explanation.lowestFrom first (Explanation.shows 32 t f rule) (rowsIn (now (words .entry)))) ⌝ }
+    ensures { λ r. ⌜ r ≡ foundOr earlier (Explanation.lowestFrom first (Explanation.shows 32 t f rule) (rowsIn (now (words .entry)))) ⌝ }
 {
     let rows = words.len() / 2;
-    let mut found = found;
+    let mut found = earlier;
     let mut i = 0;
     while (i < rows) & (found == 0) {
         let at = 2 * i;

@@ -83,3 +83,7 @@ module _ (d : Dimensions) (words : List ℕ) where
         (zero-add (length (wordsOf g))) in
         let front : take (3 * r) w ≡ wordsOf g = ap (take (3 * r)) whole ∙ take-at (wordsOf g) _ (3 * r) (omega (arith, words-length g, er)) in
         (ap Of er ∙ t .0, (whole ∙ t .1, subst (CarriesOut d) (sym front) (gates-carry-out d e)))
+
+-- what the generator's contract promises of the words that it says it wrote
+pub words-carry-out : (d : Dimensions) (k : ℕ) (words : List ℕ) → Carried d (Of k) words → CarriesOut d (take (3 * k) words)
+words-carry-out d k words x = x

@@ -1,1 +1,2 @@
 pub mod HostNumbers
+pub mod Parts

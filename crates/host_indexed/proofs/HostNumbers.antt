@@ -21,9 +21,11 @@ use Rattle.indexed.specs.declared.Counted.{Counted}
 use Rattle.indexed.specs.declared.Counted.the-variants as counted′
 use Rattle.indexed.specs.declared.SteppedIndexed.{SteppedIndexed}
 use Rattle.indexed.specs.Entries.{indexAfter, counted, indexedChecks, steppedBy, steppedIndexed}
+use Rattle.indexed.specs.declared.Continued.{Continued}
+use Rattle.indexed.specs.Continuing.{continued, refusedWith}
 use Rattle.stored.specs.Words.{runIn}
 use Rattle.codes.proofs.AsBytes.{asBytes, on-numbers}
-use Rattle.host_indexed.specs.Steps.{indexedStepIn}
+use Rattle.host_indexed.specs.Steps.{indexedStepIn, continueIn}
 
 -- ---- refused sizes
 
@@ -47,6 +49,10 @@ module _ (tables : Tables) (d : Dimensions) (q : Refusal) (h : outcome (sizeChec
       ap (λ (o : Outcome). steppedBy o (d .n) rows run number)
       (outcome-refused (tableChecks d tables) (indexedChecks (d .n) rows index run number) q accept-refused)
 
+  continue-refused : (times : ℕ) (run : Run) → continued d tables times run ≡ refusedWith run q
+  unfolding continued
+  continue-refused times run = rw (outcome-refused (tableChecks d tables) (stateChecks d run) q accept-refused)
+
 -- ---- any sizes
 
 module _ (asked d : Dimensions) (e : d ≡ asBytes asked) (tables : Tables) where
@@ -68,3 +74,9 @@ module _ (asked d : Dimensions) (e : d ≡ asBytes asked) (tables : Tables) wher
       on-numbers asked (λ x. steppedIndexed x tables index run k) (λ q. record { outcome = Refused q; run = run; number = k })
       (λ x q h. step-refused tables x q h index run k) d e s r
       ∙ ap (λ (x : Run). steppedIndexed asked tables index x k) held
+
+  pub continue-is : (times : ℕ) (words : List ℕ) (run : Run) → run ≡ runIn words
+      → (c : Continued) → c ≡ continued d tables times run → c ≡ continueIn asked tables times words
+  continue-is times words run held c r =
+      on-numbers asked (λ x. continued x tables times run) (λ q. refusedWith run q) (λ x q h. continue-refused tables x q h times run) d e c r
+      ∙ ap (λ (x : Run). continued asked tables times x) held

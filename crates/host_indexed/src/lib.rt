@@ -1,7 +1,8 @@
-// For hosts in C and Rust: the rows of each literal as an index, the number of unsatisfied rows, and the step that goes by them.
+// For hosts in C and Rust: the rows of each literal as an index, the number of unsatisfied rows, and the steps that go by them.
 // Each function is a thin call of a proved entry. A slice passes as a pointer and then a length, an array as a pointer.
 // It returns 0 where the call is taken, else the refusal's number, and then all lent memory is as it was.
 use indexed::Counted;
+use refusals::Outcome;
 ghost use mathlib.Core.Path.{_≡_};
 ghost use mathlib.Core.List.{[], _∷_};
 ghost use Rattle.refusals.specs.Checks.{outcome};
@@ -10,9 +11,10 @@ ghost use Rattle.dimensions.specs.Sizes.{dimensions};
 ghost use Rattle.tables.specs.Tables.{allTables};
 ghost use Rattle.tables.specs.Acceptance.{tableChecks};
 ghost use Rattle.indexed.specs.Entries.{indexAfter, counted, countedCode, countedNumbers};
+ghost use Rattle.indexed.specs.Continuing.{continuedCode, continuedNumbers};
 ghost use Rattle.stored.specs.Words.{runIn};
 ghost use Rattle.lent.specs.Lent.{numbersOr, storedIf};
-ghost use Rattle.host_indexed.specs.Steps.{indexedStepIn};
+ghost use Rattle.host_indexed.specs.Steps.{indexedStepIn, continueIn};
 
 // The index of three tables; 1, 2, 4 or 3 where it is turned back.
 #[no_mangle]
@@ -108,4 +110,47 @@ pub extern "C" fn forkhemit_step_indexed(
     lent::store_if(outcome, next, run);
     *number = [stepped.number];
     codes::code(outcome)
+}
+
+// Giant steps of the run in the lent words through the one that closes it, at most so many, by the indexed run; the numbers are how many
+// they were, and 1 if the run is closed then, else 0. 1, 2, 4, 3, 12 or 13 where it is turned back, and then nothing is written.
+#[no_mangle]
+pub extern "C" fn forkhemit_continue(
+    n: u64,
+    left_rows: u64,
+    right_rows: u64,
+    public_rows: u64,
+    left: &[u32],
+    right: &[u32],
+    public: &[u32],
+    times: u64,
+    run: &mut [u32; 101],
+    continued: &mut [u64; 2],
+) -> u8
+    ensures { λ r.
+        ⌜ r ≡ continuedCode (continueIn (dimensions n «left_rows» «right_rows» «public_rows»)
+        (allTables (now (left .entry)) (now (right .entry)) (now (public .entry))) times (now (run .entry))) ⌝ }
+    ensures { λ _.
+        ⌜ now (run .exit) ≡ storedIf (continueIn (dimensions n «left_rows» «right_rows» «public_rows»)
+        (allTables (now (left .entry)) (now (right .entry)) (now (public .entry))) times (now (run .entry)) .outcome)
+        (continueIn (dimensions n «left_rows» «right_rows» «public_rows»)
+        (allTables (now (left .entry)) (now (right .entry)) (now (public .entry))) times (now (run .entry)) .run) (now (run .entry)) ⌝ }
+    ensures { λ _.
+        ⌜ now (continued .exit) ≡ numbersOr
+        (continuedNumbers (continueIn (dimensions n «left_rows» «right_rows» «public_rows»)
+        (allTables (now (left .entry)) (now (right .entry)) (now (public .entry))) times (now (run .entry)))) (now (continued .entry)) ⌝ }
+{
+    let d = codes::dimensions(n, left_rows, right_rows, public_rows);
+    let start = stored::load(*run);
+    let done = indexed::continue_indexed(d, left, right, public, times, start);
+    let outcome = done.outcome;
+    let last = done.run;
+    match outcome {
+        Outcome::Taken => {}
+        Outcome::Refused(refusal) => return refusals::number(refusal),
+    }
+    let closed = done.closed as u64;
+    *run = stored::words(last);
+    *continued = [done.steps, closed];
+    0
 }

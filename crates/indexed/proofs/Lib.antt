@@ -3,7 +3,9 @@ pub mod RuleTests
 pub mod TallyAfter
 pub mod Advancing
 pub mod Running
+pub mod Continuing
 pub mod Made
 pub mod Entries
 pub mod Checks
 pub mod SameState
+pub mod Resuming

@@ -88,3 +88,8 @@ module _ (d : Dimensions) (tables : Tables) (index : List ℕ) (run : Run) (numb
 
     pub same-state : SameState d tables index run next
     same-state = record { plain = plain; right = right; again = again }
+
+-- what the record says: the indexed step's run is the plain step's
+pub plain-step : (d : Dimensions) (tables : Tables) (index : List ℕ) (run : Run) (next : SteppedIndexed) → SameState d tables index run next
+    → next .run ≡ stepped d tables run .run
+plain-step d tables index run next x = x .plain

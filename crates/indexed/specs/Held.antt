@@ -15,6 +15,7 @@ use Rattle.scan.specs.Rules.{allRows}
 use Rattle.state.specs.declared.Run.{Run}
 use Rattle.state.specs.State.{State, runOf}
 use Rattle.state.specs.WellFormed.{wellFormed}
+use Rattle.solver.specs.Entries.{Ran}
 use Rattle.occurrences.specs.Index.{indexOf}
 use Rattle.tally.specs.declared.Tally.{Tally}
 use Rattle.tally.specs.Tallies.{tallyOf}
@@ -22,6 +23,7 @@ use Rattle.tally.specs.Words.{tallyAfter}
 use Rattle.tally.specs.Surveys.{surveyed}
 use Rattle.indexed.specs.declared.SteppedIndexed.{SteppedIndexed}
 use Rattle.indexed.specs.declared.beside.Held.{Held}
+use Rattle.indexed.specs.declared.beside.Reached.{Reached}
 use Rattle.indexed.specs.Entries.{indexedChecks, steppedBy}
 
 -- m rows of n variables in words, each word below 2 ^ n, and their index
@@ -40,6 +42,10 @@ pub record Exact (rows : List Row) (held : Held) : Type 0 where
 -- the run of a state, and exactly its tally
 abbrev pub heldOf : ℕ → List Row → State → Held
 heldOf n rows s = record { run = runOf n s; tally = tallyOf rows (s .t) (s .f) }
+
+-- the run that some steps reach, and how many they are
+abbrev pub reachedBy : ℕ → Ran → Reached
+reachedBy n r = record { run = runOf n (r .final); steps = r .steps }
 
 -- what code makes of a tally after a rule: of T and F as they were, t and f, and as they are then
 abbrev pub tallyBy : List ℕ → ℕ → List ℕ → ℕ → ℕ → ℕ → ℕ → Rule → Tally → Tally

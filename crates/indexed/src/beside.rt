@@ -1,20 +1,27 @@
 // A run with its tally beside it: the giant step by the index, and the run to its close.
 use scan::Rule;
-use solver::Answer;
 use state::Run;
 use state::Standing;
 use tally::Tally;
 ghost use mathlib.Core.Path.{_≡_};
+ghost use mathlib.Core.Bool.{true};
 ghost use Rattle.tables.specs.Rows.{rowsFrom};
 ghost use Rattle.state.specs.State.{stateOf};
+ghost use Rattle.state.specs.WellFormed.{wellFormed};
 ghost use Rattle.solver.specs.Step.{always, step};
-ghost use Rattle.solver.specs.Entries.{answerOf};
-ghost use Rattle.indexed.specs.Held.{heldOf, Indexed, Exact, tallyBy};
+ghost use Rattle.solver.specs.Entries.{runFrom};
+ghost use Rattle.indexed.specs.Held.{heldOf, Indexed, Exact, tallyBy, reachedBy};
 
 // A run and its tally.
 pub(crate) struct Held {
     pub(crate) run: Run,
     pub(crate) tally: Tally,
+}
+
+// A run after some steps, and how many they were.
+pub(crate) struct Reached {
+    pub(crate) run: Run,
+    pub(crate) steps: u64,
 }
 
 // The tally after a rule, from T and F as they were and as they are then.
@@ -77,27 +84,26 @@ pub(crate) fn advance(words: &[u32; 768], rows: usize, index: &[u64; 384], held:
     }
 }
 
-// The answer of a fresh run over rows and their index.
+// The run after steps over rows and their index, through the one that closes it and at most so many.
 pub(crate) fn run_to_close(
-    n: u8,
     words: &[u32; 768],
     rows: usize,
     index: &[u64; 384],
-    budget: u64,
-) -> Answer
-    requires { ⌜ Indexed n (now words) rows (now index) ⌝ }
-    ensures { λ r. ⌜ r ≡ answerOf n (always (rowsFrom (now (words .entry)) 0 rows)) budget ⌝ }
+    times: u64,
+    run: Run,
+) -> Reached
+    requires { ⌜ Indexed (run .n) (now words) rows (now index) ⌝ }
+    requires { ⌜ wellFormed run ≡ true ⌝ }
+    ensures { λ r.
+        ⌜ r ≡ reachedBy (run .n) (runFrom (run .n) (always (rowsFrom (now (words .entry)) 0 rows)) times (stateOf run)) ⌝ }
 {
-    let run = Run::fresh(n);
     let tally = tally::survey(words, index, rows, run.t, run.f);
     let mut held = Held { run, tally };
-    let mut count = 0;
-    while verdicts::goes_on(held.run, count, budget) {
+    let mut steps = 0;
+    while verdicts::goes_on(held.run, steps, times) {
         held = advance(words, rows, index, held);
-        count += 1;
+        steps += 1;
     }
-    Answer {
-        count,
-        verdict: verdicts::verdict_of(held.run),
-    }
+    let last = held.run;
+    Reached { run: last, steps }
 }

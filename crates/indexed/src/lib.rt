@@ -3,6 +3,7 @@
 mod beside;
 
 use beside::Held;
+use beside::Reached;
 use dimensions::Dimensions;
 use refusals::Outcome;
 use refusals::Refusal;
@@ -10,6 +11,7 @@ use solver::Answer;
 use solver::Solved;
 use state::Run;
 ghost use mathlib.Core.Path.{_≡_};
+ghost use mathlib.Core.Bool.{true};
 ghost use mathlib.Core.List.{[], _∷_, _++_};
 ghost use lib.Dec.{eqb};
 ghost use Rattle.refusals.specs.Checks.{outcome};
@@ -20,14 +22,16 @@ ghost use Rattle.dimensions.specs.Sizes.{rowCount};
 ghost use Rattle.tables.specs.Tables.{allTables};
 ghost use Rattle.tables.specs.Acceptance.{tableChecks};
 ghost use Rattle.tables.specs.Rows.{rowsFrom, rowsOf};
-ghost use Rattle.state.specs.WellFormed.{stateChecks};
+ghost use Rattle.state.specs.State.{stateOf};
+ghost use Rattle.state.specs.WellFormed.{wellFormed, stateChecks};
 ghost use Rattle.solver.specs.Step.{always};
-ghost use Rattle.solver.specs.Entries.{answerOf, answerNumbers, solved, solvedCode, solvedNumbers};
+ghost use Rattle.solver.specs.Entries.{runFrom, answerOf, answerNumbers, solved, solvedCode, solvedNumbers};
 ghost use Rattle.occurrences.specs.Index.{indexOf};
 ghost use Rattle.tally.specs.Tallies.{unsatisfiedRows};
 ghost use Rattle.indexed.specs.Entries.{indexAfter, counted, countedCode, countedNumbers, indexedChecks, numberAfter, steppedIndexed};
 ghost use Rattle.indexed.specs.Entries.{steppedSaid, saidOr};
-ghost use Rattle.indexed.specs.Held.{Indexed, keptChecks, steppedOver};
+ghost use Rattle.indexed.specs.Continuing.{continued, continuedCode, continuedNumbers, ranNumbers};
+ghost use Rattle.indexed.specs.Held.{Indexed, reachedBy, keptChecks, steppedOver};
 
 // How many rows are unsatisfied, or why it is not said.
 pub enum Counted {
@@ -40,6 +44,14 @@ pub struct SteppedIndexed {
     pub outcome: Outcome,
     pub run: Run,
     pub number: u64,
+}
+
+// A run after some steps, how many they were and whether it is closed; refused, the run as it was, with no step.
+pub struct Continued {
+    pub outcome: Outcome,
+    pub run: Run,
+    pub steps: u64,
+    pub closed: bool,
 }
 
 // ---- the index
@@ -84,17 +96,78 @@ pub fn index(
     }
 }
 
-// ---- the budgeted run
+// ---- the run
 
-// The answer of a fresh run over accepted tables: their index is made once.
+// The run after steps over accepted tables, through the one that closes it and at most so many: their index is made once.
+fn run_accepted(
+    d: Dimensions,
+    left: &[u32],
+    right: &[u32],
+    public: &[u32],
+    times: u64,
+    run: Run,
+) -> Reached
+    requires { ⌜ outcome (tableChecks d (allTables (now left) (now right) (now public))) ≡ Taken ⌝ }
+    requires { ⌜ wellFormed run ≡ true ⌝ }
+    requires { ⌜ run .n ≡ d .n ⌝ }
+    ensures { λ r.
+        ⌜ r ≡ reachedBy (d .n) (runFrom (d .n)
+        (always (rowsOf d (allTables (now (left .entry)) (now (right .entry)) (now (public .entry))))) times (stateOf run)) ⌝ }
+{
+    let mut index = [0u64; 384];
+    let words = make_index(d, left, right, public, &mut index);
+    beside::run_to_close(&words, d.rows(), &index, times, run)
+}
+
+// The run after steps through the one that closes it, at most so many, how many they were, and whether it is closed then; as it was where
+// the call is turned back: 1, 2, 4, 3, 12, 13.
+pub fn continue_indexed(
+    d: Dimensions,
+    left: &[u32],
+    right: &[u32],
+    public: &[u32],
+    times: u64,
+    run: Run,
+) -> Continued
+    ensures { λ r. ⌜ r ≡ continued d (allTables (now (left .entry)) (now (right .entry)) (now (public .entry))) times run ⌝ }
+    ensures { λ r.
+        ⌜ continuedCode r ∷ continuedNumbers r
+        ≡ said (outcome (tableChecks d (allTables (now (left .entry)) (now (right .entry)) (now (public .entry))) ++ stateChecks d run))
+        (ranNumbers (runFrom (d .n)
+        (always (rowsOf d (allTables (now (left .entry)) (now (right .entry)) (now (public .entry))))) times (stateOf run))) ⌝ }
+{
+    let outcome = solver::check_all(d, left, right, public, run);
+    match outcome {
+        Outcome::Taken => {
+            let reached = run_accepted(d, left, right, public, times, run);
+            let last = reached.run;
+            Continued {
+                outcome,
+                run: last,
+                steps: reached.steps,
+                closed: verdicts::closed(last),
+            }
+        }
+        Outcome::Refused(_) => Continued {
+            outcome,
+            run,
+            steps: 0,
+            closed: false,
+        },
+    }
+}
+
+// The answer of a fresh run over accepted tables.
 fn run_indexed(d: Dimensions, left: &[u32], right: &[u32], public: &[u32], budget: u64) -> Answer
     requires { ⌜ outcome (tableChecks d (allTables (now left) (now right) (now public))) ≡ Taken ⌝ }
     ensures { λ r.
         ⌜ r ≡ answerOf (d .n) (always (rowsOf d (allTables (now (left .entry)) (now (right .entry)) (now (public .entry))))) budget ⌝ }
 {
-    let mut index = [0u64; 384];
-    let words = make_index(d, left, right, public, &mut index);
-    beside::run_to_close(d.n, &words, d.rows(), &index, budget)
+    let reached = run_accepted(d, left, right, public, budget, Run::fresh(d.n));
+    Answer {
+        count: reached.steps,
+        verdict: verdicts::verdict_of(reached.run),
+    }
 }
 
 // The answer of a fresh run that stops when it is closed or the budget is spent, as `solver::solve` gives it; 1, 2, 4 or 3 if the tables

@@ -4,25 +4,29 @@
 use mathlib.Core.Path.{_≡_, refl, sym, ap, ap₂, _∙_, fun-ext, subst}
 use mathlib.Core.Bool.{Bool, true, false, cond}
 use mathlib.Core.List.{List, [], _∷_}
-use Prim.Native.Nat.{ℕ, zero, suc, _<_}
+use Prim.Native.Nat.{ℕ, zero, suc, _<_, min}
 use native.Mathlib.Omega.{arith}
+use lib.ListN.{length}
 use Rattle.words.proofs.Truth.{on}
 use Rattle.dimensions.specs.declared.Dimensions.{Dimensions}
 use Rattle.tables.specs.Tables.{Tables}
-use Rattle.tables.specs.Rows.{rowsOf}
+use Rattle.tables.specs.Rows.{publicRows, rowsOf}
 use Rattle.state.specs.declared.Run.{Run}
 use Rattle.state.specs.State.{State, fresh, runOf}
 use Rattle.state.specs.WellFormed.{wellFormedState}
 use Rattle.solver.specs.Step.{step}
 use Rattle.solver.proofs.StepLaws.{step-well-formed, fresh-well-formed}
 use Rattle.netlist.specs.Outputs.{closed}
-use Rattle.repeats.specs.Repeats.{Accepts, Attempt, Lent, Otherwise, Repeat, returned, attempted, comesOf, laterTables, repeats, longEnough}
+use Rattle.solver.specs.declared.Answer.{Answer}
+use Rattle.repeats.specs.Repeats.{Accepts, Attempt, Lent, Otherwise, Repeat, returned, marks, attempted, comesOf, laterTables, repeats}
+use Rattle.repeats.specs.Repeats.{repeatsEnded, longEnough}
 use Rattle.repeats.proofs.Applying.{short-turned, attempt-is}
-use Rattle.demand3.specs.Demand3.{historyOf, Follows}
+use Rattle.answers.specs.Printed.{answerText}
+use Rattle.demand3.specs.Demand3.{historyOf, Follows, answerFor, answerIn, circuitTextOf, Seen, seen}
 use Rattle.late_runs.specs.Schedule.{tablesWith, tablesAt}
 use Rattle.late_runs.specs.Host.{dated, Turn, Try, Renew, repeatsBy, attemptsIn, conditionsIn}
 use Rattle.late_runs.proofs.Schedule.{not-due, due-later, with-accepted, tables-accepted}
-use Rattle.late_runs.proofs.Demands.{history-late}
+use Rattle.late_runs.proofs.Demands.{history-late, end-late, secrecy-late}
 use Rattle.late_runs.proofs.Host.{open-replaces, at-once}
 
 -- an attempt that is turned back gives the same, whichever accepted tables it read
@@ -150,3 +154,36 @@ module _ (d : Dimensions) (tables : Tables) (acc : Accepts d tables) (budget : �
   host-history =
       subst (Follows d (tablesAt d tables (conditionsIn d 0 turns)) budget) (sym host-repeats)
       (history-late d tables acc (conditionsIn d 0 turns) budget (attemptsIn turns))
+
+  abbrev pub hostRepeats : List Repeat
+  hostRepeats = repeatsBy d tables budget (runOf (d .n) fresh) turns
+
+  -- the plain run's answer over the same replacements, each after as many steps as repeats
+  abbrev pub plainAnswer : Answer
+  plainAnswer = answerFor d (tablesAt d tables (conditionsIn d 0 turns)) budget
+
+  -- repeats that have ended give it
+  pub host-end : repeatsEnded budget hostRepeats ≡ true → answerIn (d .n) hostRepeats ≡ plainAnswer
+  host-end =
+      subst (λ (h : List Repeat). repeatsEnded budget h ≡ true → answerIn (d .n) h ≡ plainAnswer) (sym host-repeats)
+      (end-late d tables acc (conditionsIn d 0 turns) budget (attemptsIn turns) .0)
+
+  -- what is seen of them outside the gates
+  abbrev pub hostSees : List ℕ × ℕ × List Bool × List ℕ
+  hostSees = (circuitTextOf d, length hostRepeats, marks hostRepeats, answerText (min (d .n) 32) (answerIn (d .n) hostRepeats))
+
+  host-seen : hostSees ≡ (let s = seen d (tablesAt d tables (conditionsIn d 0 turns)) budget (attemptsIn turns) in (s .0, s .1, s .2, s .3))
+  host-seen = ap (λ (h : List Repeat). (circuitTextOf d, length h, marks h, answerText (min (d .n) 32) (answerIn (d .n) h))) host-repeats
+
+-- two hosts, each with turns of its own, that have ended and agree in verdict, model and count see the same, wherever their replacements fell
+pub hosts-alike : (d : Dimensions) (tables tables′ : Tables) (acc : Accepts d tables) (acc′ : Accepts d tables′) → publicRows d tables ≡ publicRows d tables′
+    → (budget : ℕ) (turns turns′ : List Turn) → plainAnswer d tables acc budget turns ≡ plainAnswer d tables′ acc′ budget turns′
+    → repeatsEnded budget (hostRepeats d tables acc budget turns) ≡ true → repeatsEnded budget (hostRepeats d tables′ acc′ budget turns′) ≡ true
+    → hostSees d tables acc budget turns ≡ hostSees d tables′ acc′ budget turns′
+hosts-alike d tables tables′ acc acc′ same budget turns turns′ q e e′ =
+    host-seen d tables acc budget turns
+    ∙ ap (λ (s : Seen). (s .0, s .1, s .2, s .3))
+    (secrecy-late d tables tables′ acc acc′ (conditionsIn d 0 turns) (conditionsIn d 0 turns′) same budget (attemptsIn turns) (attemptsIn turns′) q
+    (ap (repeatsEnded budget) (sym (host-repeats d tables acc budget turns)) ∙ e)
+    (ap (repeatsEnded budget) (sym (host-repeats d tables′ acc′ budget turns′)) ∙ e′))
+    ∙ sym (host-seen d tables′ acc′ budget turns′)

@@ -2,26 +2,34 @@
 -- nothing, and rows that are
 -- no padding row of the station stay. Computed; then two pairs that are seen alike though only one of them was changed, from what secrecy says.
 use mathlib.Core.Path.{_≡_, refl, sym, ap, _∙_}
+use mathlib.Core.Bool.{Bool, true, false}
 use mathlib.Core.List.{List, [], _∷_}
-use Prim.Native.Nat.{ℕ, _≤_}
+use Prim.Native.Nat.{ℕ, suc, _≤_, _<_}
 use native.Mathlib.Omega.{arith}
+use lib.ListN.{length, getD}
 use Rattle.words.specs.Sets.{bit, put, any, all, count, lowest}
 use Rattle.dimensions.specs.declared.Dimensions.{Dimensions}
 use Rattle.dimensions.specs.Sizes.{dimensions}
 use Rattle.tables.specs.Tables.{Tables, allTables}
-use Rattle.tables.specs.Rows.{padding, satisfied, freeLiterals}
+use Rattle.tables.specs.Rows.{rowsOf, padding, satisfied, freeLiterals}
 use Rattle.tables.specs.Acceptance.{allBelow}
+use Rattle.state.specs.declared.Standing.the-variants.{Open}
+use Rattle.state.specs.State.{fresh, runOf}
 use Rattle.state.specs.WellFormed.{wellFormed}
 use Rattle.verdicts.specs.declared.Verdict.{Verdict}
 use Rattle.verdicts.specs.declared.Verdict.the-variants.{Satisfiable, Unsatisfiable}
 use Rattle.solver.specs.declared.Answer.{Answer}
+use Rattle.solver.specs.Step.{after}
+use Rattle.solver.specs.Truth.{allTrue}
 use Rattle.solver.specs.Entries.{answerOf}
 use Rattle.late.specs.declared.Condition.{Condition}
-use Rattle.repeats.specs.Repeats.{Accepts, Attempt, longOnes}
-use Rattle.demand3.specs.Demand3.{answerFor, seen}
+use Rattle.repeats.specs.Repeats.{Accepts, Attempt, Repeat, returned, longOnes}
+use Rattle.demand3.specs.Demand3.{rowsByStep, historyOf, answerIn, answerFor, seen}
 use Rattle.late_runs.specs.Schedule.{tablesAt}
-use Rattle.late_runs.specs.Host.{dated, Step, Replace, play, started}
+use Rattle.late_runs.specs.Host.{dated, Step, Replace, play, started, stepsOf, Turn, repeatsBy, conditionsIn}
 use Rattle.late_runs.proofs.Demands.{end-late, secrecy-late}
+use Rattle.late_runs.proofs.Host.{host-refuted, host-closes}
+use Rattle.late_runs.proofs.CircuitHost.{host-history}
 
 abbrev small : Dimensions
 small = dimensions 1 1 1 0
@@ -113,3 +121,50 @@ late-unseen attempts attempts′ long long′ =
     secrecy-late small tables replaced accepted accepted′ (dated 1 (ill 1 2) ∷ []) [] refl 9 attempts attempts′ (after-one ∙ sym from-the-first)
     (end-late small tables accepted (dated 1 (ill 1 2) ∷ []) 9 attempts .1 (omega (arith, ap (λ (a : Answer). a .count) after-one)))
     (end-late small replaced accepted′ [] 9 attempts′ .1 (omega (arith, ap (λ (a : Answer). a .count) from-the-first)))
+
+-- two long enough attempts give the plain run's answer over the same replacement
+pub late-answer : (attempts : List Attempt) → 2 ≤ longOnes small attempts
+    → answerIn 1 (historyOf small (tablesAt small tables (dated 1 (ill 1 2) ∷ [])) 9 attempts) ≡ answer 2 Unsatisfiable
+late-answer attempts long =
+    let e = end-late small tables accepted (dated 1 (ill 1 2) ∷ []) 9 attempts in
+    e .0 (e .1 (omega (arith, ap (λ (a : Answer). a .count) after-one))) ∙ after-one
+
+-- padding | (−1), with (1) in the place of the left row before the first step: other tables at both stations, other replacements, the same answer
+abbrev other : Tables
+other = allTables (1 ∷ 1 ∷ []) (0 ∷ 1 ∷ []) []
+
+abbrev well : Condition
+well = record { station = 0; number = 1; row = record { positive = 1; negative = 0 } }
+
+accepted″ : Accepts small other
+unfolding allBelow
+accepted″ = refl
+
+pub before-first : answerFor small (tablesAt small other (dated 0 well ∷ [])) 9 ≡ answer 2 Unsatisfiable
+unfolding answerOf tablesAt freeLiterals padding satisfied bit put any count lowest
+before-first = refl
+
+pub both-late : (attempts attempts′ : List Attempt) → 2 ≤ longOnes small attempts → 2 ≤ longOnes small attempts′
+    → seen small (tablesAt small tables (dated 1 (ill 1 2) ∷ [])) 9 attempts ≡ seen small (tablesAt small other (dated 0 well ∷ [])) 9 attempts′
+both-late attempts attempts′ long long′ =
+    secrecy-late small tables other accepted accepted″ (dated 1 (ill 1 2) ∷ []) (dated 0 well ∷ []) refl 9 attempts attempts′ (after-one ∙ sym before-first)
+    (end-late small tables accepted (dated 1 (ill 1 2) ∷ []) 9 attempts .1 (omega (arith, ap (λ (a : Answer). a .count) after-one)))
+    (end-late small other accepted″ (dated 0 well ∷ []) 9 attempts′ .1 (omega (arith, ap (λ (a : Answer). a .count) before-first)))
+
+-- ---- the host, by its theorems
+
+-- 2 ^ (1 + 1) - 1 steps close the run, with a replacement between them
+pub three-close : play small (started small tables) (Step ∷ Replace (ill 1 2) ∷ Step ∷ Step ∷ []) .run .standing ≡ Open → ⊥
+unfolding stepsOf
+three-close = host-closes small tables accepted (Step ∷ Replace (ill 1 2) ∷ Step ∷ Step ∷ []) (omega arith)
+
+-- the tables at the close have no satisfying assignment
+pub all-fail : (a : ℕ → Bool) → allTrue a (rowsOf small replaced) ≡ false
+unfolding play allBelow wellFormed freeLiterals padding satisfied bit put any all count lowest
+all-fail = host-refuted small tables accepted (Step ∷ Replace (ill 1 2) ∷ Step ∷ []) refl
+
+-- each repeat of a host that mixes attempts and replacements returned the plain run's state
+pub host-each : (turns : List Turn) (i : ℕ) (none : Repeat) → i < length (repeatsBy small tables 9 (runOf 1 fresh) turns)
+    → getD (repeatsBy small tables 9 (runOf 1 fresh) turns) i none
+    ≡ returned 1 (after 1 (rowsByStep small (tablesAt small tables (conditionsIn small 0 turns))) (suc i) fresh)
+host-each turns i none b = host-history small tables accepted 9 turns .each i none b

@@ -3,3 +3,4 @@ pub mod Demands
 pub mod Host
 pub mod CircuitHost
 pub mod Examples
+pub mod Continuing

@@ -3,3 +3,4 @@ pub mod Applying
 pub mod RepeatChecks
 pub mod Buffers
 pub mod Repeating
+pub mod Marks

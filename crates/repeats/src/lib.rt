@@ -4,7 +4,6 @@ use refusals::Outcome;
 use refusals::Refusal;
 use sections::Addresses;
 use state::Run;
-use state::Standing;
 ghost use mathlib.Core.Path.{_≡_};
 ghost use Prim.Native.Nat.{_+_, _≤_};
 ghost use lib.ListN.{length};
@@ -13,11 +12,9 @@ ghost use Rattle.refusals.specs.declared.Outcome.the-variants.{Taken};
 ghost use Rattle.dimensions.specs.Sizes.{stateWires, inputWires};
 ghost use Rattle.tables.specs.Tables.{allTables};
 ghost use Rattle.tables.specs.Acceptance.{tableChecks};
-ghost use Rattle.state.specs.State.{stateOf};
 ghost use Rattle.state.specs.WellFormed.{stateChecks};
 ghost use Rattle.wires.specs.Packing.{packed};
 ghost use Rattle.netlist.specs.Netlist.{gatesOn};
-ghost use Rattle.netlist.specs.Outputs as Outputs;
 ghost use Rattle.repeats.specs.Application.{applied};
 ghost use Rattle.repeats.specs.Application as Application;
 ghost use Rattle.repeats.specs.Repeats.{circuitWords};
@@ -92,18 +89,6 @@ fn apply(
     read.run
 }
 
-// Whether the run is closed.
-fn closed(run: Run) -> bool
-    ensures { λ r. ⌜ r ≡ Outputs.closed (stateOf run) ⌝ }
-{
-    let standing = run.standing;
-    match standing {
-        Standing::Open => false,
-        Standing::Satisfied => true,
-        Standing::Refuted => true,
-    }
-}
-
 // Repeats the circuit on the run until it is closed, at most so many times.
 fn repeat_circuit(
     d: Dimensions,
@@ -142,7 +127,7 @@ fn repeat_circuit(
         outcome: Outcome::Taken,
         run: last,
         repeats,
-        mark: closed(last),
+        mark: verdicts::closed(last),
     }
 }
 

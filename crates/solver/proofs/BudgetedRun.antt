@@ -1,5 +1,5 @@
--- The budgeted run a step at a time: what is left of the budget from the present state gives what the whole gives from the fresh one.
-use mathlib.Core.Path.{_≡_, refl, sym, ap, ap₂, _∙_}
+-- The budgeted run a step at a time: what is left of the budget from the present state gives what the whole gives from the first one.
+use mathlib.Core.Path.{_≡_, refl, sym, ap, _∙_, subst}
 use mathlib.Core.Bool.{Bool, true, false, true≢false}
 use mathlib.Core.List.{List}
 use Prim.Native.Nat.{ℕ, zero, suc, _+_, _-_, _≤_, _<_}
@@ -80,12 +80,51 @@ module _ (n : ℕ) (rows : List Row) where
       go Satisfied e = refl
       go Refuted e = refl
 
--- what the loop knows of the run and the count
-pub record Running (n : ℕ) (rows : List Row) (budget : ℕ) (run : Run) (count : ℕ) : Type 0 where
+  -- a run and then another with its own budget from where it ended
+  abbrev then : ℕ → Ran → Ran
+  then b r = more (r .steps) (runFrom n (always rows) b (r .final))
+
+  -- a closed state has no step
+  pub run-closed : (k : ℕ) (s : State) → ifOpen (s .standing) true false ≡ false → runFrom n (always rows) k s ≡ record { steps = 0; final = s }
+  run-closed k s h = stops k s (go (s .standing) h)
+    where
+      go : (st : Standing) → ifOpen st true false ≡ false → ifOpen st (ltb 0 k) false ≡ false
+      go Open e = absurd (true≢false e)
+      go Satisfied e = refl
+      go Refuted e = refl
+
+  -- the run of a + b steps is that of a and then that of b: in the state that they reach, and in the sum of their counts
+  pub run-resumes : (a b : ℕ) (s : State) → let r = runFrom n (always rows) a s in let q = runFrom n (always rows) b (r .final) in
+      runFrom n (always rows) (a + b) s ≡ record { steps = r .steps + q .steps; final = q .final }
+  unfolding runFrom
+  run-resumes zero b s =
+      let e : 0 + b ≡ b = omega arith in ap (λ (x : ℕ). runFrom n (always rows) x s) e ∙ more-none (runFrom n (always rows) b s)
+  run-resumes (suc a) b s = go (run-resumes a b (step n rows s)) (s .standing) refl
+    where
+      stays : ifOpen (s .standing) true false ≡ false → runFrom n (always rows) (suc a + b) s ≡ then b (runFrom n (always rows) (suc a) s)
+      stays h =
+          run-closed (suc a + b) s h ∙ sym (ap (λ (r : Ran). then b r) (run-closed (suc a) s h) ∙ ap (λ (r : Ran). more 0 r) (run-closed b s h))
+
+      go : runFrom n (always rows) (a + b) (step n rows s) ≡ then b (runFrom n (always rows) a (step n rows s)) → (st : Standing) → s .standing ≡ st
+          → runFrom n (always rows) (suc a + b) s ≡ then b (runFrom n (always rows) (suc a) s)
+      go h Open e =
+          let k : suc a + b ≡ suc (a + b) = omega arith in
+          let r = runFrom n (always rows) a (step n rows s) in
+          ap (λ (x : ℕ). runFrom n (always rows) x s) k
+          ∙ goes (a + b) s e
+          ∙ ap (λ (x : Ran). more 1 x) h
+          ∙ more-more 1 (r .steps) (runFrom n (always rows) b (r .final))
+          ∙ sym (ap (λ (x : Ran). then b x) (goes a s e))
+      go h Satisfied e = stays (ap (λ (st : Standing). ifOpen st true false) e)
+      go h Refuted e = stays (ap (λ (st : Standing). ifOpen st true false) e)
+
+-- what the loop knows of the run and the count, from the state that it began with
+pub record Running (n : ℕ) (rows : List Row) (budget : ℕ) (start : State) (run : Run) (count : ℕ) : Type 0 where
   pub within : count ≤ budget
   pub same : run .n ≡ n
   pub formed : wellFormed run ≡ true
-  pub left : runFrom n (always rows) budget fresh ≡ more count (runFrom n (always rows) (budget - count) (stateOf run))
+  pub tidy : run ≡ runOf n (stateOf run)
+  pub left : runFrom n (always rows) budget start ≡ more count (runFrom n (always rows) (budget - count) (stateOf run))
 
 variables-of : (n : ℕ) (s : State) (run : Run) → run ≡ runOf n s → run .n ≡ n
 unfolding runOf
@@ -94,26 +133,37 @@ variables-of n s run e = ap (λ (r : Run). r .n) e
 state-of : (n : ℕ) (s : State) (run : Run) → run ≡ runOf n s → stateOf run ≡ s
 state-of n s run e = ap (λ (r : Run). stateOf r) e ∙ state-back n s
 
+-- a run that holds a state holds its own
+own-state : (n : ℕ) (s : State) (run : Run) → run ≡ runOf n s → run ≡ runOf n (stateOf run)
+own-state n s run e = e ∙ ap (λ (x : State). runOf n x) (sym (state-of n s run e))
+
 module _ (n : ℕ) (rows : List Row) (budget : ℕ) where
-  -- what the loop knows holds at its start: of the fresh run, of 1 to 32 variables, and the count 0
-  pub running-fresh : 1 ≤ n → n ≤ 32 → (run : Run) → run ≡ runOf n fresh → Running n rows budget run 0
-  running-fresh a b run e =
+  -- what the loop knows holds at its start: of a well-formed run of n variables, and the count 0
+  pub running-from : (run : Run) → run .n ≡ n → wellFormed run ≡ true → run ≡ runOf n (stateOf run) → Running n rows budget (stateOf run) run 0
+  running-from run same formed tidy =
       let k : budget ≡ budget - 0 = omega arith in record {
         within = omega arith;
-        same = variables-of n fresh run e;
-        formed = ap (λ (r : Run). wellFormed r) e ∙ run-of-formed n fresh a b (fresh-well-formed n);
-        left = more-none (runFrom n (always rows) budget fresh) ∙ ap₂ (λ (x : ℕ) (s : State). more 0 (runFrom n (always rows) x s)) k
-            (sym (state-of n fresh run e));
+        same = same;
+        formed = formed;
+        tidy = tidy;
+        left = more-none (runFrom n (always rows) budget (stateOf run)) ∙ ap (λ (x : ℕ). more 0 (runFrom n (always rows) x (stateOf run))) k;
       }
 
-  module _ (run : Run) (count : ℕ) (o : Running n rows budget run count) where
+  -- and of the fresh run, of 1 to 32 variables
+  pub running-fresh : 1 ≤ n → n ≤ 32 → (run : Run) → run ≡ runOf n fresh → Running n rows budget fresh run 0
+  running-fresh a b run e =
+      subst (λ (s : State). Running n rows budget s run 0) (state-of n fresh run e)
+      (running-from run (variables-of n fresh run e) (ap (λ (r : Run). wellFormed r) e ∙ run-of-formed n fresh a b (fresh-well-formed n))
+      (own-state n fresh run e))
+
+  module _ (start : State) (run : Run) (count : ℕ) (o : Running n rows budget start run count) where
     -- where the loop goes on, the count is below the budget
     pub running-less : ifOpen (run .standing) (ltb count budget) false ≡ true → count < budget
     running-less h = ltb-true count budget (open-e (run .standing) (ltb count budget) h .1)
 
     -- where the loop goes on, what it knows holds of the run after one more step and of the count plus 1
     pub running-on : ifOpen (run .standing) (ltb count budget) false ≡ true → (next : Run) → next ≡ runOf n (step n rows (stateOf run))
-        → Running n rows budget next (count + 1)
+        → Running n rows budget start next (count + 1)
     running-on h next e =
         let p = open-e (run .standing) (ltb count budget) h in
         let b = ltb-true count budget (p .1) in
@@ -121,6 +171,7 @@ module _ (n : ℕ) (rows : List Row) (budget : ℕ) where
           within = omega arith;
           same = variables-of n (step n rows (stateOf run)) next e;
           formed = ap (λ (r : Run). wellFormed r) e ∙ step-formed-run n rows run (o .same) (o .formed);
+          tidy = own-state n (step n rows (stateOf run)) next e;
           left = o .left
               ∙ ap (λ (r : Ran). more count r) (ap (λ (x : ℕ). runFrom n (always rows) x (stateOf run)) k
               ∙ goes n rows (budget - (count + 1)) (stateOf run) (p .0))
@@ -128,13 +179,20 @@ module _ (n : ℕ) (rows : List Row) (budget : ℕ) where
               ∙ ap (λ (s : State). more (count + 1) (runFrom n (always rows) (budget - (count + 1)) s)) (sym (state-of n (step n rows (stateOf run)) next e));
         }
 
-    -- where the loop ends, the count and the verdict of the run are the budgeted run's answer
-    pub running-end : ifOpen (run .standing) (ltb count budget) false ≡ false → (v : Verdict) → v ≡ verdictOf (run .standing) (run .t)
-        → _≡_ {A = Answer} (record { count = count; verdict = v }) (answerOf n (always rows) budget)
-    unfolding answerOf
-    running-end h v e =
+    -- where the loop ends, the count and the run's state are the budgeted run's
+    pub running-done : ifOpen (run .standing) (ltb count budget) false ≡ false
+        → _≡_ {A = Ran} (record { steps = count; final = stateOf run }) (runFrom n (always rows) budget start)
+    running-done h =
         let z : count ≡ count + 0 = omega arith in
-        ap₂ (λ (x : ℕ) (y : Verdict). record { count = x; verdict = y }) z e
-        ∙ sym (ap (λ (r : Ran). record { count = r .steps; verdict = verdictOf (r .final .standing) (r .final .t) })
-        (o .left ∙ ap (λ (r : Ran). more count r)
-        (stops n rows (budget - count) (stateOf run) (ap (λ (b : Bool). ifOpen (run .standing) b false) (left-over count budget) ∙ h))))
+        ap (λ (x : ℕ). record { steps = x; final = stateOf run }) z
+        ∙ sym (o .left ∙ ap (λ (r : Ran). more count r)
+        (stops n rows (budget - count) (stateOf run) (ap (λ (b : Bool). ifOpen (run .standing) b false) (left-over count budget) ∙ h)))
+
+-- where the fresh run's loop ends, the count and the verdict of the run are the budgeted run's answer
+pub running-end : (n : ℕ) (rows : List Row) (budget : ℕ) (run : Run) (count : ℕ) → Running n rows budget fresh run count
+    → ifOpen (run .standing) (ltb count budget) false ≡ false → (v : Verdict) → v ≡ verdictOf (run .standing) (run .t)
+    → _≡_ {A = Answer} (record { count = count; verdict = v }) (answerOf n (always rows) budget)
+unfolding answerOf
+running-end n rows budget run count o h v e =
+    ap (λ (y : Verdict). record { count = count; verdict = y }) e
+    ∙ ap (λ (r : Ran). record { count = r .steps; verdict = verdictOf (r .final .standing) (r .final .t) }) (running-done n rows budget fresh run count o h)

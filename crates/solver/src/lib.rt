@@ -37,7 +37,7 @@ pub enum Solved {
 }
 
 // Whether the tables are accepted and the run is a well-formed state of their n: 1, 2, 4, 3, 12 or 13 if not.
-fn check_all(d: Dimensions, left: &[u32], right: &[u32], public: &[u32], run: Run) -> Outcome
+pub fn check_all(d: Dimensions, left: &[u32], right: &[u32], public: &[u32], run: Run) -> Outcome
     ensures { λ r.
         ⌜ r ≡ outcome (tableChecks d (allTables (now (left .entry)) (now (right .entry)) (now (public .entry))) ++ stateChecks d run) ⌝ }
 {

@@ -3,7 +3,7 @@ use refusals::Refusal;
 use state::Run;
 use state::Standing;
 ghost use mathlib.Core.Path.{_≡_};
-ghost use mathlib.Core.Bool.{false, cond};
+ghost use mathlib.Core.Bool.{true, false, cond};
 ghost use mathlib.Core.List.{[], _∷_};
 ghost use lib.Dec.{ltb};
 ghost use Rattle.refusals.specs.Checks.{outcome};
@@ -33,6 +33,18 @@ pub fn goes_on(run: Run, count: u64, budget: u64) -> bool
         Standing::Open => count < budget,
         Standing::Satisfied => false,
         Standing::Refuted => false,
+    }
+}
+
+// Whether the run is closed: satisfied or refuted.
+pub fn closed(run: Run) -> bool
+    ensures { λ r. ⌜ r ≡ ifOpen (run .standing) false true ⌝ }
+{
+    let standing = run.standing;
+    match standing {
+        Standing::Open => false,
+        Standing::Satisfied => true,
+        Standing::Refuted => true,
     }
 }
 

@@ -1,22 +1,27 @@
--- `check` meets its contract: the tables' refusal comes first, then that of the texts' tables.
+-- `check` meets its contract: an overlong text is refused first, then the tables, then the texts' tables.
 use mathlib.Core.Path.{sym, _∙_}
 use Rattle.tables.specs.Tables.{Tables, allTables}
-use Rattle.excerpts.proofs.Checks.{tables-refused, tables-taken}
+use Rattle.excerpts.proofs.Checks.{overlong-refused, tables-refused, tables-taken}
 use borrow.Author.Needs.{needs}
 use Rattle.excerpts.proofs.check.Statement.{statement}
 use Rattle.excerpts.proofs.check.Tie as tie
 
--- where the tables are lent, before the texts
-abbrev tables-lent : tie.After-accept → tie.After-shared-slice-known3
-tables-lent c = c .before .before .before
+-- where the code starts, from where the texts are lent
+abbrev lent : tie.After-shared-slice-known5 → tie.Start
+lent c = c .before .before .before .before .before
 
--- where the code starts, from the first call
+-- and from the first call
 abbrev start : tie.After-accept → tie.Start
-start c = tables-lent c .before .before .before
+start c = lent (c .before .before)
 
 -- the tables
 abbrev tables : tie.Start → Tables
 tables s = allTables (s .args .left .now) (s .args .right .now) (s .args .public .now)
+
+returns : tie.Need-returns
+returns c =
+    let s = lent (c .before) in
+    overlong-refused (s .args .d) (tables s) (s .args .left-text .now) (s .args .right-text .now) (s .args .number) (c .if1 .taken)
 
 accept-requires : tie.Need-accept-requires
 accept-requires c κs = search needs
@@ -36,32 +41,33 @@ read-requires-2 c κs = search needs
 judge-requires : tie.Need-judge-requires
 judge-requires c κs = search needs
 
-returns : tie.Need-returns
-returns c =
-    let accept = c .before .before .before in
-    let s = start accept in
-    tables-refused (s .args .d) (tables s) (s .args .left-text .now) (s .args .right-text .now) (s .args .number) _
-    (sym (accept .accept .ensures) ∙ c .before .checked .given .1)
-
 returns-2 : tie.Need-returns-2
 returns-2 c =
+    let accept = c .before .before .before in
+    let s = start accept in
+    tables-refused (s .args .d) (tables s) (s .args .left-text .now) (s .args .right-text .now) (s .args .number) (accept .before .if1 .left) _
+    (sym (accept .accept .ensures) ∙ c .before .checked .given .1)
+
+returns-3 : tie.Need-returns-3
+returns-3 c =
     let right = c .before in
     let left = right .before in
     let told = left .before in
     let accept = told .before .before in
     let s = start accept in
-    tables-taken (s .args .d) (tables s) (s .args .left-text .now) (s .args .right-text .now) (s .args .number)
+    tables-taken (s .args .d) (tables s) (s .args .left-text .now) (s .args .right-text .now) (s .args .number) (accept .before .if1 .left)
     (sym (accept .accept .ensures) ∙ told .enum-told .given .1) _ _ (left .read .ensures) (right .read2 .ensures) _ (c .judge .ensures)
 
 pub check-spec : {M : Type 1} → statement M
 check-spec =
     tie.close
     (tie.spec
+    returns
     accept-requires
     enum-known-checked
     enum-told
     read-requires
     read-requires-2
     judge-requires
-    returns
-    returns-2)
+    returns-2
+    returns-3)

@@ -1,43 +1,38 @@
--- `run_indexed` meets its contract: the rows of the words are the tables'.
-use mathlib.Core.Path.{ap, _∙_}
-use mathlib.Core.List.{List}
-use Rattle.words.specs.declared.Row.{Row}
+-- `run_indexed` meets its contract: count and verdict are those of the run that the fresh one's steps reach.
+use mathlib.Core.Path.{_∙_}
 use Rattle.tables.specs.Tables.{Tables, allTables}
-use Rattle.solver.specs.Step.{always}
-use Rattle.solver.specs.Entries.{answerOf}
-use Rattle.indexed.proofs.Made.{made-rows, made}
+use Rattle.tables.proofs.Accepted.{accepted}
+use Rattle.indexed.proofs.Continuing.{fresh-ready, fresh-answer}
 use borrow.Author.Needs.{needs}
 use Rattle.indexed.proofs.run_indexed.Statement.{statement}
 use Rattle.indexed.proofs.run_indexed.Tie as tie
 
 -- where the code starts, from the first call
-abbrev start : tie.After-make-index → tie.Start
-start c = c .before .before .before .before .before
+abbrev start : tie.After-fresh → tie.Start
+start c = c .before .before .before .before
 
 -- the tables at the start
 abbrev tables : tie.Start → Tables
 tables s = allTables (s .args .left .now) (s .args .right .now) (s .args .public .now)
 
-make-index-requires : tie.Need-make-index-requires
-make-index-requires c κs = search needs
+fresh-requires : tie.Need-fresh-requires
+fresh-requires c κs = search needs
 
-rows-requires : tie.Need-rows-requires
-rows-requires c κs = search needs
+run-accepted-requires : tie.Need-run-accepted-requires
+run-accepted-requires c κs =
+    let s = start c in
+    let size = accepted (s .args .d) (tables s) (s .pre) .size in
+    (s .pre, fresh-ready (s .args .d .n) (size .n-least) (size .n-most) _ (c .fresh .ensures))
 
-run-to-close-requires : tie.Need-run-to-close-requires
-run-to-close-requires c κs =
-    let at-index = c .before .before .before in
-    let s = start at-index in
-    made (s .args .d) (tables s) _ (at-index .make-index .ensures .0) _ (c .before .rows .ensures) (s .pre) _ (at-index .make-index .ensures .1)
+verdict-of-requires : tie.Need-verdict-of-requires
+verdict-of-requires c κs = search needs
 
 returns : tie.Need-returns
 returns c =
-    let at-index = c .before .before .before .before in
-    let s = start at-index in
-    c .run-to-close .ensures
-    ∙ ap (λ (rows : List Row). answerOf (s .args .d .n) (always rows) (s .args .budget))
-    (made-rows (s .args .d) (tables s) _ (at-index .make-index .ensures .0) _ (c .before .before .rows .ensures))
+    let ran = c .before in
+    let at-fresh = ran .before in
+    fresh-answer _ _ _ _ (at-fresh .fresh .ensures) _ (ran .run-accepted .ensures) _ (c .verdict-of .ensures .0)
 
 pub run-indexed-spec : {M : Type 1} → statement M
 run-indexed-spec =
-    tie.close (tie.spec make-index-requires rows-requires run-to-close-requires returns)
+    tie.close (tie.spec fresh-requires run-accepted-requires verdict-of-requires returns)

@@ -7,12 +7,13 @@ use borrow.Author.Needs.{needs}
 use Rattle.tables.specs.Tables.{Tables, allTables}
 use Rattle.tables.specs.Rows.{rowsOf}
 use Rattle.tables.proofs.Accepted.{accepted}
+use Rattle.state.specs.State.{fresh}
 use Rattle.solver.proofs.BudgetedRun.{Running, running-fresh, running-less, running-on, running-end}
 use Rattle.solver.proofs.run_to_close.Statement.{statement}
 use Rattle.solver.proofs.run_to_close.Tie as tie
 
 abbrev Inv-loop : tie.InvT-loop
-Inv-loop d left right public budget run₀ count₀ run count = Running (d .n) (rowsOf d (allTables left right public)) budget run count
+Inv-loop d left right public budget run₀ count₀ run count = Running (d .n) (rowsOf d (allTables left right public)) budget fresh run count
 
 abbrev μ-loop : tie.MeasureT-loop
 μ-loop d left right public budget run₀ count₀ run count = budget - count
@@ -44,16 +45,16 @@ add-count : tie.Need-add-count Inv-loop μ-loop
 add-count c = record {
   fits = omega (
     arith,
-    running-less _ _ _ _ _ (c .before .before .before .loop .inv)
+    running-less _ _ _ _ _ _ (c .before .before .before .loop .inv)
         (sym (c .before .before .goes-on .ensures) ∙ c .before .if1 .taken),
   );
 }
 
 loop-less : tie.Need-loop-less Inv-loop μ-loop
-loop-less c = omega (arith, running-less _ _ _ _ _ (c .before .before .before .loop .inv) (sym (c .before .before .goes-on .ensures) ∙ c .before .if1 .taken))
+loop-less c = omega (arith, running-less _ _ _ _ _ _ (c .before .before .before .loop .inv) (sym (c .before .before .goes-on .ensures) ∙ c .before .if1 .taken))
 
 loop-again : tie.Need-loop-again Inv-loop μ-loop
-loop-again c = running-on _ _ _ _ _ (c .before .before .before .loop .inv) (sym (c .before .before .goes-on .ensures)
+loop-again c = running-on _ _ _ _ _ _ (c .before .before .before .loop .inv) (sym (c .before .before .goes-on .ensures)
     ∙ c .before .if1 .taken) _ (c .giant-step .ensures)
 
 verdict-of-requires : tie.Need-verdict-of-requires Inv-loop μ-loop

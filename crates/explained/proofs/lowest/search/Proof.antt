@@ -1,4 +1,4 @@
--- `search` meets its contract. The loop's invariant: the number found, or else the rows left, give what the number found before and all the rows give.
+-- `search` meets its contract. The loop's invariant: the number found, or else the rows left, give what the number found earlier and all the rows give.
 use mathlib.Core.Path.{_≡_}
 use Prim.Native.Nat.{_-_, _/_, _≤_, _<_}
 use native.Mathlib.Omega.{arith}
@@ -10,10 +10,10 @@ use Rattle.explained.proofs.lowest.search.Statement.{statement}
 use Rattle.explained.proofs.lowest.search.Tie as tie
 
 abbrev Inv-loop : tie.InvT-loop
-Inv-loop before words first rule t f rows found₀ i₀ found i = (i ≤ rows) × Searched (shows 32 t f rule) words rows first before i found
+Inv-loop earlier words first rule t f rows found₀ i₀ found i = (i ≤ rows) × Searched (shows 32 t f rule) words rows first earlier i found
 
 abbrev μ-loop : tie.MeasureT-loop
-μ-loop before words first rule t f rows found₀ i₀ found i = rows - i
+μ-loop earlier words first rule t f rows found₀ i₀ found i = rows - i
 
 -- ---- places
 
@@ -27,7 +27,7 @@ looked c = let l = c .before .loop in turn (l .i) (length (start c .args .words 
 
 loop-holds : tie.Need-loop-holds Inv-loop μ-loop
 loop-holds c = let a = c .before .args in
-    (omega arith, searched-start (shows 32 (a .t) (a .f) (a .rule)) (a .words .now) (length (a .words .now) / 2) (a .first) (a .found))
+    (omega arith, searched-start (shows 32 (a .t) (a .f) (a .rule)) (a .words .now) (length (a .words .now) / 2) (a .first) (a .earlier))
 
 mul-at : tie.Need-mul-at Inv-loop μ-loop
 mul-at c = search needs
@@ -68,7 +68,7 @@ loop-again c =
     let l = t .before .loop in
     let a = start t .args in (
       omega (arith, looked t .0),
-      searched-next (shows 32 (a .t) (a .f) (a .rule)) (a .words .now) (length (a .words .now) / 2) (a .first) (a .found) (l .i)
+      searched-next (shows 32 (a .t) (a .f) (a .rule)) (a .words .now) (length (a .words .now) / 2) (a .first) (a .earlier) (l .i)
           (l .found) (c .number-or .result)
           (start t .pre .1 .0) (looked t .0) (looked t .1) (c .number-or .ensures) (l .inv .1),
     )
@@ -77,7 +77,7 @@ returns : tie.Need-returns Inv-loop μ-loop
 returns c =
     let l = c .before .loop in
     let a = c .before .before .before .args in
-    searched-end (shows 32 (a .t) (a .f) (a .rule)) (a .words .now) (length (a .words .now) / 2) (a .first) (a .found) (l .i) (l .found)
+    searched-end (shows 32 (a .t) (a .f) (a .rule)) (a .words .now) (length (a .words .now) / 2) (a .first) (a .earlier) (l .i) (l .found)
     (c .loop-test .left) (l .inv .1)
 
 pub search-spec : {M : Type 1} → statement M
