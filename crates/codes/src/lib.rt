@@ -4,9 +4,10 @@ use refusals::Outcome;
 use refusals::Refusal;
 use verdicts::Verdict;
 ghost use mathlib.Core.Path.{_≡_};
+ghost use mathlib.Core.List.{[], _∷_};
 ghost use Prim.Native.Nat.{min};
 ghost use Rattle.refusals.specs.Checks.{outcome};
-ghost use Rattle.refusals.specs.Numbers.{codeOf};
+ghost use Rattle.refusals.specs.Numbers.{codeOf, said};
 ghost use Rattle.dimensions.specs.Sizes as Sizes;
 ghost use Rattle.verdicts.specs.Verdicts.{verdictNumber, modelWord};
 ghost use Rattle.codes.specs.Codes.{variableChecks, verdictFrom};
@@ -24,6 +25,7 @@ pub fn byte(x: u64) -> u8
 // Whether there may be n variables: 1 if not.
 pub fn check_variables(n: u8) -> Outcome
     ensures { λ r. ⌜ r ≡ outcome (variableChecks n) ⌝ }
+    ensures { λ r. ⌜ codeOf r ∷ [] ≡ said (outcome (variableChecks n)) [] ⌝ }
 {
     if (n < 1) | (Dimensions::VARIABLES < n as u64) {
         return Outcome::Refused(Refusal::Variables);

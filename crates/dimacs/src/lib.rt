@@ -4,11 +4,13 @@ use header::Sizes;
 use refusals::Outcome;
 use refusals::Refusal;
 ghost use mathlib.Core.Path.{_≡_};
+ghost use mathlib.Core.List.{[], _∷_};
+ghost use Rattle.refusals.specs.Numbers.{codeOf, said};
 ghost use Prim.Native.Nat.{_≤_};
 ghost use Rattle.dimensions.specs.Sizes.{mostVariables, mostRows};
 ghost use Rattle.clauses.specs.First.{clausesFrom};
 ghost use Rattle.dimacs.specs.Text.{tableOf, bodyOf, refused};
-ghost use Rattle.dimacs.specs.ThreeTexts.{refusedTexts, acceptedTexts, together, textTables};
+ghost use Rattle.dimacs.specs.ThreeTexts.{refusedTexts, acceptedTexts, together, textTables, textsOutcome};
 
 // A text's table: n, its row count and its row words, positive before negative; the words past the rows are zero. A refused text has none.
 pub struct Table {
@@ -75,6 +77,7 @@ fn read_rows(text: &[u8], start: usize, n: u8, m: u8) -> Table
 // The table of a text whose header has `least` rows or more, or 1, 2 or 5.
 pub fn read(text: &[u8], least: u8) -> Table
     ensures { λ r. ⌜ r ≡ tableOf least (now (text .entry)) ⌝ }
+    ensures { λ r. ⌜ codeOf (r .outcome) ∷ [] ≡ said (tableOf least (now (text .entry)) .outcome) [] ⌝ }
 {
     if 65536 < text.len() {
         return refuse(Refusal::Text);
@@ -148,6 +151,9 @@ fn join(l: Table, r: Table, p: Table) -> TextTables
 // The tables of the two stations' texts and of the public one: the left text's refusal, the right's, the public's, then 6.
 pub fn read_tables(left: &[u8], right: &[u8], public: &[u8]) -> TextTables
     ensures { λ r. ⌜ r ≡ textTables (now (left .entry)) (now (right .entry)) (now (public .entry)) ⌝ }
+    ensures { λ r.
+        ⌜ codeOf (r .outcome) ∷ []
+        ≡ said (textsOutcome (tableOf 1 (now (left .entry))) (tableOf 1 (now (right .entry))) (tableOf 0 (now (public .entry)))) [] ⌝ }
 {
     let l = read(left, 1);
     let r = read(right, 1);

@@ -3,10 +3,11 @@ mod values;
 
 ghost use mathlib.Core.Path.{_≡_};
 ghost use mathlib.Core.Bool.{true, cond};
-ghost use mathlib.Core.List.{[]};
+ghost use mathlib.Core.List.{[], _∷_};
 ghost use Prim.Native.Nat.{_+_, _/_, _≤_};
 ghost use lib.ListN.{length, take};
 ghost use Rattle.refusals.specs.Checks.{outcome};
+ghost use Rattle.refusals.specs.Numbers.{codeOf, said};
 ghost use Rattle.gates.specs.Gates.{wiresOf};
 ghost use Rattle.gates.specs.Memory as Memory;
 ghost use Rattle.two_pass.specs.Evaluation.{evaluationChecks, filledWires};
@@ -18,6 +19,8 @@ use refusals::Refusal;
 pub fn evaluate(gates: &[u32], inputs: &[u8], wires: &mut [u8]) -> Outcome
     ensures { λ r. ⌜ r ≡ outcome (evaluationChecks (now (gates .entry)) (now (inputs .entry)) (now (wires .entry))) ⌝ }
     ensures { λ _. ⌜ now (wires .exit) ≡ filledWires (now (gates .entry)) (now (inputs .entry)) (now (wires .entry)) ⌝ }
+    ensures { λ r.
+        ⌜ codeOf r ∷ [] ≡ said (outcome (evaluationChecks (now (gates .entry)) (now (inputs .entry)) (now (wires .entry)))) [] ⌝ }
 {
     let end = inputs.len() + gates.len() / 3;
     // Few wires do not repay a trial's array. The giant step's largest circuit has 217,129 without public rows and 317,481 with them:

@@ -6,10 +6,10 @@ use header::Sizes;
 use refusals::Outcome;
 use refusals::Refusal;
 ghost use mathlib.Core.Path.{_≡_};
-ghost use mathlib.Core.List.{_∷_};
+ghost use mathlib.Core.List.{_∷_, []};
 ghost use Prim.Native.Nat.{_+_, _*_, _≤_, _<_};
 ghost use lib.ListN.{length};
-ghost use Rattle.refusals.specs.Numbers.{said};
+ghost use Rattle.refusals.specs.Numbers.{said, codeOf};
 ghost use Rattle.refusals.specs.Checks.{outcome};
 ghost use Rattle.clauses.specs.First.{clausesFrom, first};
 ghost use Rattle.tables.specs.Tables.{allTables};
@@ -78,6 +78,10 @@ pub fn check(
     ensures { λ r.
         ⌜ r ≡ outcome (excerptChecks d (allTables (now (left .entry)) (now (right .entry)) (now (public .entry))) (now («left_text» .entry))
         (now («right_text» .entry)) number) ⌝ }
+    ensures { λ r.
+        ⌜ codeOf r ∷ []
+        ≡ said (outcome (excerptChecks d (allTables (now (left .entry)) (now (right .entry)) (now (public .entry)))
+        (now («left_text» .entry)) (now («right_text» .entry)) number)) [] ⌝ }
 {
     if (65536 < left_text.len()) | (65536 < right_text.len()) {
         return Outcome::Refused(Refusal::Text);

@@ -5,10 +5,12 @@ use refusals::Refusal;
 use state::Run;
 use words::Row;
 ghost use mathlib.Core.Path.{_≡_};
+ghost use mathlib.Core.List.{[], _∷_};
 ghost use Prim.Native.Nat.{_+_, _*_, _≤_};
 ghost use lib.ListN.{length};
 ghost use lib.Seq.{sets};
 ghost use Rattle.refusals.specs.Checks.{outcome};
+ghost use Rattle.refusals.specs.Numbers.{codeOf, said};
 ghost use Rattle.tables.specs.Tables.{allTables};
 ghost use Rattle.tables.specs.Rows.{rowsFrom};
 ghost use Rattle.free_counts.specs.Counts.{freeCounts, countChecks, countsAfter};
@@ -70,6 +72,10 @@ pub fn count_free(
     ensures { λ _.
         ⌜ now (counts .exit) ≡ countsAfter d (allTables (now (left .entry)) (now (right .entry)) (now (public .entry)))
         run (now (counts .entry)) ⌝ }
+    ensures { λ r.
+        ⌜ codeOf r ∷ []
+        ≡ said (outcome (countChecks d (allTables (now (left .entry)) (now (right .entry)) (now (public .entry))) run
+        (length (now (counts .entry))))) [] ⌝ }
 {
     match check(d, left, right, public, run, counts.len()) {
         Outcome::Taken => {}

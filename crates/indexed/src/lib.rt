@@ -15,7 +15,7 @@ ghost use mathlib.Core.Bool.{true};
 ghost use mathlib.Core.List.{[], _∷_, _++_};
 ghost use lib.Dec.{eqb};
 ghost use Rattle.refusals.specs.Checks.{outcome};
-ghost use Rattle.refusals.specs.Numbers.{said};
+ghost use Rattle.refusals.specs.Numbers.{said, codeOf};
 ghost use Rattle.refusals.specs.declared.Outcome.the-variants.{Taken};
 ghost use Rattle.words.specs.Sameness.{same};
 ghost use Rattle.dimensions.specs.Sizes.{rowCount};
@@ -85,6 +85,8 @@ pub fn index(
     ensures { λ _.
         ⌜ now (index .exit) ≡ indexAfter d
         (allTables (now (left .entry)) (now (right .entry)) (now (public .entry))) (now (index .entry)) ⌝ }
+    ensures { λ r.
+        ⌜ codeOf r ∷ [] ≡ said (outcome (tableChecks d (allTables (now (left .entry)) (now (right .entry)) (now (public .entry))))) [] ⌝ }
 {
     let checked = tables::accept(d, left, right, public);
     match checked {
@@ -297,6 +299,11 @@ pub fn check_indexed(
         ⌜ r ≡ outcome (tableChecks d (allTables (now (left .entry)) (now (right .entry)) (now (public .entry)))
         ++ indexedChecks (d .n) (rowsOf d (allTables (now (left .entry)) (now (right .entry)) (now (public .entry))))
         (now (index .entry)) run number) ⌝ }
+    ensures { λ r.
+        ⌜ codeOf r ∷ []
+        ≡ said (outcome (tableChecks d (allTables (now (left .entry)) (now (right .entry)) (now (public .entry)))
+        ++ indexedChecks (d .n) (rowsOf d (allTables (now (left .entry)) (now (right .entry)) (now (public .entry))))
+        (now (index .entry)) run number)) [] ⌝ }
 {
     let checked = tables::accept(d, left, right, public);
     match checked {

@@ -6,11 +6,13 @@ use state::Run;
 use state::Standing;
 use words::Row;
 ghost use mathlib.Core.Path.{_≡_};
+ghost use mathlib.Core.List.{[], _∷_};
 ghost use mathlib.Core.Bool.{true, false, _&&_, cond};
 ghost use Prim.Native.Nat.{_+_, _-_, _*_, _≤_, _<_};
 ghost use lib.Dec.{leb};
 ghost use lib.ListN.{length};
 ghost use Rattle.refusals.specs.Checks.{outcome};
+ghost use Rattle.refusals.specs.Numbers.{codeOf, said};
 ghost use Rattle.tables.specs.Tables.{allTables};
 ghost use Rattle.tables.specs.Rows.{rowAt, padding};
 ghost use Rattle.tables.specs.Acceptance.{lowRow};
@@ -141,6 +143,9 @@ pub fn replace(
     ensures { λ _.
         ⌜ now (right .exit) ≡ tablesAfter d
         (allTables (now (left .entry)) (now (right .entry)) (now (public .entry))) run condition .right ⌝ }
+    ensures { λ r.
+        ⌜ codeOf r ∷ []
+        ≡ said (outcome (lateChecks d (allTables (now (left .entry)) (now (right .entry)) (now (public .entry))) run condition)) [] ⌝ }
 {
     match check(d, left, right, public, run, condition) {
         Outcome::Taken => {}

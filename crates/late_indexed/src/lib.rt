@@ -6,6 +6,9 @@ use refusals::Outcome;
 use state::Run;
 use words::Row;
 ghost use mathlib.Core.Path.{_≡_};
+ghost use mathlib.Core.List.{[], _∷_};
+ghost use Rattle.refusals.specs.Checks.{outcome};
+ghost use Rattle.refusals.specs.Numbers.{codeOf, said};
 ghost use Prim.Native.Nat.{_+_, _*_, _≤_, _<_};
 ghost use lib.ListN.{length};
 ghost use Rattle.words.specs.Booleans.{digit};
@@ -13,7 +16,7 @@ ghost use Rattle.tables.specs.Tables.{allTables};
 ghost use Rattle.tables.specs.Rows.{rowAt};
 ghost use Rattle.tally.specs.Tallies.{unmet};
 ghost use Rattle.late_indexed.specs.OldRow.{oldRow};
-ghost use Rattle.late_indexed.specs.Replacement.{tablesThen, indexThen, replacedIndexed};
+ghost use Rattle.late_indexed.specs.Replacement.{replaceChecks, tablesThen, indexThen, replacedIndexed};
 
 // What a replacement meets, and the number of unsatisfied rows then; refused, the number as it was.
 pub struct ReplacedIndexed {
@@ -93,6 +96,10 @@ pub fn replace_indexed(
     ensures { λ _.
         ⌜ now (index .exit) ≡ indexThen d (allTables (now (left .entry)) (now (right .entry)) (now (public .entry)))
         (now (index .entry)) run number condition ⌝ }
+    ensures { λ r.
+        ⌜ codeOf (r .outcome) ∷ []
+        ≡ said (outcome (replaceChecks d (allTables (now (left .entry)) (now (right .entry)) (now (public .entry)))
+        (now (index .entry)) run number condition)) [] ⌝ }
 {
     let checked = indexed::check_indexed(d, left, right, public, index, run, number);
     match checked {

@@ -1,16 +1,19 @@
 -- What the checks of reading back lead to, each by its condition. From the order of the checks.
-use mathlib.Core.Path.{_≡_, sym, ap, _∙_, subst}
+use mathlib.Core.Path.{_≡_, refl, sym, ap, _∙_, subst}
 use mathlib.Core.Bool.{Bool, true, false, _&&_}
-use mathlib.Core.List.{List}
+use mathlib.Core.List.{List, [], _∷_}
 use Prim.Native.Nat.{ℕ, _*_, _≤_, _<_}
 use native.Mathlib.Nat.{mul-le-mul}
 use native.Mathlib.Omega.{arith}
 use lib.ListN.{length, take, length-map}
 use lib.Seq.{take-at}
 use borrow.Author.Tests.{lt-ltb, le-ltb}
+use Rattle.refusals.specs.Checks.{outcome}
+use Rattle.refusals.specs.Numbers.{codeOf, said}
 use Rattle.refusals.specs.declared.Outcome.the-variants.{Taken, Refused}
 use Rattle.refusals.specs.declared.Refusal.the-variants.{Variables, Wires}
 use Rattle.refusals.specs.declared.Refusal.the-variants as refusal
+use Rattle.refusals.proofs.Outcomes.{given-said}
 use Rattle.words.specs.Booleans.{digit}
 use Rattle.words.specs.Sameness.{same}
 use Rattle.dimensions.specs.Sizes.{outside, stateWires}
@@ -24,7 +27,7 @@ use Rattle.wires.proofs.Lengths.{state-length}
 use Rattle.wires.proofs.Checks.{state-decided, state-packed}
 use Rattle.readback.specs.declared.Read.{Read}
 use Rattle.readback.specs.Unpacking.{runIn, holdsState}
-use Rattle.readback.specs.Reading.{readBack}
+use Rattle.readback.specs.Reading.{readChecks, readBack}
 
 -- ---- the run packed again
 
@@ -66,6 +69,14 @@ module _ (n : ℕ) (bytes : List ℕ) where
       pub read-taken : holdsState n bytes ≡ true → _≡_ {A = Read} (record { outcome = Taken; run = runIn n bytes }) (readBack n bytes)
       unfolding readBack
       read-taken k = rw (e, le-ltb (length bytes) (stateWires n) h, k)
+
+  -- what reading back gives says the number of its outcome
+  pub read-said : {r : Read} → r ≡ readBack n bytes → (r ≡ readBack n bytes) × (codeOf (r .outcome) ∷ [] ≡ said (outcome (readChecks n bytes)) [])
+  unfolding readBack
+  read-said e =
+      let says : Read → List ℕ = λ x. codeOf (x .outcome) ∷ [] in
+      let whole : Read = record { outcome = Taken; run = runIn n bytes } in
+      (e, ap says e ∙ given-said says (outcome (readChecks n bytes)) whole (λ q. record { outcome = Refused q; run = runOf n fresh }) [] refl (λ q. refl))
 
   -- what comparing the packed run with the bytes found
   pub found : (run : Run) (r : Bool) → run ≡ runIn n bytes → r ≡ wellFormed run && same (bytesOf (stateBits n (stateOf run))) (take (stateWires n) bytes)

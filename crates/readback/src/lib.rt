@@ -6,17 +6,20 @@ use refusals::Outcome;
 use refusals::Refusal;
 use state::Run;
 ghost use mathlib.Core.Path.{_≡_};
+ghost use mathlib.Core.List.{[], _∷_};
 ghost use mathlib.Core.Bool.{_&&_};
+ghost use Rattle.refusals.specs.Numbers.{codeOf, said};
 ghost use Prim.Native.Nat.{_≤_};
 ghost use lib.ListN.{length, take};
 ghost use Rattle.words.specs.Sameness.{same};
+ghost use Rattle.refusals.specs.Checks.{outcome};
 ghost use Rattle.refusals.specs.declared.Outcome.the-variants.{Refused};
 ghost use Rattle.dimensions.specs.Sizes.{stateWires};
 ghost use Rattle.state.specs.State.{stateOf, runOf, fresh};
 ghost use Rattle.state.specs.WellFormed.{wellFormed};
 ghost use Rattle.gates.specs.Memory.{bytesOf};
 ghost use Rattle.wires.specs.Layout.{stateBits};
-ghost use Rattle.readback.specs.Reading.{readBack};
+ghost use Rattle.readback.specs.Reading.{readChecks, readBack};
 
 // The wires of a state of 32 variables.
 const STATE_WIRES: usize = 3171;
@@ -56,6 +59,7 @@ fn refused(n: u8, refusal: Refusal) -> Read
 // The run of n that the front of the bytes holds; 1, 10 or 12 if there is none.
 pub fn read_back(n: u8, bytes: &[u8]) -> Read
     ensures { λ r. ⌜ r ≡ readBack n (now (bytes .entry)) ⌝ }
+    ensures { λ r. ⌜ codeOf (r .outcome) ∷ [] ≡ said (outcome (readChecks n (now (bytes .entry)))) [] ⌝ }
 {
     if n < 1 || Dimensions::VARIABLES < n as u64 {
         return refused(n, Refusal::Variables);

@@ -10,6 +10,7 @@ use lib.ListN.{length, take}
 use lib.Seq.{take-at}
 use borrow.Author.Tests.{lt-ltb, le-ltb, ltb-false}
 use Rattle.refusals.specs.Checks.{Check, check, outcome, given}
+use Rattle.refusals.specs.Numbers.{codeOf, said}
 use Rattle.refusals.specs.declared.Outcome.{Outcome}
 use Rattle.refusals.specs.declared.Outcome.the-variants.{Taken, Refused}
 use Rattle.refusals.specs.declared.Refusal.{Refusal}
@@ -121,21 +122,23 @@ words-generated d tables gates e h =
 -- ---- the call
 
 module _ (d : Dimensions) (tables : Tables) (times : ℕ) (gates bytes wires : List ℕ) (run : Run) where
-  -- result and buffers are the definitions'
+  -- result and buffers are the definitions', and the result says the number of its outcome
   abbrev Meets : Repeated → List ℕ → List ℕ → List ℕ → Type 0
   Meets x g b w =
       (x ≡ repeated d tables times gates bytes wires run)
       × ((g ≡ gatesAfter d tables times gates bytes wires run)
-      × ((b ≡ bytesAfter d tables times gates bytes wires run) × (w ≡ wiresAfter d tables times gates bytes wires run)))
+      × ((b ≡ bytesAfter d tables times gates bytes wires run)
+      × ((w ≡ wiresAfter d tables times gates bytes wires run)
+      × (codeOf (x .outcome) ∷ [] ≡ said (outcome (repeatChecks d tables (length gates) (length bytes) (length wires) run)) []))))
 
   pub repeat-refused : (r : Refusal) → outcome (repeatChecks d tables (length gates) (length bytes) (length wires) run) ≡ Refused r
       → Meets (refusedWith run r) gates bytes wires
   unfolding allowed repeated gatesAfter bytesAfter wiresAfter
-  repeat-refused r e = rw e (refl, (refl, (refl, refl)))
+  repeat-refused r e = rw e (refl, (refl, (refl, (refl, refl))))
 
   pub repeat-taken : outcome (repeatChecks d tables (length gates) (length bytes) (length wires) run) ≡ Taken
       → (x : Repeated) (g b w : List ℕ) → x ≡ repeatedBy run (made d tables times bytes wires run) → g ≡ writtenWords d gates
       → b ≡ bytesLeft d tables bytes run (made d tables times bytes wires run) → w ≡ wiresLeft d tables bytes wires run (made d tables times bytes wires run)
       → Meets x g b w
   unfolding allowed repeated gatesAfter bytesAfter wiresAfter
-  repeat-taken e x g b w p q s t = rw e (p, (q, (s, t)))
+  repeat-taken e x g b w p q s t = rw e (p, (q, (s, (t, ap (λ (y : Repeated). codeOf (y .outcome) ∷ []) p))))

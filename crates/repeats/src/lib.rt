@@ -5,9 +5,11 @@ use refusals::Refusal;
 use sections::Addresses;
 use state::Run;
 ghost use mathlib.Core.Path.{_≡_};
+ghost use mathlib.Core.List.{[], _∷_};
 ghost use Prim.Native.Nat.{_+_, _≤_};
 ghost use lib.ListN.{length};
 ghost use Rattle.refusals.specs.Checks.{outcome};
+ghost use Rattle.refusals.specs.Numbers.{codeOf, said};
 ghost use Rattle.refusals.specs.declared.Outcome.the-variants.{Taken};
 ghost use Rattle.dimensions.specs.Sizes.{stateWires, inputWires};
 ghost use Rattle.tables.specs.Tables.{allTables};
@@ -156,6 +158,10 @@ pub fn repeat(
     ensures { λ _.
         ⌜ now (wires .exit) ≡ Repeating.wiresAfter d (allTables (now (left .entry)) (now (right .entry)) (now (public .entry))) times
         (now (gates .entry)) (now (bytes .entry)) (now (wires .entry)) run ⌝ }
+    ensures { λ r.
+        ⌜ codeOf (r .outcome) ∷ []
+        ≡ said (outcome (repeatChecks d (allTables (now (left .entry)) (now (right .entry)) (now (public .entry)))
+        (length (now (gates .entry))) (length (now (bytes .entry))) (length (now (wires .entry))) run)) [] ⌝ }
 {
     let lent = gates.len();
     match check(d, left, right, public, lent, bytes.len(), wires.len(), run) {

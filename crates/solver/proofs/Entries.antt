@@ -1,10 +1,10 @@
 -- What the entries give: each computes from the outcome of its checks, which decide in order.
 use mathlib.Core.Path.{_≡_, refl, sym, ap, ap₂, _∙_}
 use mathlib.Core.Bool.{true, not}
-use mathlib.Core.List.{List, _∷_, _++_}
+use mathlib.Core.List.{List, [], _∷_, _++_}
 use Prim.Native.Nat.{ℕ}
 use Rattle.refusals.specs.Checks.{outcome, given}
-use Rattle.refusals.specs.Numbers.{said}
+use Rattle.refusals.specs.Numbers.{codeOf, said}
 use Rattle.refusals.specs.declared.Outcome.{Outcome}
 use Rattle.refusals.specs.declared.Outcome.the-variants.{Taken, Refused}
 use Rattle.refusals.specs.declared.Refusal.{Refusal}
@@ -76,6 +76,16 @@ module _ (d : Dimensions) (tables : Tables) (run : Run) where
   step-refused o e r t = ap (λ (x : Outcome). record { outcome = x; run = run }) t
       ∙ ap (λ (x : Outcome). given x (record { outcome = Taken; run = runOf (d .n) (step (d .n) (rowsOf d tables) (stateOf run)) })
       (λ y. record { outcome = Refused y; run = run })) (sym t ∙ e)
+
+  -- what the step's entry gives says the number of its outcome
+  pub step-said : {r : Stepped} → r ≡ stepped d tables run
+      → (r ≡ stepped d tables run) × (codeOf (r .outcome) ∷ [] ≡ said (outcome (tableChecks d tables ++ stateChecks d run)) [])
+  unfolding stepped
+  step-said e =
+      let says : Stepped → List ℕ = λ x. codeOf (x .outcome) ∷ [] in
+      let next : Stepped = record { outcome = Taken; run = runOf (d .n) (step (d .n) (rowsOf d tables) (stateOf run)) } in
+      let refused : Refusal → Stepped = λ y. record { outcome = Refused y; run = run } in
+      (e, ap says e ∙ given-said says (outcome (tableChecks d tables ++ stateChecks d run)) next refused [] refl (λ q. refl))
 
 -- ---- the budgeted run's entry
 

@@ -9,3 +9,4 @@ pub mod HeldRules
 pub mod HeldStep
 pub mod BudgetedRun
 pub mod Entries
+pub mod Promises

@@ -7,9 +7,9 @@ use refusals::Refusal;
 use state::Run;
 use verdicts::Verdict;
 ghost use mathlib.Core.Path.{_≡_};
-ghost use mathlib.Core.List.{_∷_, _++_};
+ghost use mathlib.Core.List.{_∷_, _++_, []};
 ghost use Rattle.refusals.specs.Checks.{outcome};
-ghost use Rattle.refusals.specs.Numbers.{said};
+ghost use Rattle.refusals.specs.Numbers.{said, codeOf};
 ghost use Rattle.refusals.specs.declared.Outcome.the-variants.{Taken};
 ghost use Rattle.tables.specs.Tables.{allTables};
 ghost use Rattle.tables.specs.Acceptance.{tableChecks};
@@ -40,6 +40,10 @@ pub enum Solved {
 pub fn check_all(d: Dimensions, left: &[u32], right: &[u32], public: &[u32], run: Run) -> Outcome
     ensures { λ r.
         ⌜ r ≡ outcome (tableChecks d (allTables (now (left .entry)) (now (right .entry)) (now (public .entry))) ++ stateChecks d run) ⌝ }
+    ensures { λ r.
+        ⌜ codeOf r ∷ []
+        ≡ said (outcome (tableChecks d (allTables (now (left .entry)) (now (right .entry)) (now (public .entry)))
+        ++ stateChecks d run)) [] ⌝ }
 {
     let checked = tables::accept(d, left, right, public);
     match checked {
@@ -51,6 +55,10 @@ pub fn check_all(d: Dimensions, left: &[u32], right: &[u32], public: &[u32], run
 // The run after one giant step; as it was where the call is turned back.
 pub fn step(d: Dimensions, left: &[u32], right: &[u32], public: &[u32], run: Run) -> Stepped
     ensures { λ r. ⌜ r ≡ stepped d (allTables (now (left .entry)) (now (right .entry)) (now (public .entry))) run ⌝ }
+    ensures { λ r.
+        ⌜ codeOf (r .outcome) ∷ []
+        ≡ said (outcome (tableChecks d (allTables (now (left .entry)) (now (right .entry)) (now (public .entry)))
+        ++ stateChecks d run)) [] ⌝ }
 {
     let outcome = check_all(d, left, right, public, run);
     match outcome {
@@ -74,6 +82,10 @@ pub fn step_in_place(
         ⌜ r ≡ stepped d (allTables (now (left .entry)) (now (right .entry)) (now (public .entry))) (now (run .entry)) .outcome ⌝ }
     ensures { λ _.
         ⌜ now (run .exit) ≡ stepped d (allTables (now (left .entry)) (now (right .entry)) (now (public .entry))) (now (run .entry)) .run ⌝ }
+    ensures { λ r.
+        ⌜ codeOf r ∷ []
+        ≡ said (outcome (tableChecks d (allTables (now (left .entry)) (now (right .entry)) (now (public .entry)))
+        ++ stateChecks d (now (run .entry)))) [] ⌝ }
 {
     let next = step(d, left, right, public, *run);
     *run = next.run;
@@ -83,6 +95,10 @@ pub fn step_in_place(
 // One giant step of a run that is kept elsewhere, as in a host's words: it is lent to `step_in_place`, and comes back with the outcome.
 pub fn step_lent(d: Dimensions, left: &[u32], right: &[u32], public: &[u32], run: Run) -> Stepped
     ensures { λ r. ⌜ r ≡ stepped d (allTables (now (left .entry)) (now (right .entry)) (now (public .entry))) run ⌝ }
+    ensures { λ r.
+        ⌜ codeOf (r .outcome) ∷ []
+        ≡ said (outcome (tableChecks d (allTables (now (left .entry)) (now (right .entry)) (now (public .entry)))
+        ++ stateChecks d run)) [] ⌝ }
 {
     let mut next = run;
     let outcome = step_in_place(d, left, right, public, &mut next);

@@ -3,9 +3,11 @@ use dimensions::Dimensions;
 use refusals::Outcome;
 use refusals::Refusal;
 ghost use mathlib.Core.Path.{_≡_};
+ghost use mathlib.Core.List.{[], _∷_};
 ghost use Prim.Native.Nat.{_≤_};
 ghost use lib.ListN.{drop};
 ghost use Rattle.refusals.specs.Checks.{outcome};
+ghost use Rattle.refusals.specs.Numbers.{codeOf, said};
 ghost use Rattle.state.specs.State as State;
 ghost use Rattle.state.specs.State.{runOf, levelsOf};
 ghost use Rattle.state.specs.WellFormed as WellFormed;
@@ -151,6 +153,7 @@ pub fn well_formed(run: Run) -> bool
 // Whether the run is a well-formed state of the tables' n: 12 or 13 if not.
 pub fn check_state(d: Dimensions, run: Run) -> Outcome
     ensures { λ r. ⌜ r ≡ outcome (stateChecks d run) ⌝ }
+    ensures { λ r. ⌜ codeOf r ∷ [] ≡ said (outcome (stateChecks d run)) [] ⌝ }
 {
     if !well_formed(run) {
         return Outcome::Refused(Refusal::State);

@@ -4,8 +4,10 @@ use refusals::Outcome;
 use refusals::Refusal;
 use words::Row;
 ghost use mathlib.Core.Path.{_≡_};
+ghost use mathlib.Core.List.{[], _∷_};
 ghost use Rattle.words.specs.Sets.{bit};
 ghost use Rattle.refusals.specs.Checks.{outcome};
+ghost use Rattle.refusals.specs.Numbers.{codeOf, said};
 ghost use Rattle.tables.specs.Tables.{allTables};
 ghost use Rattle.tables.specs.Rows.{lowestOr, judged};
 ghost use Rattle.tables.specs.Acceptance.{tableChecks, allBelow};
@@ -72,6 +74,8 @@ fn all_below(words: &[u32], n: u32) -> bool
 // Whether the three tables are accepted: 1, 2, 4 or 3 if not.
 pub fn accept(d: Dimensions, left: &[u32], right: &[u32], public: &[u32]) -> Outcome
     ensures { λ r. ⌜ r ≡ outcome (tableChecks d (allTables (now (left .entry)) (now (right .entry)) (now (public .entry)))) ⌝ }
+    ensures { λ r.
+        ⌜ codeOf r ∷ [] ≡ said (outcome (tableChecks d (allTables (now (left .entry)) (now (right .entry)) (now (public .entry))))) [] ⌝ }
 {
     match d.check() {
         Outcome::Taken => {}

@@ -5,6 +5,7 @@ ghost use mathlib.Core.List.{[], _∷_};
 ghost use Prim.Native.Nat.{_+_, _/_, _≤_, _<_};
 ghost use lib.ListN.{length, take};
 ghost use Rattle.refusals.specs.Checks.{outcome};
+ghost use Rattle.refusals.specs.Numbers.{codeOf, said};
 ghost use Rattle.words.specs.Booleans.{digit};
 ghost use Rattle.gates.specs.Gates.{value, wiresOf};
 ghost use Rattle.gates.specs.Memory as Memory;
@@ -20,6 +21,8 @@ const VALUES: [u8; 12] = [0, 1, 1, 0, 0, 0, 0, 1, 1, 1, 0, 0];
 pub fn evaluate(gates: &[u32], inputs: &[u8], wires: &mut [u8]) -> Outcome
     ensures { λ r. ⌜ r ≡ outcome (evaluationChecks (now (gates .entry)) (now (inputs .entry)) (now (wires .entry))) ⌝ }
     ensures { λ _. ⌜ now (wires .exit) ≡ filledWires (now (gates .entry)) (now (inputs .entry)) (now (wires .entry)) ⌝ }
+    ensures { λ r.
+        ⌜ codeOf r ∷ [] ≡ said (outcome (evaluationChecks (now (gates .entry)) (now (inputs .entry)) (now (wires .entry)))) [] ⌝ }
 {
     let n = inputs.len();
     if !gates::accepted(gates, n) {

@@ -6,8 +6,10 @@ use refusals::Outcome;
 use refusals::Refusal;
 use state::Run;
 ghost use mathlib.Core.Path.{_≡_};
+ghost use mathlib.Core.List.{[], _∷_};
 ghost use lib.ListN.{length};
 ghost use Rattle.refusals.specs.Checks.{outcome};
+ghost use Rattle.refusals.specs.Numbers.{codeOf, said};
 ghost use Rattle.tables.specs.Tables.{allTables};
 ghost use Rattle.wires.specs.Packing.{packChecks, packed};
 ghost use Rattle.wires.specs.StatePacking.{packable, packedState};
@@ -22,6 +24,9 @@ pub fn check(
     room: usize,
 ) -> Outcome
     ensures { λ r. ⌜ r ≡ outcome (packChecks d (allTables (now (left .entry)) (now (right .entry)) (now (public .entry))) run room) ⌝ }
+    ensures { λ r.
+        ⌜ codeOf r ∷ []
+        ≡ said (outcome (packChecks d (allTables (now (left .entry)) (now (right .entry)) (now (public .entry))) run room)) [] ⌝ }
 {
     match tables::accept(d, left, right, public) {
         Outcome::Taken => {}
@@ -48,6 +53,10 @@ pub fn pack(
     ensures { λ _.
         ⌜ now (bytes .exit) ≡ packed d (allTables (now (left .entry)) (now (right .entry)) (now (public .entry)))
         run (now (bytes .entry)) ⌝ }
+    ensures { λ r.
+        ⌜ codeOf r ∷ []
+        ≡ said (outcome (packChecks d (allTables (now (left .entry)) (now (right .entry)) (now (public .entry))) run
+        (length (now (bytes .entry))))) [] ⌝ }
 {
     match check(d, left, right, public, run, bytes.len()) {
         Outcome::Taken => {}

@@ -33,7 +33,7 @@ returns : tie.Need-returns
 returns c =
     let at-check = c .before .before .before in
     let s = start at-check in
-    refuse-size (s .args .d) (now (s .args .gates)) _ (sym (at-check .check .ensures) ∙ c .before .refusal .given .1)
+    refuse-size (s .args .d) (now (s .args .gates)) _ (sym (at-check .check .ensures .0) ∙ c .before .refusal .given .1)
 
 input-wires-requires : tie.Need-input-wires-requires
 input-wires-requires c κs = search needs
@@ -43,7 +43,7 @@ accepted-requires c κs = search needs
 
 -- the sizes are within the limits
 sized : (c : tie.After-accepted) → outcome (sizeChecks (start (checked c) .args .d)) ≡ Taken
-sized c = sym (checked c .check .ensures) ∙ c .before .before .enum-told .given .1
+sized c = sym (checked c .check .ensures .0) ∙ c .before .before .enum-told .given .1
 
 -- the gates are judged behind the inputs
 judged : (c : tie.After-accepted) → let s = start (checked c) in c .accepted .result ≡ accepted (inputWires (s .args .d)) (now (s .args .gates))

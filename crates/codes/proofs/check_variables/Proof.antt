@@ -1,13 +1,14 @@
 -- `check_variables` meets its contract: the test is the definition's.
+use Rattle.refusals.proofs.Outcomes.{outcome-said}
 use Rattle.codes.proofs.AsBytes.{variables-refused, variables-taken}
 use Rattle.codes.proofs.check_variables.Statement.{statement}
 use Rattle.codes.proofs.check_variables.Tie as tie
 
 returns : tie.Need-returns
-returns c = variables-refused (c .before .args .n) (c .if1 .taken)
+returns c = outcome-said (variables-refused (c .before .args .n) (c .if1 .taken))
 
 returns-2 : tie.Need-returns-2
-returns-2 c = variables-taken (c .before .args .n) (c .if1 .left)
+returns-2 c = outcome-said (variables-taken (c .before .args .n) (c .if1 .left))
 
 pub check-variables-spec : {M : Type 1} → statement M
 check-variables-spec = tie.close (tie.spec returns returns-2)

@@ -1,6 +1,8 @@
 -- `read` meets its contract: the header's refusal or its n and m lead where the definition's do.
 use mathlib.Core.Path.{sym, _∙_}
+use Rattle.refusals.proofs.Outcomes.{held-said}
 use borrow.Author.Needs.{needs}
+use Rattle.dimacs.specs.declared.Table.{Table}
 use Rattle.dimacs.proofs.Texts.{overlong, by-header, limits}
 use Rattle.dimacs.proofs.read.Statement.{statement}
 use Rattle.dimacs.proofs.read.Tie as tie
@@ -15,7 +17,8 @@ refuse-requires c κs = search needs
 returns : tie.Need-returns
 returns c =
     let a = c .before .before .before .args in
-    c .refuse .ensures ∙ sym (overlong (a .least) (a .text .now) (c .before .if1 .taken))
+    held-said (λ (t : Table). t .outcome)
+    (c .refuse .ensures ∙ sym (overlong (a .least) (a .text .now) (c .before .if1 .taken)))
 
 read-header-requires : tie.Need-read-header-requires
 read-header-requires c κs = search needs
@@ -37,14 +40,16 @@ refuse-requires-2 c κs = search needs
 returns-2 : tie.Need-returns-2
 returns-2 c =
     let header = c .before .before .before .before in
-    c .read-rows .ensures
-    ∙ sym (by-header (start header .args .least) _ (header .before .if1 .left) _ (header .read-header .ensures .0) _ (c .before .before .sizes .given .1))
+    held-said (λ (t : Table). t .outcome)
+    (c .read-rows .ensures
+    ∙ sym (by-header (start header .args .least) _ (header .before .if1 .left) _ (header .read-header .ensures .0) _ (c .before .before .sizes .given .1)))
 
 returns-3 : tie.Need-returns-3
 returns-3 c =
     let header = c .before .before .before .before in
-    c .refuse2 .ensures
-    ∙ sym (by-header (start header .args .least) _ (header .before .if1 .left) _ (header .read-header .ensures .0) _ (c .before .before .sizes2 .given .1))
+    held-said (λ (t : Table). t .outcome)
+    (c .refuse2 .ensures
+    ∙ sym (by-header (start header .args .least) _ (header .before .if1 .left) _ (header .read-header .ensures .0) _ (c .before .before .sizes2 .given .1)))
 
 pub read-spec : {M : Type 1} → statement M
 read-spec =

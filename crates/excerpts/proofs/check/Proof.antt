@@ -1,5 +1,6 @@
 -- `check` meets its contract: an overlong text is refused first, then the tables, then the texts' tables.
 use mathlib.Core.Path.{sym, _∙_}
+use Rattle.refusals.proofs.Outcomes.{outcome-said}
 use Rattle.tables.specs.Tables.{Tables, allTables}
 use Rattle.excerpts.proofs.Checks.{overlong-refused, tables-refused, tables-taken}
 use borrow.Author.Needs.{needs}
@@ -21,7 +22,7 @@ tables s = allTables (s .args .left .now) (s .args .right .now) (s .args .public
 returns : tie.Need-returns
 returns c =
     let s = lent (c .before) in
-    overlong-refused (s .args .d) (tables s) (s .args .left-text .now) (s .args .right-text .now) (s .args .number) (c .if1 .taken)
+    outcome-said (overlong-refused (s .args .d) (tables s) (s .args .left-text .now) (s .args .right-text .now) (s .args .number) (c .if1 .taken))
 
 accept-requires : tie.Need-accept-requires
 accept-requires c κs = search needs
@@ -45,8 +46,8 @@ returns-2 : tie.Need-returns-2
 returns-2 c =
     let accept = c .before .before .before in
     let s = start accept in
-    tables-refused (s .args .d) (tables s) (s .args .left-text .now) (s .args .right-text .now) (s .args .number) (accept .before .if1 .left) _
-    (sym (accept .accept .ensures) ∙ c .before .checked .given .1)
+    outcome-said (tables-refused (s .args .d) (tables s) (s .args .left-text .now) (s .args .right-text .now) (s .args .number) (accept .before .if1 .left) _
+    (sym (accept .accept .ensures .0) ∙ c .before .checked .given .1))
 
 returns-3 : tie.Need-returns-3
 returns-3 c =
@@ -55,8 +56,8 @@ returns-3 c =
     let told = left .before in
     let accept = told .before .before in
     let s = start accept in
-    tables-taken (s .args .d) (tables s) (s .args .left-text .now) (s .args .right-text .now) (s .args .number) (accept .before .if1 .left)
-    (sym (accept .accept .ensures) ∙ told .enum-told .given .1) _ _ (left .read .ensures) (right .read2 .ensures) _ (c .judge .ensures)
+    outcome-said (tables-taken (s .args .d) (tables s) (s .args .left-text .now) (s .args .right-text .now) (s .args .number) (accept .before .if1 .left)
+    (sym (accept .accept .ensures .0) ∙ told .enum-told .given .1) _ _ (left .read .ensures .0) (right .read2 .ensures .0) _ (c .judge .ensures))
 
 pub check-spec : {M : Type 1} → statement M
 check-spec =

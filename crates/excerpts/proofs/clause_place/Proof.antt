@@ -28,7 +28,7 @@ tables s = allTables (s .args .left .now) (s .args .right .now) (s .args .public
 -- the row is not refused
 taken : (c : tie.After-enum-told) → let s = start (checked c) in
     Taken ≡ outcome (excerptChecks (s .args .d) (tables s) (s .args .left-text .now) (s .args .right-text .now) (s .args .number))
-taken c = sym (c .enum-told .given .1) ∙ checked c .check .ensures
+taken c = sym (c .enum-told .given .1) ∙ checked c .check .ensures .0
 
 check-requires : tie.Need-check-requires
 check-requires c κs = search needs
@@ -42,7 +42,7 @@ returns c =
     let s = start check in
     with-said (s .args .d) (tables s) (s .args .left-text .now) (s .args .right-text .now) (s .args .number) _
     (place-refused (s .args .d) (tables s) (s .args .left-text .now) (s .args .right-text .now) (s .args .number) _
-    (sym (c .before .checked .given .1) ∙ check .check .ensures))
+    (sym (c .before .checked .given .1) ∙ check .check .ensures .0))
 
 enum-told : tie.Need-enum-told
 enum-told c = search needs

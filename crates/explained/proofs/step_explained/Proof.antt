@@ -25,7 +25,7 @@ explain-requires c κs =
     let stepped = c .before .before .before in
     let s = start stepped in
     let p = passed (s .args .d) (tables s) (s .args .run) _ (passed-checks (s .args .d) (tables s) (s .args .run) (stepped .step .result)
-    (stepped .step .ensures)) (c .enum-told .given .1) in
+    (stepped .step .ensures .0)) (c .enum-told .given .1) in
     (p .taken, p .formed)
 
 enum-told-2 : tie.Need-enum-told-2
@@ -35,14 +35,14 @@ returns : tie.Need-returns
 returns c =
     let stepped = c .before .before .before .before in
     let s = start stepped in
-    explained-taken (s .args .d) (tables s) (s .args .run) (stepped .step .result) (stepped .step .ensures) (c .before .enum-told .given .1)
+    explained-taken (s .args .d) (tables s) (s .args .run) (stepped .step .result) (stepped .step .ensures .0) (c .before .enum-told .given .1)
     (c .explain .result) (c .explain .ensures)
 
 returns-2 : tie.Need-returns-2
 returns-2 c =
     let stepped = c .before .before .before in
     let s = start stepped in
-    explained-refused (s .args .d) (tables s) (s .args .run) (stepped .step .result) (stepped .step .ensures)
+    explained-refused (s .args .d) (tables s) (s .args .run) (stepped .step .result) (stepped .step .ensures .0)
     (c .enum-told2 .given .0 .0) (c .enum-told2 .given .1)
 
 pub step-explained-spec : {M : Type 1} → statement M

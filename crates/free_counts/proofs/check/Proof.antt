@@ -28,7 +28,7 @@ returns : tie.Need-returns
 returns c =
     let at-accept = c .before .before .before in
     let s = start at-accept in
-    refuse-tables (s .args .d) (tables s) (s .args .run) (s .args .room) _ (sym (at-accept .accept .ensures) ∙ c .before .refusal .given .1)
+    refuse-tables (s .args .d) (tables s) (s .args .run) (s .args .room) _ (sym (at-accept .accept .ensures .0) ∙ c .before .refusal .given .1)
 
 rows-requires : tie.Need-rows-requires
 rows-requires c κs = search needs
@@ -38,7 +38,7 @@ returns-2 c =
     let at-enum-told = c .before .before in
     let at-accept = at-enum-told .before .before in
     let s = start at-accept in
-    refuse-room (s .args .d) (tables s) (s .args .run) (s .args .room) (sym (at-accept .accept .ensures) ∙ at-enum-told .enum-told .given .1)
+    refuse-room (s .args .d) (tables s) (s .args .run) (s .args .room) (sym (at-accept .accept .ensures .0) ∙ at-enum-told .enum-told .given .1)
     (subst (λ (k : ℕ). s .args .room < k) (c .before .rows .ensures) (c .if1 .taken))
 
 check-state-requires : tie.Need-check-state-requires
@@ -50,8 +50,8 @@ returns-3 c =
     let at-enum-told = at-rows .before in
     let at-accept = at-enum-told .before .before in
     let s = start at-accept in
-    c .check-state .ensures
-    ∙ state-decides (s .args .d) (tables s) (s .args .run) (s .args .room) (sym (at-accept .accept .ensures) ∙ at-enum-told .enum-told .given .1)
+    c .check-state .ensures .0
+    ∙ state-decides (s .args .d) (tables s) (s .args .run) (s .args .room) (sym (at-accept .accept .ensures .0) ∙ at-enum-told .enum-told .given .1)
     (subst (λ (k : ℕ). k ≤ s .args .room) (at-rows .rows .ensures) (c .before .if1 .left))
 
 pub check-spec : {M : Type 1} → statement M

@@ -5,6 +5,7 @@ use native.Mathlib.Omega.{arith}
 use lib.ListN.{length}
 use Rattle.refusals.specs.Checks.{outcome}
 use Rattle.refusals.specs.declared.Outcome.the-variants.{Taken}
+use Rattle.refusals.proofs.Outcomes.{also-said}
 use Rattle.dimensions.specs.Sizes.{rowCount}
 use Rattle.tables.specs.Tables.{Tables, allTables}
 use Rattle.tables.proofs.Accepted.{Accepted}
@@ -57,7 +58,7 @@ returns c =
     let at-check = c .before .before .before in
     let s = start at-check in
     let e = sym (at-check .check .ensures) ∙ c .before .refusal .given .1 in
-    (sym e, count-refused (s .args .d) (tables s) (s .args .run) (s .args .counts .now) _ e)
+    also-said (sym e, count-refused (s .args .d) (tables s) (s .args .run) (s .args .counts .now) _ e)
 
 cast-count-rows : tie.Need-cast-count-rows
 cast-count-rows c = search needs
@@ -108,7 +109,7 @@ returns-2 c =
     let q = right .count-rows2 in
     let stored = tables-counted (s .args .d) (tables s) (allowed (told left) .0) (s .args .run .t) (s .args .run .f) (s .args .counts .now) _ _ _ _ _
     (p .ensures .1) (p .ensures .0) (q .ensures .1) (q .ensures .0) (public .count-rows3 .ensures .1) in
-    (sym e, stored ∙ count-taken (s .args .d) (tables s) (s .args .run) (s .args .counts .now) e)
+    also-said (sym e, stored ∙ count-taken (s .args .d) (tables s) (s .args .run) (s .args .counts .now) e)
 
 pub count-free-spec : {M : Type 1} → statement M
 count-free-spec =

@@ -21,7 +21,7 @@ checked c = c .before .before
 
 -- the sizes are taken where the ceiling is asked for
 sizes : (c : tie.After-enum-told) → outcome (sizeChecks (start (checked c) .args .d)) ≡ Taken
-sizes c = sym (checked c .check .ensures) ∙ c .enum-told .given .1
+sizes c = sym (checked c .check .ensures .0) ∙ c .enum-told .given .1
 
 check-requires : tie.Need-check-requires
 check-requires c κs = search needs
@@ -33,7 +33,7 @@ returns : tie.Need-returns
 returns c =
     let at-check = c .before .before .before in
     let a = start at-check .args in
-    with-said (a .d) (a .words .now) _ _ (refuse-size (a .d) (a .words .now) _ (sym (at-check .check .ensures) ∙ c .before .outcome .given .1))
+    with-said (a .d) (a .words .now) _ _ (refuse-size (a .d) (a .words .now) _ (sym (at-check .check .ensures .0) ∙ c .before .outcome .given .1))
 
 enum-told : tie.Need-enum-told
 enum-told c = search needs

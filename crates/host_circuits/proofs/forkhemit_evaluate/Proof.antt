@@ -15,7 +15,7 @@ same-length : tie.Need-same-length
 same-length c = search needs
 
 returns : tie.Need-returns
-returns c = (c .code .ensures ∙ ap codeOf (c .before .before .before .evaluate .ensures .0), c .before .before .before .evaluate .ensures .1)
+returns c = (c .code .ensures ∙ ap codeOf (c .before .before .before .evaluate .ensures .0), c .before .before .before .evaluate .ensures .1 .0)
 
 pub forkhemit-evaluate-spec : {M : Type 1} → statement M
 forkhemit-evaluate-spec = tie.close (tie.spec evaluate-requires code-requires same-length returns)

@@ -47,7 +47,7 @@ returns c =
     let held = load .load .ensures in (
       c .code .ensures
           ∙ ap codeOf (check-is (asked s) _ (dims .dimensions .ensures) (tables s) (s .args .run .now) _ held (length bytes) _ (pack .pack .ensures .0)),
-      packed-is (asked s) _ (dims .dimensions .ensures) _ (s .args .run .now) _ held bytes _ (pack .pack .ensures .1),
+      packed-is (asked s) _ (dims .dimensions .ensures) _ (s .args .run .now) _ held bytes _ (pack .pack .ensures .1 .0),
     )
 
 pub forkhemit-pack-spec : {M : Type 1} → statement M

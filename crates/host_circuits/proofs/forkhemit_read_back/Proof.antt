@@ -26,7 +26,7 @@ returns c =
     let read = store .before .before .before in
     let byte = read .before in
     let a = byte .before .before .args in
-    let e = read .read-back .ensures in (
+    let e = read .read-back .ensures .0 in (
       c .code .ensures ∙ ap (λ (r : Read). codeOf (r .outcome)) e ∙ ap codeOf (back-outcome (a .bytes .now) (a .n) _ (byte .byte .ensures)),
       store .store-if .ensures ∙ ap (λ (r : Read). readStored r (a .run .now)) e ∙ back-stored (a .bytes .now) (a .n) _ (byte .byte .ensures) (a .run .now),
     )

@@ -41,7 +41,7 @@ returns c =
     let check = told .before .before in
     let dims = check .before in
     let s = start dims in
-    let is = sym (check .check .ensures) ∙ told .refusal .given .1 in (
+    let is = sym (check .check .ensures .0) ∙ told .refusal .given .1 in (
       c .number .ensures ∙ ap codeOf (size-is (asked s) _ (dims .dimensions .ensures) _ (sym is)),
       sizes-are (asked s) _ (dims .dimensions .ensures) (s .args .sizes .now) _ (sizes-refused (dims .dimensions .result) _ is (s .args .sizes .now)),
     )
@@ -71,7 +71,7 @@ returns-2 c =
     let dims = check .before in
     let s = start dims in
     let k = ceiling .ceiling .ensures in
-    let is = sym (check .check .ensures) ∙ told .enum-told .given .1 in (
+    let is = sym (check .check .ensures .0) ∙ told .enum-told .given .1 in (
       ap codeOf (size-is (asked s) _ (dims .dimensions .ensures) _ (sym is)),
       (λ i. k i ∷ (3 * k i ∷ (inputs .input-wires .ensures i ∷ (state .state-wires .ensures i ∷ []))))
           ∙ sizes-are (asked s) _ (dims .dimensions .ensures) (s .args .sizes .now) _ (sizes-taken (dims .dimensions .result) (s .args .sizes .now) is),

@@ -34,7 +34,7 @@ judged : (c : tie.After-check) → let s = start (c .before) in
 judged c =
     let s = start (c .before) in
     checks-are (tables s) (s .args .left-text .now) (s .args .right-text .now) (s .args .row) (asked s) _ (c .before .dimensions .ensures) _
-    (c .check .ensures)
+    (c .check .ensures .0)
 
 dimensions-requires : tie.Need-dimensions-requires
 dimensions-requires c κs = search needs

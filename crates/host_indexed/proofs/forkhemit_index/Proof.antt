@@ -36,7 +36,7 @@ returns c =
     let dims = index .before .before in
     let s = start dims in (
       c .code .ensures ∙ ap codeOf (accept-is (asked s) _ (dims .dimensions .ensures) (tables s) _ (index .index .ensures .0)),
-      index-is (asked s) _ (dims .dimensions .ensures) (tables s) (s .args .index .now) _ (index .index .ensures .1),
+      index-is (asked s) _ (dims .dimensions .ensures) (tables s) (s .args .index .now) _ (index .index .ensures .1 .0),
     )
 
 pub forkhemit-index-spec : {M : Type 1} → statement M

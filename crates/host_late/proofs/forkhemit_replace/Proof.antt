@@ -46,7 +46,7 @@ by-numbers c =
     let s = start dims in
     let e = c .replace .ensures in
     replace-is (tables s) (asked s) _ (dims .dimensions .ensures) (s .args .run .now) _ (load .load .ensures)
-    (condition s) _ (conditioned c .condition-of .ensures) _ (λ i. (e .0 i, (e .1 .0 i, e .1 .1 i)))
+    (condition s) _ (conditioned c .condition-of .ensures) _ (λ i. (e .0 i, (e .1 .0 i, e .1 .1 .0 i)))
 
 dimensions-requires : tie.Need-dimensions-requires
 dimensions-requires c κs = search needs

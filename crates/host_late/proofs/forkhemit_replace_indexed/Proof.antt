@@ -55,7 +55,7 @@ by-numbers c =
     let e = c .replace-indexed .ensures in
     replace-indexed-is (tables s) (asked s) _ (dims .dimensions .ensures) (s .args .run .now) _ (load .load .ensures)
     (condition s) _ (conditioned c .condition-of .ensures) (s .args .index .now) (getD (s .args .number .now) 0 0) _
-    (λ i. (e .0 i, (e .1 .0 i, (e .1 .1 .0 i, e .1 .1 .1 i))))
+    (λ i. (e .0 i, (e .1 .0 i, (e .1 .1 .0 i, e .1 .1 .1 .0 i))))
 
 dimensions-requires : tie.Need-dimensions-requires
 dimensions-requires c κs = search needs

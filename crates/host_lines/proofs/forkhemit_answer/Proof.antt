@@ -39,7 +39,7 @@ returns c =
     let byte = check .before in
     let a = byte .before .args in
     let text = answerText (a .n) (answerFrom (a .count) (a .verdict) (a .model)) in
-    let is = sym (c .before .before .refusal .given .1) ∙ check .check-variables .ensures ∙ checks-are (a .n) _ (byte .byte .ensures) in (
+    let is = sym (c .before .before .refusal .given .1) ∙ check .check-variables .ensures .0 ∙ checks-are (a .n) _ (byte .byte .ensures) in (
       c .number .ensures ∙ ap codeOf is,
       (
         ap (λ (o : Outcome). given o (front text (a .text .now)) (λ r. a .text .now)) is,
@@ -65,7 +65,7 @@ returns-2 c =
     let byte = check .before in
     let a = byte .before .args in
     let text = answerText (a .n) (answerFrom (a .count) (a .verdict) (a .model)) in
-    let is = sym (told .enum-told .given .1) ∙ check .check-variables .ensures ∙ checks-are (a .n) _ (byte .byte .ensures) in
+    let is = sym (told .enum-told .given .1) ∙ check .check-variables .ensures .0 ∙ checks-are (a .n) _ (byte .byte .ensures) in
     let low : min (byte .byte .result) 32 ≡ a .n = omega (arith, byte .byte .ensures, taken-low (a .n) (sym is)) in
     let e = print .answer-text .ensures ∙ (λ i. textOf (answerText (low i) (record { count = a .count; verdict = verdict .verdict-from .ensures i }))) in (
       ap codeOf is,

@@ -63,7 +63,7 @@ by-numbers c =
     let e = c .repeat .ensures in
     repeat-is (tables s) (s .args .times) (s .args .gates .now) (s .args .bytes .now) (s .args .wires .now)
     (asked s) _ (dims .dimensions .ensures) (s .args .run .now) _ (load .load .ensures) _
-    (λ i. (e .0 i, (e .1 .0 i, (e .1 .1 .0 i, e .1 .1 .1 i))))
+    (λ i. (e .0 i, (e .1 .0 i, (e .1 .1 .0 i, e .1 .1 .1 .0 i))))
 
 dimensions-requires : tie.Need-dimensions-requires
 dimensions-requires c κs = search needs

@@ -35,7 +35,7 @@ returns c =
     let at-accept = c .before in
     let at-dimensions = at-accept .before in
     let s = start at-dimensions in
-    c .code .ensures ∙ ap codeOf (accept-is (asked s) _ (at-dimensions .dimensions .ensures) (tables s) _ (at-accept .accept .ensures))
+    c .code .ensures ∙ ap codeOf (accept-is (asked s) _ (at-dimensions .dimensions .ensures) (tables s) _ (at-accept .accept .ensures .0))
 
 pub forkhemit-accept-spec : {M : Type 1} → statement M
 forkhemit-accept-spec =

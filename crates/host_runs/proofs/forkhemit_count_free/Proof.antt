@@ -49,7 +49,7 @@ returns c =
       c .code .ensures
           ∙ ap codeOf (check-is (asked s) _ (dims .dimensions .ensures) (tables s) (s .args .run .now) _ held (length counts) _
           (count .count-free .ensures .0)),
-      counts-are (asked s) _ (dims .dimensions .ensures) _ (s .args .run .now) _ held counts _ (count .count-free .ensures .1),
+      counts-are (asked s) _ (dims .dimensions .ensures) _ (s .args .run .now) _ held counts _ (count .count-free .ensures .1 .0),
     )
 
 pub forkhemit-count-free-spec : {M : Type 1} → statement M

@@ -30,8 +30,8 @@ returns c =
     let byte = check .before in
     let words = byte .before .args .run .now in
     let k = byte .byte .result in (
-      c .code .ensures ∙ ap codeOf (check .check-variables .ensures ∙ checks-are (byte .before .args .n) k (byte .byte .ensures)),
-      store .store-if .ensures ∙ (λ i. storedIf (check .check-variables .ensures i) (store .before .before .fresh .ensures i) words)
+      c .code .ensures ∙ ap codeOf (check .check-variables .ensures .0 ∙ checks-are (byte .before .args .n) k (byte .byte .ensures)),
+      store .store-if .ensures ∙ (λ i. storedIf (check .check-variables .ensures .0 i) (store .before .before .fresh .ensures i) words)
           ∙ fresh-is (byte .before .args .n) k (byte .byte .ensures) words,
     )
 

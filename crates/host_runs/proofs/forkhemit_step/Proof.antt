@@ -41,7 +41,7 @@ returns c =
     let dims = load .before .before in
     let s = start dims in
     let words = s .args .run .now in
-    let e = step-is (asked s) _ (dims .dimensions .ensures) _ words _ (load .load .ensures) _ (step .step-lent .ensures) in
+    let e = step-is (asked s) _ (dims .dimensions .ensures) _ words _ (load .load .ensures) _ (step .step-lent .ensures .0) in
     (c .code .ensures ∙ ap (λ (x : Stepped). codeOf (x .outcome)) e, store .store-if .ensures ∙ ap (λ (x : Stepped). stepStored x words) e)
 
 pub forkhemit-step-spec : {M : Type 1} → statement M

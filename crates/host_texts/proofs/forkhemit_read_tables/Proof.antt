@@ -42,7 +42,7 @@ lent s = allTables (s .args .left .now) (s .args .right .now) (s .args .public .
 
 -- what was read are the texts
 read-are : (c : tie.After-read3) → allTexts (left-read c .read .result) (c .before .read2 .result) (c .read3 .result) ≡ texts (start (left-read c))
-read-are c = λ i. allTexts (left-read c .read .ensures i) (c .before .read2 .ensures i) (c .read3 .ensures i)
+read-are c = λ i. allTexts (left-read c .read .ensures .0 i) (c .before .read2 .ensures .0 i) (c .read3 .ensures .0 i)
 
 -- and so the judgement is the definition's
 judged : (c : tie.After-judge) → let s = start (left-read (c .before)) in c .judge .result ≡ readOutcome (texts s) (lent s)

@@ -2,7 +2,7 @@
 use mathlib.Core.Path.{sym, _∙_}
 use mathlib.Core.List.{List}
 use Rattle.refusals.specs.Checks.{Check}
-use Rattle.refusals.proofs.Outcomes.{outcome-taken, outcome-refused}
+use Rattle.refusals.proofs.Outcomes.{outcome-taken, outcome-refused, outcome-said}
 use Rattle.tables.specs.Tables.{Tables, allTables}
 use Rattle.tables.specs.Rows.{rowsOf}
 use Rattle.tables.specs.Acceptance.{tableChecks}
@@ -35,19 +35,21 @@ enum-told : tie.Need-enum-told
 enum-told c = search needs
 
 check-accepted-requires : tie.Need-check-accepted-requires
-check-accepted-requires c κs = sym (c .before .before .accept .ensures) ∙ c .enum-told .given .1
+check-accepted-requires c κs = sym (c .before .before .accept .ensures .0) ∙ c .enum-told .given .1
 
 returns : tie.Need-returns
 returns c =
     let at-accept = c .before .before .before in
     let s = start at-accept in
-    sym (outcome-refused (firstly s) (then s) (c .before .checked .given .0 .0) (sym (at-accept .accept .ensures) ∙ c .before .checked .given .1))
+    outcome-said
+    (sym (outcome-refused (firstly s) (then s) (c .before .checked .given .0 .0) (sym (at-accept .accept .ensures .0) ∙ c .before .checked .given .1)))
 
 returns-2 : tie.Need-returns-2
 returns-2 c =
     let at-accept = c .before .before .before in
     let s = start at-accept in
-    c .check-accepted .ensures ∙ sym (outcome-taken (firstly s) (then s) (sym (at-accept .accept .ensures) ∙ c .before .enum-told .given .1))
+    outcome-said
+    (c .check-accepted .ensures ∙ sym (outcome-taken (firstly s) (then s) (sym (at-accept .accept .ensures .0) ∙ c .before .enum-told .given .1)))
 
 pub check-indexed-spec : {M : Type 1} → statement M
 check-indexed-spec =

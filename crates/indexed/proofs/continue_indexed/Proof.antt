@@ -28,7 +28,7 @@ run-accepted-requires : tie.Need-run-accepted-requires
 run-accepted-requires c κs =
     let checked = judged c in
     let s = start checked in
-    let p = passed (s .args .d) (tables s) (s .args .run) _ (checked .check-all .ensures) (c .enum-told .given .1) in
+    let p = passed (s .args .d) (tables s) (s .args .run) _ (checked .check-all .ensures .0) (c .enum-told .given .1) in
     (p .taken, (p .formed, p .same))
 
 closed-requires : tie.Need-closed-requires
@@ -43,14 +43,14 @@ returns c =
     let told = ran .before in
     let checked = judged told in
     let s = start checked in
-    continue-taken (s .args .d) (tables s) (s .args .times) (s .args .run) _ (checked .check-all .ensures) (told .enum-told .given .1)
+    continue-taken (s .args .d) (tables s) (s .args .times) (s .args .run) _ (checked .check-all .ensures .0) (told .enum-told .given .1)
     _ (ran .run-accepted .ensures) _ (c .closed .ensures)
 
 returns-2 : tie.Need-returns-2
 returns-2 c =
     let checked = c .before .before in
     let s = start checked in
-    continue-refused (s .args .d) (tables s) (s .args .times) (s .args .run) _ (checked .check-all .ensures) (c .enum-told2 .given .0 .0)
+    continue-refused (s .args .d) (tables s) (s .args .times) (s .args .run) _ (checked .check-all .ensures .0) (c .enum-told2 .given .0 .0)
     (c .enum-told2 .given .1)
 
 pub continue-indexed-spec : {M : Type 1} → statement M

@@ -1,5 +1,6 @@
 -- `index` meets its contract: the tables' checks decide, and accepted tables have their index.
 use mathlib.Core.Path.{sym, _∙_}
+use Rattle.refusals.proofs.Outcomes.{also-said}
 use Rattle.indexed.proofs.Entries.{index-taken, index-refused}
 use borrow.Author.Needs.{needs}
 use Rattle.indexed.proofs.index.Statement.{statement}
@@ -19,20 +20,22 @@ enum-told : tie.Need-enum-told
 enum-told c = search needs
 
 make-index-requires : tie.Need-make-index-requires
-make-index-requires c κs = let told = c .before in sym (told .before .before .accept .ensures) ∙ told .enum-told .given .1
+make-index-requires c κs = let told = c .before in sym (told .before .before .accept .ensures .0) ∙ told .enum-told .given .1
 
 returns : tie.Need-returns
 returns c =
     let at-accept = c .before .before .before in
     let s = start at-accept in
-    let e = sym (c .before .checked .given .1) ∙ at-accept .accept .ensures in (e, index-refused (s .args .d) _ _ (c .before .checked .given .0 .0) e)
+    let e = sym (c .before .checked .given .1) ∙ at-accept .accept .ensures .0 in
+    also-said (e, index-refused (s .args .d) _ _ (c .before .checked .given .0 .0) e)
 
 returns-2 : tie.Need-returns-2
 returns-2 c =
     let told = c .before .before in
     let at-accept = told .before .before in
     let s = start at-accept in
-    let e = sym (told .enum-told .given .1) ∙ at-accept .accept .ensures in (e, index-taken (s .args .d) _ _ e _ (c .make-index .ensures .1))
+    let e = sym (told .enum-told .given .1) ∙ at-accept .accept .ensures .0 in
+    also-said (e, index-taken (s .args .d) _ _ e _ (c .make-index .ensures .1))
 
 pub index-spec : {M : Type 1} → statement M
 index-spec =

@@ -16,7 +16,7 @@ enum-told : tie.Need-enum-told
 enum-told c = search needs
 
 step-accepted-requires : tie.Need-step-accepted-requires
-step-accepted-requires c κs = sym (c .before .before .accept .ensures) ∙ c .enum-told .given .1
+step-accepted-requires c κs = sym (c .before .before .accept .ensures .0) ∙ c .enum-told .given .1
 
 enum-told-2 : tie.Need-enum-told-2
 enum-told-2 c = search needs
@@ -25,14 +25,14 @@ returns : tie.Need-returns
 returns c =
     let at-accept = c .before .before .before in
     let s = start at-accept in
-    step-taken (s .args .d) _ _ (s .args .run) (s .args .number) (sym (c .before .enum-told .given .1) ∙ at-accept .accept .ensures)
+    step-taken (s .args .d) _ _ (s .args .run) (s .args .number) (sym (c .before .enum-told .given .1) ∙ at-accept .accept .ensures .0)
     _ (c .step-accepted .ensures)
 
 returns-2 : tie.Need-returns-2
 returns-2 c =
     let at-accept = c .before .before in
     let s = start at-accept in
-    step-refused (s .args .d) _ _ (s .args .run) (s .args .number) _ (at-accept .accept .ensures) (c .enum-told2 .given .0 .0) (c .enum-told2 .given .1)
+    step-refused (s .args .d) _ _ (s .args .run) (s .args .number) _ (at-accept .accept .ensures .0) (c .enum-told2 .given .0 .0) (c .enum-told2 .given .1)
 
 pub step-indexed-spec : {M : Type 1} → statement M
 step-indexed-spec =

@@ -29,7 +29,8 @@ returns c =
     let at-accept = c .before .before .before in
     let s = start at-accept in
     count-refused (s .args .d) (tables s) (s .args .run) _
-    (refuse-tables (s .args .d) (tables s) (s .args .run) (c .before .refusal .given .0 .0) (sym (c .before .refusal .given .1) ∙ at-accept .accept .ensures))
+    (refuse-tables (s .args .d) (tables s) (s .args .run) (c .before .refusal .given .0 .0)
+    (sym (c .before .refusal .given .1) ∙ at-accept .accept .ensures .0))
 
 check-state-requires : tie.Need-check-state-requires
 check-state-requires c κs = search needs
@@ -40,7 +41,7 @@ enum-told-2 c = search needs
 count-unsatisfied-requires : tie.Need-count-unsatisfied-requires
 count-unsatisfied-requires c κs =
     let told = c .before .before .before in
-    sym (told .before .before .accept .ensures) ∙ told .enum-told .given .1
+    sym (told .before .before .accept .ensures .0) ∙ told .enum-told .given .1
 
 enum-known-refusal-2 : tie.Need-enum-known-refusal-2
 enum-known-refusal-2 c = search needs
@@ -52,8 +53,8 @@ returns-2 c =
     let at-accept = told .before .before in
     let s = start at-accept in
     count-taken (s .args .d) (tables s) (s .args .run)
-    (sym (c .before .enum-told2 .given .1) ∙ at-state .check-state .ensures
-    ∙ state-decides (s .args .d) (tables s) (s .args .run) (sym (told .enum-told .given .1) ∙ at-accept .accept .ensures))
+    (sym (c .before .enum-told2 .given .1) ∙ at-state .check-state .ensures .0
+    ∙ state-decides (s .args .d) (tables s) (s .args .run) (sym (told .enum-told .given .1) ∙ at-accept .accept .ensures .0))
     _ (c .count-unsatisfied .ensures)
 
 returns-3 : tie.Need-returns-3
@@ -63,8 +64,8 @@ returns-3 c =
     let at-accept = told .before .before in
     let s = start at-accept in
     count-refused (s .args .d) (tables s) (s .args .run) (c .before .refusal2 .given .0 .0)
-    (sym (c .before .refusal2 .given .1) ∙ at-state .check-state .ensures
-    ∙ state-decides (s .args .d) (tables s) (s .args .run) (sym (told .enum-told .given .1) ∙ at-accept .accept .ensures))
+    (sym (c .before .refusal2 .given .1) ∙ at-state .check-state .ensures .0
+    ∙ state-decides (s .args .d) (tables s) (s .args .run) (sym (told .enum-told .given .1) ∙ at-accept .accept .ensures .0))
 
 pub unsatisfied-spec : {M : Type 1} → statement M
 unsatisfied-spec =

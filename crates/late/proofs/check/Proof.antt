@@ -36,10 +36,10 @@ running c = c .before .before
 -- ---- what is known there
 
 tables-taken : (c : tie.After-enum-told) → let s = start (accepting c) in outcome (tableChecks (s .args .d) (tables s)) ≡ Taken
-tables-taken c = sym (accepting c .accept .ensures) ∙ c .enum-told .given .1
+tables-taken c = sym (accepting c .accept .ensures .0) ∙ c .enum-told .given .1
 
 state-taken : (c : tie.After-enum-told2) → let s = started c in outcome (stateChecks (s .args .d) (s .args .run)) ≡ Taken
-state-taken c = sym (c .before .before .check-state .ensures) ∙ c .enum-told2 .given .1
+state-taken c = sym (c .before .before .check-state .ensures .0) ∙ c .enum-told2 .given .1
 
 accept-requires : tie.Need-accept-requires
 accept-requires c κs = search needs
@@ -54,7 +54,7 @@ returns : tie.Need-returns
 returns c =
     let at-accept = c .before .before .before in
     let s = start at-accept in
-    refuse-tables (s .args .d) (tables s) (s .args .run) (s .args .condition) _ (sym (at-accept .accept .ensures) ∙ c .before .refusal .given .1)
+    refuse-tables (s .args .d) (tables s) (s .args .run) (s .args .condition) _ (sym (at-accept .accept .ensures .0) ∙ c .before .refusal .given .1)
 
 check-state-requires : tie.Need-check-state-requires
 check-state-requires c κs = search needs
@@ -70,7 +70,7 @@ returns-2 c =
     let at-state = c .before .before .before in
     let s = start (accepting (at-state .before)) in
     refuse-state (s .args .d) (tables s) (s .args .run) (s .args .condition) (tables-taken (at-state .before)) _
-    (sym (at-state .check-state .ensures) ∙ c .before .refusal2 .given .1)
+    (sym (at-state .check-state .ensures .0) ∙ c .before .refusal2 .given .1)
 
 replaceable-requires : tie.Need-replaceable-requires
 replaceable-requires c κs =

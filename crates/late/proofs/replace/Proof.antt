@@ -3,6 +3,7 @@ use mathlib.Core.Path.{_≡_, sym, ap, _∙_}
 use native.Mathlib.Omega.{arith}
 use Rattle.refusals.specs.Checks.{outcome}
 use Rattle.refusals.specs.declared.Outcome.the-variants.{Taken}
+use Rattle.refusals.proofs.Outcomes.{outcome-said}
 use Rattle.tables.specs.Tables.{Tables, allTables}
 use Rattle.tables.proofs.Accepted.{accepted}
 use Rattle.late.specs.Replacement.{lateChecks}
@@ -56,7 +57,7 @@ returns c =
     let s = start at-check in
     let e = sym (at-check .check .ensures) ∙ c .before .refusal .given .1 in
     let q = after-refused (s .args .d) (tables s) (s .args .run) (s .args .condition) _ e in
-    (sym e, (sym (ap (λ (t : Tables). t .left) q), sym (ap (λ (t : Tables). t .right) q)))
+    (sym e, (sym (ap (λ (t : Tables). t .left) q), (sym (ap (λ (t : Tables). t .right) q), outcome-said (sym e) .1)))
 
 cast-left-rows : tie.Need-cast-left-rows
 cast-left-rows c = search needs
@@ -89,7 +90,7 @@ returns-2 c =
     let t = at-if1 .before .before in
     let s = started t in
     let q = left-replaced (s .args .d) (tables s) (s .args .run) (s .args .condition) (passes t) (at-if1 .if1 .taken) in
-    (sym (passes t), (at-put .put .ensures ∙ q .0, q .1))
+    (sym (passes t), (at-put .put .ensures ∙ q .0, (q .1, outcome-said (sym (passes t)) .1)))
 
 sub-put-2 : tie.Need-sub-put-2
 sub-put-2 c = search needs
@@ -119,7 +120,7 @@ returns-3 c =
     let t = at-if1 .before .before in
     let s = started t in
     let q = right-replaced (s .args .d) (tables s) (s .args .run) (s .args .condition) (passes t) (at-if1 .if1 .left) in
-    (sym (passes t), (q .0, at-put .put2 .ensures ∙ q .1))
+    (sym (passes t), (q .0, (at-put .put2 .ensures ∙ q .1, outcome-said (sym (passes t)) .1)))
 
 pub replace-spec : {M : Type 1} → statement M
 replace-spec =

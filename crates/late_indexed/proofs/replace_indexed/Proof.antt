@@ -5,12 +5,14 @@ use mathlib.Core.List.{_++_}
 use native.Mathlib.Omega.{arith}
 use Rattle.refusals.specs.Checks.{outcome}
 use Rattle.refusals.specs.declared.Outcome.the-variants.{Taken, Refused}
+use Rattle.refusals.proofs.Outcomes.{held-said}
 use Rattle.tables.specs.Tables.{Tables, allTables}
 use Rattle.tables.specs.Rows.{rowsOf}
 use Rattle.tables.specs.Acceptance.{tableChecks}
 use Rattle.tables.proofs.Accepted.{accepted}
 use Rattle.indexed.specs.Entries.{indexedChecks}
 use Rattle.late.specs.Replacement.{lateChecks}
+use Rattle.late_indexed.specs.declared.ReplacedIndexed.{ReplacedIndexed}
 use Rattle.late_indexed.proofs.Replacing.{all-kept, first-refused, tables-taken, number-few, decided-alike, tables-alike}
 use Rattle.late_indexed.proofs.Replacing.{row-number, index-then, answer-then}
 use borrow.Author.Needs.{needs}
@@ -52,7 +54,7 @@ passed : (c : tie.After-enum-told)
     (tableChecks (s .args .d) (tables s)
     ++ indexedChecks (s .args .d .n) (rowsOf (s .args .d) (tables s)) (s .args .index .now) (s .args .run) (s .args .number))
     ≡ Taken
-passed c = sym (c .before .before .check-indexed .ensures) ∙ c .enum-told .given .1
+passed c = sym (c .before .before .check-indexed .ensures .0) ∙ c .enum-told .given .1
 
 taken : (c : tie.After-enum-told2)
     → let s = started (passed-at (taken-at c)) in outcome (lateChecks (s .args .d) (tables s) (s .args .run) (s .args .condition)) ≡ Taken
@@ -80,10 +82,10 @@ returns c =
     let at-check = c .before .before .before in
     let s = start at-check in
     let r = c .before .checked .given .0 .0 in
-    let refused = sym (c .before .checked .given .1) ∙ at-check .check-indexed .ensures in
+    let refused = sym (c .before .checked .given .1) ∙ at-check .check-indexed .ensures .0 in
     let e = first-refused (s .args .d) (tables s) (s .args .index .now) (s .args .run) (s .args .number) (s .args .condition) r refused in
     let k = all-kept (s .args .d) (tables s) (s .args .index .now) (s .args .run) (s .args .number) (s .args .condition) (Refused r) r e refl in
-    (k .0, (ap (λ (t : Tables). t .left) (k .1), (ap (λ (t : Tables). t .right) (k .1), k .2)))
+    (k .0, (ap (λ (t : Tables). t .left) (k .1), (ap (λ (t : Tables). t .right) (k .1), (k .2, held-said (λ (x : ReplacedIndexed). x .outcome) (k .0) .1))))
 
 old-row-requires : tie.Need-old-row-requires
 old-row-requires c κs =
@@ -131,16 +133,21 @@ returns-2 c =
     let at-replace = taken-at t in
     let p = passed-at at-replace in
     let s = started p in
-    let alike = tables-alike (s .args .d) (tables s) (s .args .index .now) (s .args .run) (s .args .number) (s .args .condition) (passed p) in (
-      answer-then (s .args .d) (tables s) (s .args .index .now) (s .args .run) (s .args .number) (s .args .condition) (passed p) (taken t) _ _
-          (at-replace .replace .ensures .0) (c .count-row .ensures),
+    let alike = tables-alike (s .args .d) (tables s) (s .args .index .now) (s .args .run) (s .args .number) (s .args .condition) (passed p) in
+    let e =
+    answer-then (s .args .d) (tables s) (s .args .index .now) (s .args .run) (s .args .number) (s .args .condition) (passed p) (taken t) _ _
+    (at-replace .replace .ensures .0) (c .count-row .ensures) in (
+      e,
       (
         at-replace .replace .ensures .1 .0 ∙ ap (λ (x : Tables). x .left) alike,
         (
-          at-replace .replace .ensures .1 .1 ∙ ap (λ (x : Tables). x .right) alike,
-          at-index .replace-row .ensures
-              ∙ index-then (s .args .d) (tables s) (s .args .index .now) (s .args .run) (s .args .number) (s .args .condition) (passed p) (taken t) _
-              (old-read at-replace .old-row .ensures),
+          at-replace .replace .ensures .1 .1 .0 ∙ ap (λ (x : Tables). x .right) alike,
+          (
+            at-index .replace-row .ensures
+                ∙ index-then (s .args .d) (tables s) (s .args .index .now) (s .args .run) (s .args .number) (s .args .condition) (passed p) (taken t) _
+                (old-read at-replace .old-row .ensures),
+            held-said (λ (x : ReplacedIndexed). x .outcome) e .1,
+          ),
         ),
       ),
     )
@@ -164,7 +171,7 @@ returns-3 c =
       k .0,
       (
         at-replace .replace .ensures .1 .0 ∙ ap (λ (x : Tables). x .left) alike,
-        (at-replace .replace .ensures .1 .1 ∙ ap (λ (x : Tables). x .right) alike, k .2),
+        (at-replace .replace .ensures .1 .1 .0 ∙ ap (λ (x : Tables). x .right) alike, (k .2, held-said (λ (x : ReplacedIndexed). x .outcome) (k .0) .1)),
       ),
     )
 

@@ -9,7 +9,7 @@ use borrow.Author.Tests.{lt-ltb, le-ltb, ltb-false, not-true, not-false}
 use Rattle.refusals.specs.declared.Outcome.the-variants.{Taken}
 use Rattle.state.specs.declared.Run.{Run}
 use Rattle.dimensions.specs.Sizes.{outside}
-use Rattle.readback.proofs.Checks.{no-variables, no-room, no-state, read-taken, found, run-variables}
+use Rattle.readback.proofs.Checks.{no-variables, no-room, no-state, read-taken, found, run-variables, read-said}
 use borrow.Author.Needs.{needs}
 use Rattle.readback.proofs.read_back.Statement.{statement}
 use Rattle.readback.proofs.read_back.Tie as tie
@@ -29,10 +29,12 @@ refused-requires : tie.Need-refused-requires
 refused-requires c κs = search needs
 
 returns : tie.Need-returns
-returns c = let s = c .before .before .before in
-    c .refused .ensures
+returns c =
+    let s = c .before .before .before in
+    read-said (s .args .n) (s .args .bytes .now)
+    (c .refused .ensures
     ∙ no-variables (s .args .n) (s .args .bytes .now)
-    (⊎-elim (λ w. rw (lt-ltb (s .args .n) 1 (w .taken))) (λ w. rw (w .1 .taken) (or-true (ltb (s .args .n) 1))) (c .before .if1 .came))
+    (⊎-elim (λ w. rw (lt-ltb (s .args .n) 1 (w .taken))) (λ w. rw (w .1 .taken) (or-true (ltb (s .args .n) 1))) (c .before .if1 .came)))
 
 state-wires-requires : tie.Need-state-wires-requires
 state-wires-requires c κs = search needs
@@ -44,9 +46,10 @@ returns-2 : tie.Need-returns-2
 returns-2 c =
     let at-wires = c .before .before in
     let s = start at-wires in
-    c .refused2 .ensures
+    read-said (s .args .n) (s .args .bytes .now)
+    (c .refused2 .ensures
     ∙ no-room (s .args .n) (s .args .bytes .now) (within (s .args .n) (at-wires .before .before .if1 .left) (at-wires .before .if2 .left))
-    (subst (λ (k : ℕ). length (s .args .bytes .now) < k) (at-wires .state-wires .ensures) (c .before .if3 .taken))
+    (subst (λ (k : ℕ). length (s .args .bytes .now) < k) (at-wires .state-wires .ensures) (c .before .if3 .taken)))
 
 get-run-requires : tie.Need-get-run-requires
 get-run-requires c κs = search needs
@@ -71,10 +74,11 @@ returns-3 c =
     let at-run = at-gives .before in
     let at-wires = counted at-run in
     let s = start at-wires in
-    c .refused3 .ensures
+    read-said (s .args .n) (s .args .bytes .now)
+    (c .refused3 .ensures
     ∙ no-state (s .args .n) (s .args .bytes .now) (within (s .args .n) (at-wires .before .before .if1 .left) (at-wires .before .if2 .left))
     (subst (λ (k : ℕ). k ≤ length (s .args .bytes .now)) (at-wires .state-wires .ensures) (at-run .before .if3 .left))
-    (found (s .args .n) (s .args .bytes .now) _ _ (at-run .get-run .ensures) (at-gives .gives .ensures) ∙ not-true _ (c .before .if4 .taken))
+    (found (s .args .n) (s .args .bytes .now) _ _ (at-run .get-run .ensures) (at-gives .gives .ensures) ∙ not-true _ (c .before .if4 .taken)))
 
 returns-4 : tie.Need-returns-4
 returns-4 c =
@@ -82,10 +86,11 @@ returns-4 c =
     let at-run = at-gives .before in
     let at-wires = counted at-run in
     let s = start at-wires in
-    ap (λ (x : Run). record { outcome = Taken; run = x }) (at-run .get-run .ensures)
+    read-said (s .args .n) (s .args .bytes .now)
+    (ap (λ (x : Run). record { outcome = Taken; run = x }) (at-run .get-run .ensures)
     ∙ read-taken (s .args .n) (s .args .bytes .now) (within (s .args .n) (at-wires .before .before .if1 .left) (at-wires .before .if2 .left))
     (subst (λ (k : ℕ). k ≤ length (s .args .bytes .now)) (at-wires .state-wires .ensures) (at-run .before .if3 .left))
-    (found (s .args .n) (s .args .bytes .now) _ _ (at-run .get-run .ensures) (at-gives .gives .ensures) ∙ not-false _ (c .if4 .left))
+    (found (s .args .n) (s .args .bytes .now) _ _ (at-run .get-run .ensures) (at-gives .gives .ensures) ∙ not-false _ (c .if4 .left)))
 
 pub read-back-spec : {M : Type 1} → statement M
 read-back-spec =

@@ -129,14 +129,14 @@ returns c =
     let g = s .args .gates .now in
     let i = counted p .input-wires in
     let wires-are : e .evaluate .last .1 .1 .0 ≡ wiresAfter d (tables s) g (s .args .run) (s .args .bytes .now) (s .args .wires .now) =
-    e .evaluate .ensures .1
-    ∙ ap₂ (λ (k : ℕ) (b : List ℕ). filledWires g (take k b) (s .args .wires .now)) (i .ensures) (p .pack .ensures .1) in (
+    e .evaluate .ensures .1 .0
+    ∙ ap₂ (λ (k : ℕ) (b : List ℕ). filledWires g (take k b) (s .args .wires .now)) (i .ensures) (p .pack .ensures .1 .0) in (
       ap (λ (r : Read). r .run)
-          (c .before .read-back .ensures
+          (c .before .read-back .ensures .0
           ∙ ap (readBack (d .n)) (outputs-part d g (i .result) (w .state-wires .result) (i .ensures) (w .state-wires .ensures) (fit s) _
           ∙ ap (outputsIn d g) wires-are ∙ sym (all-handed d g _)))
           ∙ known s .run-is,
-      (p .pack .ensures .1, wires-are),
+      (p .pack .ensures .1 .0, wires-are),
     )
 
 pub apply-spec : {M : Type 1} → statement M

@@ -39,7 +39,7 @@ abbrev tables : tie.Start → Tables
 tables s = allTables (s .args .left .now) (s .args .right .now) (s .args .public .now)
 
 taken : (c : tie.After-enum-told) → outcome (tableChecks (start c .args .d) (tables (start c))) ≡ Taken
-taken c = sym (c .before .before .accept .ensures) ∙ c .enum-told .given .1
+taken c = sym (c .before .before .accept .ensures .0) ∙ c .enum-told .given .1
 
 -- the second test, in the definition's words
 second : (c : tie.After-struct-known) → let s = start (accepting (measuring c)) in
@@ -64,7 +64,7 @@ returns c =
     let a = c .before .before .before in
     let s = calling a in
     refuse-tables (s .args .d) (tables s) (s .args .gates) (s .args .bytes) (s .args .wires) (s .args .run) _
-    (sym (a .accept .ensures) ∙ c .before .refusal .given .1)
+    (sym (a .accept .ensures .0) ∙ c .before .refusal .given .1)
 
 ceiling-requires : tie.Need-ceiling-requires
 ceiling-requires c κs = search needs
@@ -106,7 +106,7 @@ returns-4 : tie.Need-returns-4
 returns-4 c =
     let m = measuring (c .before .before) in
     let s = start (accepting m) in
-    c .check-state .ensures
+    c .check-state .ensures .0
     ∙ state-decides (s .args .d) (tables s) (s .args .gates) (s .args .bytes) (s .args .wires) (s .args .run) (taken (accepting m))
     (rw (m .ceiling .ensures) at (c .before .before .before .before .before .if1 .left))
     (sym (second (c .before .before)) ∙ c .before .if2 .left)

@@ -33,8 +33,8 @@ returns c =
     c .print .ensures
     ∙ ap (λ (s : Solved). textOf (solvedText (min (tables .n) 32) s)) (c .before .judge .ensures)
     ∙ ap textOf
-    (printed (a .left .now) (a .right .now) (a .public .now) tables (replied tables (a .line .now)) (read .read-tables .ensures)
-    ∙ ap (λ (t : TextTables). solvedText (t .n) (replied t (a .line .now))) (read .read-tables .ensures))
+    (printed (a .left .now) (a .right .now) (a .public .now) tables (replied tables (a .line .now)) (read .read-tables .ensures .0)
+    ∙ ap (λ (t : TextTables). solvedText (t .n) (replied t (a .line .now))) (read .read-tables .ensures .0))
 
 pub reply-spec : {M : Type 1} → statement M
 reply-spec = tie.close (tie.spec read-tables-requires judge-requires print-requires returns)

@@ -1,6 +1,7 @@
 -- `check_all` meets its contract: the checks of the tables come first.
 use denote.Ref.{now}
 use mathlib.Core.Path.{sym, _∙_}
+use Rattle.refusals.proofs.Outcomes.{outcome-said}
 use Rattle.tables.specs.Tables.{Tables, allTables}
 use Rattle.solver.proofs.Entries.{refuse-tables, state-decides}
 use borrow.Author.Needs.{needs}
@@ -31,13 +32,16 @@ returns : tie.Need-returns
 returns c =
     let at-accept = c .before .before .before in
     let s = start at-accept in
-    refuse-tables (s .args .d) (tables s) (s .args .run) (c .before .checked .given .0 .0) (sym (c .before .checked .given .1) ∙ at-accept .accept .ensures)
+    outcome-said
+    (refuse-tables (s .args .d) (tables s) (s .args .run) (c .before .checked .given .0 .0)
+    (sym (c .before .checked .given .1) ∙ at-accept .accept .ensures .0))
 
 returns-2 : tie.Need-returns-2
 returns-2 c =
     let at-accept = c .before .before .before in
     let s = start at-accept in
-    c .check-state .ensures ∙ state-decides (s .args .d) (tables s) (s .args .run) (sym (c .before .enum-told .given .1) ∙ at-accept .accept .ensures)
+    outcome-said
+    (c .check-state .ensures .0 ∙ state-decides (s .args .d) (tables s) (s .args .run) (sym (c .before .enum-told .given .1) ∙ at-accept .accept .ensures .0))
 
 pub check-all-spec : {M : Type 1} → statement M
 check-all-spec =

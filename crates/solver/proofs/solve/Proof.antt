@@ -19,21 +19,21 @@ enum-told : tie.Need-enum-told
 enum-told c = search needs
 
 run-to-close-requires : tie.Need-run-to-close-requires
-run-to-close-requires c κs = sym (c .before .before .accept .ensures) ∙ c .enum-told .given .1
+run-to-close-requires c κs = sym (c .before .before .accept .ensures .0) ∙ c .enum-told .given .1
 
 returns : tie.Need-returns
 returns c =
     let at-accept = c .before .before .before in
     let s = start at-accept in
     with-said (s .args .d) _ (s .args .budget) _
-    (solve-refused (s .args .d) _ (s .args .budget) (c .before .checked .given .0 .0) (sym (c .before .checked .given .1) ∙ at-accept .accept .ensures))
+    (solve-refused (s .args .d) _ (s .args .budget) (c .before .checked .given .0 .0) (sym (c .before .checked .given .1) ∙ at-accept .accept .ensures .0))
 
 returns-2 : tie.Need-returns-2
 returns-2 c =
     let at-accept = c .before .before .before in
     let s = start at-accept in
     with-said (s .args .d) _ (s .args .budget) _
-    (solve-taken (s .args .d) _ (s .args .budget) (sym (c .before .enum-told .given .1) ∙ at-accept .accept .ensures) _ (c .run-to-close .ensures))
+    (solve-taken (s .args .d) _ (s .args .budget) (sym (c .before .enum-told .given .1) ∙ at-accept .accept .ensures .0) _ (c .run-to-close .ensures))
 
 pub solve-spec : {M : Type 1} → statement M
 solve-spec =

@@ -1,6 +1,6 @@
 -- `step` meets its contract: the outcome of the checks decides.
 use Rattle.tables.specs.Tables.{Tables, allTables}
-use Rattle.solver.proofs.Entries.{passed, step-taken, step-refused}
+use Rattle.solver.proofs.Entries.{passed, step-taken, step-refused, step-said}
 use borrow.Author.Needs.{needs}
 use Rattle.solver.proofs.step.Statement.{statement}
 use Rattle.solver.proofs.step.Tie as tie
@@ -23,7 +23,7 @@ giant-step-requires : tie.Need-giant-step-requires
 giant-step-requires c κs =
     let checked = c .before .before in
     let s = start checked in
-    let p = passed (s .args .d) (tables s) (s .args .run) _ (checked .check-all .ensures) (c .enum-told .given .1) in (p .taken, (p .formed, p .same))
+    let p = passed (s .args .d) (tables s) (s .args .run) _ (checked .check-all .ensures .0) (c .enum-told .given .1) in (p .taken, (p .formed, p .same))
 
 enum-told-2 : tie.Need-enum-told-2
 enum-told-2 c = search needs
@@ -32,14 +32,17 @@ returns : tie.Need-returns
 returns c =
     let checked = c .before .before .before in
     let s = start checked in
-    step-taken (s .args .d) _ (s .args .run) (checked .check-all .result) (checked .check-all .ensures) (c .before .enum-told .given .1) _
-    (c .giant-step .ensures)
+    step-said (s .args .d) _ (s .args .run)
+    (step-taken (s .args .d) _ (s .args .run) (checked .check-all .result) (checked .check-all .ensures .0) (c .before .enum-told .given .1) _
+    (c .giant-step .ensures))
 
 returns-2 : tie.Need-returns-2
 returns-2 c =
     let checked = c .before .before in
     let s = start checked in
-    step-refused (s .args .d) _ (s .args .run) (checked .check-all .result) (checked .check-all .ensures) (c .enum-told2 .given .0 .0) (c .enum-told2 .given .1)
+    step-said (s .args .d) _ (s .args .run)
+    (step-refused (s .args .d) _ (s .args .run) (checked .check-all .result) (checked .check-all .ensures .0) (c .enum-told2 .given .0 .0)
+    (c .enum-told2 .given .1))
 
 pub step-spec : {M : Type 1} → statement M
 step-spec =

@@ -2,6 +2,7 @@
 use mathlib.Core.Path.{_≡_, sym, _∙_, ap}
 use mathlib.Core.Bool.{true}
 use native.Mathlib.Omega.{arith}
+use Rattle.refusals.proofs.Outcomes.{also-said}
 use borrow.Author.Needs.{needs}
 use borrow.Author.Tests.{not-true, not-false}
 use lib.ListN.{length}
@@ -33,7 +34,7 @@ accepted-requires c κs = search needs
 returns : tie.Need-returns
 returns c =
     let s = start (c .before) in
-    no-gates (s .args .gates .now) (s .args .inputs .now) (s .args .wires .now) (sym (c .before .accepted .ensures) ∙ not-true _ (c .if1 .taken))
+    also-said (no-gates (s .args .gates .now) (s .args .inputs .now) (s .args .wires .now) (sym (c .before .accepted .ensures) ∙ not-true _ (c .if1 .taken)))
 
 -- the gates were taken
 accepts : (c : tie.Else1) → let s = start (c .before) in accepted (length (s .args .inputs .now)) (s .args .gates .now) ≡ true
@@ -45,7 +46,7 @@ add-if2 c = search needs
 returns-2 : tie.Need-returns-2
 returns-2 c =
     let s = start (c .before .before) in
-    no-room (s .args .gates .now) (s .args .inputs .now) (s .args .wires .now) (accepts (c .before)) (omega arith)
+    also-said (no-room (s .args .gates .now) (s .args .inputs .now) (s .args .wires .now) (accepts (c .before)) (omega arith))
 
 bits-requires : tie.Need-bits-requires
 bits-requires c κs = search needs
@@ -53,8 +54,8 @@ bits-requires c κs = search needs
 returns-3 : tie.Need-returns-3
 returns-3 c =
     let s = started (c .before) in
-    no-bits (s .args .gates .now) (s .args .inputs .now) (s .args .wires .now) (accepts (gates-taken (c .before))) (omega arith)
-    (sym (c .before .bits .ensures) ∙ not-true _ (c .if3 .taken))
+    also-said (no-bits (s .args .gates .now) (s .args .inputs .now) (s .args .wires .now) (accepts (gates-taken (c .before))) (omega arith)
+    (sym (c .before .bits .ensures) ∙ not-true _ (c .if3 .taken)))
 
 -- the inputs are bits
 are-bits : (c : tie.Else3) → let s = started (c .before) in bits (s .args .inputs .now) ≡ true
@@ -84,7 +85,7 @@ returns-4 c =
     let a = accepts (gates-taken (q .before)) in
     let t = taken g (s .args .inputs .now) (s .args .wires .now) a (omega (arith, q .before .before .if2 .left)) (are-bits q) in
     let e = written (s .args .inputs .now) (s .args .wires .now) _ (k .copy .ensures .1) (gatesOf g) _ (c .before .before .run .ensures) in
-    (t .0, e ∙ t .1)
+    also-said (t .0, e ∙ t .1)
 
 pub evaluate-spec : {M : Type 1} → statement M
 evaluate-spec =

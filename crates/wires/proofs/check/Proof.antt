@@ -1,6 +1,7 @@
 -- `check` meets its contract: each test of the code is a condition of the definition, in its order.
 use mathlib.Core.Path.{sym, subst, _∙_}
 use Prim.Native.Nat.{ℕ, _≤_, _<_}
+use Rattle.refusals.proofs.Outcomes.{outcome-said}
 use Rattle.tables.specs.Tables.{Tables, allTables}
 use Rattle.wires.proofs.Checks.{refuse-tables, refuse-room, state-decides}
 use borrow.Author.Needs.{needs}
@@ -28,7 +29,7 @@ returns : tie.Need-returns
 returns c =
     let at-accept = c .before .before .before in
     let s = start at-accept in
-    refuse-tables (s .args .d) (tables s) (s .args .run) (s .args .room) _ (sym (at-accept .accept .ensures) ∙ c .before .refusal .given .1)
+    outcome-said (refuse-tables (s .args .d) (tables s) (s .args .run) (s .args .room) _ (sym (at-accept .accept .ensures .0) ∙ c .before .refusal .given .1))
 
 input-wires-requires : tie.Need-input-wires-requires
 input-wires-requires c κs = search needs
@@ -38,8 +39,8 @@ returns-2 c =
     let at-enum-told = c .before .before in
     let at-accept = at-enum-told .before .before in
     let s = start at-accept in
-    refuse-room (s .args .d) (tables s) (s .args .run) (s .args .room) (sym (at-accept .accept .ensures) ∙ at-enum-told .enum-told .given .1)
-    (subst (λ (k : ℕ). s .args .room < k) (c .before .input-wires .ensures) (c .if1 .taken))
+    outcome-said (refuse-room (s .args .d) (tables s) (s .args .run) (s .args .room) (sym (at-accept .accept .ensures .0) ∙ at-enum-told .enum-told .given .1)
+    (subst (λ (k : ℕ). s .args .room < k) (c .before .input-wires .ensures) (c .if1 .taken)))
 
 check-state-requires : tie.Need-check-state-requires
 check-state-requires c κs = search needs
@@ -50,9 +51,9 @@ returns-3 c =
     let at-enum-told = at-input-wires .before in
     let at-accept = at-enum-told .before .before in
     let s = start at-accept in
-    c .check-state .ensures
-    ∙ state-decides (s .args .d) (tables s) (s .args .run) (s .args .room) (sym (at-accept .accept .ensures) ∙ at-enum-told .enum-told .given .1)
-    (subst (λ (k : ℕ). k ≤ s .args .room) (at-input-wires .input-wires .ensures) (c .before .if1 .left))
+    outcome-said (c .check-state .ensures .0
+    ∙ state-decides (s .args .d) (tables s) (s .args .run) (s .args .room) (sym (at-accept .accept .ensures .0) ∙ at-enum-told .enum-told .given .1)
+    (subst (λ (k : ℕ). k ≤ s .args .room) (at-input-wires .input-wires .ensures) (c .before .if1 .left)))
 
 pub check-spec : {M : Type 1} → statement M
 check-spec =

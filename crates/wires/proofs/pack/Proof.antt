@@ -4,6 +4,7 @@ use native.Mathlib.Omega.{arith}
 use lib.ListN.{length}
 use Rattle.refusals.specs.Checks.{outcome}
 use Rattle.refusals.specs.declared.Outcome.the-variants.{Taken}
+use Rattle.refusals.proofs.Outcomes.{also-said}
 use Rattle.tables.specs.Tables.{Tables, allTables}
 use Rattle.wires.proofs.Lengths.{input-parts}
 use Rattle.wires.specs.Packing.{packChecks}
@@ -36,7 +37,7 @@ started c = start (c .before .before)
 
 -- the checks that are passed where rows are put
 passes : (c : tie.After-enum-told) → let s = started c in outcome (packChecks (s .args .d) (tables s) (s .args .run) (length (s .args .bytes .now))) ≡ Taken
-passes c = sym (c .before .before .check .ensures) ∙ c .enum-told .given .1
+passes c = sym (c .before .before .check .ensures .0) ∙ c .enum-told .given .1
 
 taken : (c : tie.After-enum-told) → let s = started c in Passed (s .args .d) (tables s) (s .args .run) (length (s .args .bytes .now))
 taken c = let s = started c in passed (s .args .d) (tables s) (s .args .run) (length (s .args .bytes .now)) (passes c)
@@ -54,8 +55,8 @@ returns : tie.Need-returns
 returns c =
     let at-check = c .before .before .before in
     let s = start at-check in
-    let e = sym (at-check .check .ensures) ∙ c .before .refusal .given .1 in
-    (sym e, pack-refused (s .args .d) (tables s) (s .args .run) (s .args .bytes .now) _ e)
+    let e = sym (at-check .check .ensures .0) ∙ c .before .refusal .given .1 in
+    also-said (sym e, pack-refused (s .args .d) (tables s) (s .args .run) (s .args .bytes .now) _ e)
 
 cast-n : tie.Need-cast-n
 cast-n c = search needs
@@ -130,7 +131,7 @@ returns-2 c =
     let stored =
     inputs-stored (s .args .d) (tables s) (s .args .run) (s .args .bytes .now) _ _ _ _ _ _ _ (p .ensures .1) (p .ensures .0) (q .ensures .1) (q .ensures .0)
     (r .ensures .1) (r .ensures .0) (t .ensures) (taken (told at-put-rows) .enough) in
-    (sym e, stored ∙ pack-taken (s .args .d) (tables s) (s .args .run) (s .args .bytes .now) e)
+    also-said (sym e, stored ∙ pack-taken (s .args .d) (tables s) (s .args .run) (s .args .bytes .now) e)
 
 pub pack-spec : {M : Type 1} → statement M
 pack-spec =
