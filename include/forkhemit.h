@@ -37,8 +37,8 @@
  * did, and compile the host anew. With the third they never change. The shared library's soname has the first two. */
 #define FORKHEMIT_VERSION_MAJOR 0
 #define FORKHEMIT_VERSION_MINOR 7
-#define FORKHEMIT_VERSION_PATCH 0
-/* The same as one number that grows, for #if: 0.7.0 is 700. */
+#define FORKHEMIT_VERSION_PATCH 1
+/* The same as one number that grows, for #if: 0.7.1 is 701. */
 #define FORKHEMIT_VERSION (FORKHEMIT_VERSION_MAJOR * 10000 + FORKHEMIT_VERSION_MINOR * 100 + FORKHEMIT_VERSION_PATCH)
 
 /* The most bytes that a DIMACS text may have, remarks included: one byte more of a file is all that a host need read. */
@@ -56,7 +56,7 @@ extern "C" {
 
 /* Why a call was turned back. The lowest that applies is returned, except that 4 comes before 3, and the 3 of a new row last; of three texts
  * whatever refuses the left one, then the right one, then the public one. In a text, a header's 1 or 2 comes before 5, and an overlong text is
- * 5 before all else. forkhemit_clause judges the tables before the texts. */
+ * 5 before all else. forkhemit_clause and forkhemit_excerpt judge overlong texts first, then the tables, then the texts. */
 enum forkhemit_refusal_number {
     FORKHEMIT_TAKEN = 0,            /* not turned back */
     FORKHEMIT_VARIABLES = 1,        /* n outside 1 to 32 */
@@ -69,7 +69,7 @@ enum forkhemit_refusal_number {
     FORKHEMIT_NUMBER_LINE = 8,      /* malformed budget line */
     FORKHEMIT_GATES = 9,            /* words that are no gates */
     FORKHEMIT_WIRES = 10,           /* wire buffer or count buffer too short, or an input byte that is not 0 or 1 */
-    FORKHEMIT_LINE_BUFFER = 11,     /* text line longer than the lent bytes */
+    FORKHEMIT_LINE_BUFFER = 11,     /* text line, or a clause, longer than the lent bytes */
     FORKHEMIT_STATE = 12,           /* state not well-formed, or an index or a number that is not the one of tables and state */
     FORKHEMIT_OTHER_VARIABLES = 13, /* state made for another n */
     FORKHEMIT_NO_MODEL = 14,        /* model wanted while open or refuted */
@@ -139,8 +139,7 @@ uint8_t forkhemit_step(uint64_t n, uint64_t left_rows, uint64_t right_rows, uint
 /* A fresh run until it closes or the budget of steps is spent; 2^(n+1) - 1 steps are always enough.
  * answer: steps taken, verdict (forkhemit_verdict), model as a word, 0 without one.
  * Every call begins afresh and keeps nothing. To go on where a budget ended, keep a run of your own, forkhemit_fresh's, and give it more
- * steps with forkhemit_step or more repeats with forkhemit_repeat: it goes on from where it stands, and the counts add up. A call for each
- * step judges tables and run each time: where the answer alone counts, it is sooner there with this call again and twice the budget.
+ * steps with forkhemit_continue, or more repeats with forkhemit_repeat: it goes on from where it stands, and the counts add up.
  * 1, 2, 4, 3. */
 uint8_t forkhemit_solve(uint64_t n, uint64_t left_rows, uint64_t right_rows, uint64_t public_rows,
                         const uint32_t *left, size_t left_length, const uint32_t *right, size_t right_length,
@@ -167,7 +166,8 @@ uint8_t forkhemit_count_free(uint64_t n, uint64_t left_rows, uint64_t right_rows
  *
  * Keep one beside tables while you ask which rows a variable touches or want a run's number of unsatisfied rows after
  * every step. A call that judges a lent index reads all rows for it and is slower than forkhemit_step; where only the answer counts, call
- * forkhemit_solve_indexed, which makes its own index once and keeps it to the end of the run.
+ * forkhemit_solve_indexed, which makes its own index once and keeps it to the end of the run, and for a run of your own forkhemit_continue,
+ * which does so for as many steps as you ask for.
  */
 #define FORKHEMIT_INDEX_WORDS 384
 
@@ -196,6 +196,17 @@ uint8_t forkhemit_step_indexed(uint64_t n, uint64_t left_rows, uint64_t right_ro
 uint8_t forkhemit_solve_indexed(uint64_t n, uint64_t left_rows, uint64_t right_rows, uint64_t public_rows,
                                 const uint32_t *left, size_t left_length, const uint32_t *right, size_t right_length,
                                 const uint32_t *public_table, size_t public_length, uint64_t budget, uint64_t answer[3]);
+
+/* run: goes on, in place, by the giant steps of forkhemit_solve_indexed through the one that closes it, at most `times`; with 0 times, or
+ * closed already, it stays as it is. continued: how many steps were taken; 1 if the run is closed then, else 0.
+ * Between two calls a host may show how far it is, stop, or take late conditions, and then call again: `a` times and then `b` times leave
+ * the run that `a + b` times leave, and the numbers of steps add up. From the fresh run by a budget they are forkhemit_solve's count, and
+ * word 1 of the run is its verdict. Each call judges tables and run, and makes its index, once: let it take some hundred steps or more.
+ * 1, 2, 4, 3, 12, 13. */
+uint8_t forkhemit_continue(uint64_t n, uint64_t left_rows, uint64_t right_rows, uint64_t public_rows,
+                           const uint32_t *left, size_t left_length, const uint32_t *right, size_t right_length,
+                           const uint32_t *public_table, size_t public_length, uint64_t times,
+                           uint32_t run[FORKHEMIT_RUN_WORDS], uint64_t continued[2]);
 
 /* ---- late conditions */
 
@@ -250,11 +261,20 @@ uint8_t forkhemit_step_explained(uint64_t n, uint64_t left_rows, uint64_t right_
 /* Where the clause of a row stands in the text that it was read from; rows count from 1, the left ones first, then the right ones.
  * place: station, 0 left or 1 right; its first byte in that station's text, from 0; how many bytes, from the first literal through the
  * closing 0, remarks inside it too. An empty clause is its 0. Start and length are 0 where the table's row no longer has the clause's two
- * words. The tables' 1, 2, 4, 3, then the left text's 1, 2 or 5, the right text's, 6, 17. */
+ * words. 5 for an overlong text, the tables' 1, 2, 4, 3, then the left text's 1, 2 or 5, the right text's, 6, 17. */
 uint8_t forkhemit_clause(uint64_t n, uint64_t left_rows, uint64_t right_rows, uint64_t public_rows,
                          const uint32_t *left, size_t left_length, const uint32_t *right, size_t right_length,
                          const uint32_t *public_table, size_t public_length, const uint8_t *left_text, size_t left_text_length,
                          const uint8_t *right_text, size_t right_text_length, uint64_t row, uint64_t place[3]);
+
+/* The clause itself: bytes: those at the place that forkhemit_clause gives, copied over the front; the rest stays as it was. length: how
+ * many they are; 0 where the table's row no longer has the clause's two words, and then no byte is written. FORKHEMIT_TEXT_BYTES take any
+ * clause. The refusals of forkhemit_clause, in its order, then 11 where the clause has more bytes than are lent. */
+uint8_t forkhemit_excerpt(uint64_t n, uint64_t left_rows, uint64_t right_rows, uint64_t public_rows,
+                          const uint32_t *left, size_t left_length, const uint32_t *right, size_t right_length,
+                          const uint32_t *public_table, size_t public_length, const uint8_t *left_text, size_t left_text_length,
+                          const uint8_t *right_text, size_t right_text_length, uint64_t row,
+                          uint8_t *bytes, size_t bytes_length, uint64_t length[1]);
 
 /* ---- the circuit */
 

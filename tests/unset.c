@@ -64,6 +64,16 @@ int main(void)
     UNSET(uint32_t, other, FORKHEMIT_RUN_WORDS);
     TAKEN(forkhemit_fresh(d[0], other));
     TAKEN(forkhemit_step_indexed(TABLES, index, other, number));
+    UNSET(uint32_t, sliced, FORKHEMIT_RUN_WORDS);
+    UNSET(uint64_t, continued, 2);
+    uint64_t steps = 0;
+    TAKEN(forkhemit_fresh(d[0], sliced));
+    for (uint64_t part = 2; part <= 1000; part += 998) {
+        TAKEN(forkhemit_continue(TABLES, part, sliced, continued));
+        same(continued[1] == (sliced[1] != FORKHEMIT_OPEN), "it is said whether the run is closed");
+        steps += continued[0];
+    }
+    same(steps == answer[0] && sliced[1] == answer[1], "steps in two parts add up");
 
     /* the step that tells its rule, the clause as typed, and a late condition, in both forms: row 3 is padding */
     UNSET(uint32_t, explained, FORKHEMIT_RUN_WORDS);
@@ -74,6 +84,11 @@ int main(void)
     UNSET(uint64_t, place, 3);
     TAKEN(forkhemit_clause(TABLES, TEXT(left_text), TEXT(right_text), 5, place));
     same(place[0] == 1 && place[1] == 18 && place[2] == 5 && memcmp(right_text + 18, "4 1 0", 5) == 0, "the clause of row 5");
+    UNSET(uint8_t, clause, 6);
+    UNSET(uint64_t, clause_length, 1);
+    clause[5] = '.';
+    TAKEN(forkhemit_excerpt(TABLES, TEXT(left_text), TEXT(right_text), 5, clause, 6, clause_length));
+    same(clause_length[0] == 5 && memcmp(clause, "4 1 0.", 6) == 0, "its bytes");
     uint64_t before = number[0];
     TAKEN(forkhemit_replace(TABLES, explained, 0, 3, 8, 8));
     TAKEN(forkhemit_index(TABLES, index));

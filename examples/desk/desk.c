@@ -40,26 +40,26 @@ static void print_literals(const uint32_t *words)
  * has another now than its text: both are shown as the table has them. */
 static void print_clause(uint64_t row)
 {
-    uint64_t place[3] = {0}; /* station, start, length */
+    static uint8_t clause[TEXT_LIMIT];
+    uint64_t length[1] = {0};
     if (row > d[1] + d[2]) {
         printf("  (public:");
         print_literals(public_table + 2 * (row - d[1] - d[2] - 1));
         return;
     }
-    uint8_t refusal = forkhemit_clause(TABLES, left_text, left_length, right_text, right_length, row, place);
+    uint8_t refusal = forkhemit_excerpt(TABLES, left_text, left_length, right_text, right_length, row, clause, sizeof clause, length);
     if (refusal != 0) {
         printf("  (refused %u)", refusal);
         return;
     }
-    if (place[2] == 0) {
+    if (length[0] == 0) {
         printf("  (replaced:");
         print_literals(row <= d[1] ? left + 2 * (row - 1) : right + 2 * (row - d[1] - 1));
         return;
     }
-    const uint8_t *text = (place[0] == 0 ? left_text : right_text) + place[1];
     printf("  ");
-    for (uint64_t i = 0; i < place[2]; i++)
-        putchar(text[i] < ' ' ? ' ' : text[i]);
+    for (uint64_t i = 0; i < length[0]; i++)
+        putchar(clause[i] < ' ' ? ' ' : clause[i]);
 }
 
 /* One line a step: its number, how deep the run is then, the rule, what was set, the row and its clause. */

@@ -1,6 +1,7 @@
 /*
  * A host in C. It reads two stations' texts and the public one, repeats the giant step's circuit from the fresh state until the closing
- * mark or the budget, and prints the answer as the pair program does. It then steps a plain run as often, solves at once, and compares.
+ * mark or the budget, and prints the answer as the pair program does. It then takes the same steps without a circuit, ten at a time, solves at
+ * once, and compares.
  * Use: host-c LEFT RIGHT PUBLIC BUDGET. `make examples` builds it.
  */
 #include "forkhemit.h"
@@ -64,13 +65,17 @@ int main(int count, char **arguments)
     if (refusal != 0)
         return refused(refusal);
 
-    /* As many giant steps without a circuit end in the same state. */
-    for (uint64_t step = 0; step < repeated[0]; step++) {
-        refusal = forkhemit_step(d[0], d[1], d[2], d[3], left, ROW_WORDS, right, ROW_WORDS, public_table, ROW_WORDS, plain);
+    /* Giant steps without a circuit, ten at a time, end in the same state. Between two calls a host may show how far it is, or stop. */
+    uint64_t steps = 0, continued[2] = {0}; /* steps taken, 1 if the run is closed */
+    while (steps < budget && continued[1] == 0) {
+        uint64_t times = budget - steps < 10 ? budget - steps : 10;
+        refusal = forkhemit_continue(d[0], d[1], d[2], d[3], left, ROW_WORDS, right, ROW_WORDS, public_table, ROW_WORDS, times,
+                                     plain, continued);
         if (refusal != 0)
             return refused(refusal);
+        steps += continued[0];
     }
-    if (memcmp(run, plain, sizeof run) != 0)
+    if (steps != repeated[0] || memcmp(run, plain, sizeof run) != 0)
         return wrong("the circuit's state is not the plain run's");
 
     /* The answer: the number of repeats, the standing (word 1) as verdict, and the model of a satisfied run. */

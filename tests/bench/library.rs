@@ -1,5 +1,5 @@
-//! Times the library as a host calls it: the giant step, free literals counted, the reader and the writer beside plain Rust, and the making
-//! of circuits.
+//! Times the library as a host calls it: the giant step, runs in one call and in many, free literals counted, the reader and the writer
+//! beside plain Rust, and the making of circuits.
 //! All times are the processor's. Linked with the archive that `make lib` writes.
 
 mod plain;
@@ -27,6 +27,17 @@ extern "C" {
         counts: *mut u8, counts_length: usize) -> u8;
     fn forkhemit_solve_indexed(n: u64, left_rows: u64, right_rows: u64, public_rows: u64, left: *const u32, left_length: usize,
         right: *const u32, right_length: usize, public_table: *const u32, public_length: usize, budget: u64, answer: &mut [u64; 3]) -> u8;
+    fn forkhemit_index(n: u64, left_rows: u64, right_rows: u64, public_rows: u64, left: *const u32, left_length: usize,
+        right: *const u32, right_length: usize, public_table: *const u32, public_length: usize, index: &mut [u64; 384]) -> u8;
+    fn forkhemit_unsatisfied(n: u64, left_rows: u64, right_rows: u64, public_rows: u64, left: *const u32, left_length: usize,
+        right: *const u32, right_length: usize, public_table: *const u32, public_length: usize, run: &[u32; 101],
+        number: &mut [u64; 1]) -> u8;
+    fn forkhemit_step_indexed(n: u64, left_rows: u64, right_rows: u64, public_rows: u64, left: *const u32, left_length: usize,
+        right: *const u32, right_length: usize, public_table: *const u32, public_length: usize, index: &[u64; 384],
+        run: &mut [u32; 101], number: &mut [u64; 1]) -> u8;
+    fn forkhemit_continue(n: u64, left_rows: u64, right_rows: u64, public_rows: u64, left: *const u32, left_length: usize,
+        right: *const u32, right_length: usize, public_table: *const u32, public_length: usize, times: u64, run: &mut [u32; 101],
+        continued: &mut [u64; 2]) -> u8;
     fn forkhemit_generate(n: u64, left_rows: u64, right_rows: u64, public_rows: u64, gates: *mut u32, gates_length: usize,
         count: &mut [u64; 1]) -> u8;
     fn forkhemit_write_lines(n: u64, left_rows: u64, right_rows: u64, public_rows: u64, gates: *const u32, gates_length: usize,
@@ -153,6 +164,80 @@ fn single_steps(n: usize, m: usize, padding: usize) {
     }
     let (a, b) = (median(proved), median(plain));
     println!("a step by itself, n = {n}, m = {m}: {a:.0} ns, plain Rust {b:.0} ns, ratio {:.2} ({total} steps)", a / b);
+}
+
+/// The calls that a whole run is made of.
+#[derive(Clone, Copy)]
+enum Calls {
+    AtOnce,
+    /// So many steps a call.
+    Continued(u64),
+    Steps,
+    /// With an index that is lent to each.
+    IndexedSteps,
+}
+
+/// Steps and standing of a whole run from the fresh state.
+fn made_of(calls: Calls, n: usize, tables: &[Vec<u32>; 3]) -> [u64; 2] {
+    let (mut run, mut steps, mut continued) = ([0; 101], 0, [0; 2]);
+    run[0] = n as u32;
+    match calls {
+        Calls::AtOnce => {
+            let answer = solve_by(forkhemit_solve_indexed, n, tables, u64::MAX);
+            return [answer[0], answer[1]];
+        }
+        Calls::Continued(times) => {
+            while continued[1] == 0 {
+                assert_eq!(lent!(forkhemit_continue, n, tables, times, &mut run, &mut continued), 0);
+                steps += continued[0];
+            }
+        }
+        Calls::Steps => {
+            while run[1] == 0 {
+                assert_eq!(lent!(forkhemit_step, n, tables, &mut run), 0);
+                steps += 1;
+            }
+        }
+        Calls::IndexedSteps => {
+            let (mut index, mut number) = ([0; 384], [0]);
+            assert_eq!(lent!(forkhemit_index, n, tables, &mut index), 0);
+            assert_eq!(lent!(forkhemit_unsatisfied, n, tables, &run, &mut number), 0);
+            while run[1] == 0 {
+                assert_eq!(lent!(forkhemit_step_indexed, n, tables, &index, &mut run, &mut number), 0);
+                steps += 1;
+            }
+        }
+    }
+    [steps, run[1].into()]
+}
+
+/// Whole runs in one call, by so many steps a call, and by single steps, side by side.
+fn in_calls(n: usize, m: usize) {
+    let all: Vec<[Vec<u32>; 3]> = (0..TABLES).map(|k| hard(n, m, 0, SEED + k as u64)).collect();
+    let by = |times: u64| (format!("{times} steps a call"), Calls::Continued(times));
+    let ways = [
+        ("at once".to_string(), Calls::AtOnce),
+        by(1_000),
+        by(100),
+        by(10),
+        by(1),
+        ("single steps".to_string(), Calls::Steps),
+        ("single steps with an index".to_string(), Calls::IndexedSteps),
+    ];
+    let mut times = vec![vec![]; ways.len()];
+    let mut count = 0;
+    for _ in 0..RUNS {
+        let mut first = None;
+        for ((_, calls), times) in ways.iter().zip(&mut times) {
+            let (made, time) = clock::of(|| all.iter().map(|tables| made_of(*calls, n, tables)).collect::<Vec<_>>());
+            count = made.iter().map(|[steps, _]| steps).sum();
+            assert_eq!(first.get_or_insert(made.clone()), &made, "all ways give the same counts and verdicts");
+            times.push(time * 1e3 / count as f64);
+        }
+    }
+    let shown: Vec<String> =
+        ways.iter().zip(times).map(|((way, _), times)| format!("{way} {:.0} ns", median(times))).collect();
+    println!("a run in calls, n = {n}, m = {m}: {} ({count} steps of {TABLES} tables)", shown.join(", "));
 }
 
 /// Free literals counted side by side, a byte a row, after some steps, beside plain Rust that judges tables and run too.
@@ -375,6 +460,9 @@ fn main() {
     }
     single_steps(32, 138, 0);
     single_steps(32, 384, 0);
+    in_calls(20, 86);
+    in_calls(32, 138);
+    in_calls(32, 384);
     counts(32, 138);
     counts(32, 384);
     reader("literals again and again", repeated);

@@ -31,6 +31,9 @@ mod library {
             run: *mut u32, number: *mut u64) -> u8;
         pub fn forkhemit_solve_indexed(n: u64, left_rows: u64, right_rows: u64, public_rows: u64, left: *const u32, left_length: usize,
             right: *const u32, right_length: usize, public_table: *const u32, public_length: usize, budget: u64, answer: *mut u64) -> u8;
+        pub fn forkhemit_continue(n: u64, left_rows: u64, right_rows: u64, public_rows: u64, left: *const u32, left_length: usize,
+            right: *const u32, right_length: usize, public_table: *const u32, public_length: usize, times: u64, run: *mut u32,
+            continued: *mut u64) -> u8;
         pub fn forkhemit_replace(n: u64, left_rows: u64, right_rows: u64, public_rows: u64, left: *mut u32, left_length: usize,
             right: *mut u32, right_length: usize, public_table: *const u32, public_length: usize, run: *const u32,
             station: u64, row: u64, positive: u32, negative: u32) -> u8;
@@ -43,6 +46,10 @@ mod library {
         pub fn forkhemit_clause(n: u64, left_rows: u64, right_rows: u64, public_rows: u64, left: *const u32, left_length: usize,
             right: *const u32, right_length: usize, public_table: *const u32, public_length: usize, left_text: *const u8,
             left_text_length: usize, right_text: *const u8, right_text_length: usize, row: u64, place: *mut u64) -> u8;
+        pub fn forkhemit_excerpt(n: u64, left_rows: u64, right_rows: u64, public_rows: u64, left: *const u32, left_length: usize,
+            right: *const u32, right_length: usize, public_table: *const u32, public_length: usize, left_text: *const u8,
+            left_text_length: usize, right_text: *const u8, right_text_length: usize, row: u64, bytes: *mut u8, bytes_length: usize,
+            length: *mut u64) -> u8;
         pub fn forkhemit_model(run: *const u32, model: *mut u64) -> u8;
         pub fn forkhemit_generate(n: u64, left_rows: u64, right_rows: u64, public_rows: u64, gates: *mut u32, gates_length: usize,
             count: *mut u64) -> u8;
@@ -87,10 +94,12 @@ pub enum Function {
     Unsatisfied,
     StepIndexed,
     SolveIndexed,
+    Continue,
     Replace,
     ReplaceIndexed,
     StepExplained,
     Clause,
+    Excerpt,
     Model,
     Generate,
     Pack,
@@ -103,7 +112,7 @@ pub enum Function {
     Answer,
 }
 
-pub const ALL: [Function; 26] = [
+pub const ALL: [Function; 28] = [
     Function::Sizes,
     Function::ReadTables,
     Function::Accept,
@@ -116,10 +125,12 @@ pub const ALL: [Function; 26] = [
     Function::Unsatisfied,
     Function::StepIndexed,
     Function::SolveIndexed,
+    Function::Continue,
     Function::Replace,
     Function::ReplaceIndexed,
     Function::StepExplained,
     Function::Clause,
+    Function::Excerpt,
     Function::Model,
     Function::Generate,
     Function::Pack,
@@ -317,6 +328,7 @@ impl Call {
                 Function::StepIndexed => forkhemit_step_indexed(x(0), x(1), x(2), x(3), w(0), l(0), w(1), l(1), w(2), l(2),
                     n(3), w(4), n(5)),
                 Function::SolveIndexed => forkhemit_solve_indexed(x(0), x(1), x(2), x(3), w(0), l(0), w(1), l(1), w(2), l(2), x(4), n(3)),
+                Function::Continue => forkhemit_continue(x(0), x(1), x(2), x(3), w(0), l(0), w(1), l(1), w(2), l(2), x(4), w(3), n(4)),
                 Function::Replace => forkhemit_replace(x(0), x(1), x(2), x(3), w(0), l(0), w(1), l(1), w(2), l(2), w(3),
                     x(4), x(5), x(6) as u32, x(7) as u32),
                 Function::ReplaceIndexed => forkhemit_replace_indexed(x(0), x(1), x(2), x(3), w(0), l(0), w(1), l(1), w(2), l(2), w(3),
@@ -324,6 +336,8 @@ impl Call {
                 Function::StepExplained => forkhemit_step_explained(x(0), x(1), x(2), x(3), w(0), l(0), w(1), l(1), w(2), l(2), w(3), n(4)),
                 Function::Clause => forkhemit_clause(x(0), x(1), x(2), x(3), w(0), l(0), w(1), l(1), w(2), l(2), b(3), l(3), b(4), l(4),
                     x(4), n(5)),
+                Function::Excerpt => forkhemit_excerpt(x(0), x(1), x(2), x(3), w(0), l(0), w(1), l(1), w(2), l(2), b(3), l(3), b(4), l(4),
+                    x(4), b(5), l(5), n(6)),
                 Function::Model => forkhemit_model(w(0), n(1)),
                 Function::Generate => forkhemit_generate(x(0), x(1), x(2), x(3), w(0), l(0), n(1)),
                 Function::Pack => forkhemit_pack(x(0), x(1), x(2), x(3), w(0), l(0), w(1), l(1), w(2), l(2), w(3), b(4), l(4)),

@@ -1,5 +1,6 @@
 //! The clause of a row by its own bytes: texts written by hand with a mark before and behind each clause, and random ones written clause by
-//! clause. Where a clause stands is known from how its text was made; no reader is asked. The bytes handed back are read again.
+//! clause. Where a clause stands is known from how its text was made; no reader is asked. Its place is asked for and its bytes, in buffers of
+//! just their length, longer ones and a byte shorter. The bytes handed back are read again.
 
 use crate::calls::{numbers, Call, Function, Lent};
 use crate::circuits::Circuits;
@@ -227,17 +228,52 @@ impl<'a> Desk<'a> {
         Ok(Desk { size, texts, words, lent, circuits, ledger, guard })
     }
 
-    /// Asks for the clause of a row: the place, or the refusal. The model's answer is the same, and no other buffer is changed.
-    fn ask(&self, number: u64) -> Result<Result<[u64; 3], u8>, String> {
-        let lent = [&self.lent[..], &[Lent::Numbers(vec![7; 3])]].concat();
-        let call = Call { function: Function::Clause, numbers: [numbers(self.size), vec![number]].concat(), lent };
+    /// A call over tables and texts with room for what it writes: that room afterwards, or the refusal. The model's answer is the same, and
+    /// no other buffer is changed.
+    fn call(&self, function: Function, number: u64, room: &[Lent]) -> Result<Result<Vec<Lent>, u8>, String> {
+        let lent = [&self.lent[..], room].concat();
+        let call = Call { function, numbers: [numbers(self.size), vec![number]].concat(), lent };
         let given =
             judge(&call, self.circuits, self.guard).map_err(|failure| format!("{failure}\n  {}", shown(&call)))?;
         if given.number > 0 && given.lent != call.lent || given.lent[..5] != call.lent[..5] {
             return Err(format!("a buffer is changed\n  {}", shown(&call)));
         }
-        let place = [0, 1, 2].map(|k| given.lent[5].numbers()[k]);
-        Ok(if given.number == 0 { Ok(place) } else { Err(given.number) })
+        Ok(if given.number == 0 { Ok(given.lent[5..].to_vec()) } else { Err(given.number) })
+    }
+
+    /// Asks for the clause of a row: the place, or the refusal.
+    fn ask(&self, number: u64) -> Result<Result<[u64; 3], u8>, String> {
+        let given = self.call(Function::Clause, number, &[Lent::Numbers(vec![7; 3])])?;
+        Ok(given.map(|given| [0, 1, 2].map(|k| given[0].numbers()[k])))
+    }
+
+    /// Asks for its bytes, so many being lent: they stand in front and all others are as they were; or the refusal.
+    fn bytes(&self, number: u64, room: usize) -> Result<Result<Vec<u8>, u8>, String> {
+        let room = [Lent::Bytes(vec![7; room]), Lent::Numbers(vec![7])];
+        let given = match self.call(Function::Excerpt, number, &room)? {
+            Ok(given) => given,
+            Err(refusal) => return Ok(Err(refusal)),
+        };
+        let (front, rest) = given[0].bytes().split_at(given[1].numbers()[0] as usize);
+        match rest.iter().all(|&byte| byte == 7) {
+            true => Ok(Ok(front.to_vec())),
+            false => Err(format!("behind the clause {front:?} stand {rest:?}")),
+        }
+    }
+
+    /// Whether a row's clause has these bytes: where as many are lent, and where more or, if it has some, one fewer, which is 11.
+    fn has_bytes(&self, number: usize, expected: &[u8]) -> Result<(), String> {
+        let fewer = expected.len().checked_sub(1).filter(|_| number % 2 == 0);
+        for room in [expected.len(), fewer.unwrap_or(expected.len() + number % 9)] {
+            let given = self.bytes(number as u64, room)?;
+            let right = if room < expected.len() { Err(11) } else { Ok(expected) };
+            if given.as_deref().map_err(|refusal| *refusal) != right {
+                return Err(format!("row {number} in {room} bytes is {given:?} and not {right:?}"));
+            }
+            self.ledger.kind("bytes handed back", usize::from(right.is_ok()));
+            self.ledger.kind("refused 11", usize::from(right.is_err()));
+        }
+        Ok(())
     }
 
     /// The station and the clause of a row from 1, as it was written.
@@ -258,6 +294,7 @@ impl<'a> Desk<'a> {
             given => return Err(format!("row {number} is at {given:?} and not at {expected:?}")),
         }
         let bytes = &self.texts[station].text[place];
+        self.has_bytes(number, bytes)?;
         self.ledger.kind(if same { "shown" } else { "by number only" }, 1);
         self.ledger.kind("empty clauses", usize::from(bytes == b"0"));
         self.ledger.kind("with remarks", usize::from(bytes.windows(2).any(|pair| pair == b"\nc")));
@@ -301,8 +338,9 @@ impl<'a> Desk<'a> {
         let cut = [8, 16, 32, 63].map(|bits| last + (1 << bits));
         let public = [last + 1, (last + all) / 2 + 1, all].into_iter().filter(|&number| number > last);
         for number in [0, all + 1, u64::MAX].into_iter().chain(cut).chain(public) {
-            let refused = self.ask(number).and_then(|asked| match asked {
-                Err(17) => Ok(()),
+            let asked = self.ask(number).and_then(|place| Ok((place, self.bytes(number, 4)?)));
+            let refused = asked.and_then(|asked| match asked {
+                (Err(17), Err(17)) => Ok(()),
                 other => Err(format!("row {number} gives {other:?}")),
             });
             self.ledger.kind("refused 17", 1);
@@ -403,9 +441,12 @@ pub fn longest(circuits: &Circuits, guard: usize) -> Tally {
                 let k = (3..5).find(|&k| desk.lent[k].bytes().len() == length).expect("a text is filled up");
                 desk.lent[k] = Lent::Bytes([desk.lent[k].bytes(), b"\n"].concat());
                 let refused = if length == TEXT_LIMIT { Err(5) } else { Ok(()) };
-                let asked = desk.ask(1).and_then(|asked| match asked.map(|_| ()) == refused {
-                    true => Ok(()),
-                    false => Err(format!("a byte longer it gives {asked:?}")),
+                let asked = desk.ask(1).and_then(|place| Ok((place, desk.bytes(1, length)?)));
+                let asked = asked.and_then(|(place, bytes)| {
+                    match [place.map(|_| ()), bytes.as_ref().map(|_| ()).map_err(|number| *number)] == [refused; 2] {
+                        true => Ok(()),
+                        false => Err(format!("a byte longer it gives {place:?} and {bytes:?}")),
+                    }
                 });
                 desk.tell(&what, asked);
             }

@@ -143,8 +143,8 @@ fn text(n: usize, rows: &[Row], random: &mut Random) -> Vec<u8> {
     }
 }
 
-/// Tables, the stations' texts, room for a place, and the number of a row: now and then a row has other words, or a text is of another n, has
-/// a clause more or fewer or is damaged.
+/// Tables, the stations' texts, and the number of a row: now and then a row has other words, or a text is of another n, has a clause more or
+/// fewer, is damaged or as long as may be or longer.
 fn asked_clause(size: Size, random: &mut Random) -> (u64, Vec<Lent>) {
     let mut rows: Vec<Row> = (0..size.rows()).map(|_| clause(size.n, random)).collect();
     let stations = size.left + size.right;
@@ -162,6 +162,9 @@ fn asked_clause(size: Size, random: &mut Random) -> (u64, Vec<Lent>) {
         if random.once_in(12) {
             damage::strike(&mut text, random);
         }
+        if random.once_in(100) {
+            text.resize(random.between(TEXT_LIMIT - 1, TEXT_LIMIT + 1), b'\n');
+        }
         texts.push(Lent::Bytes(text));
     }
     let number = random.between(1, stations);
@@ -170,7 +173,17 @@ fn asked_clause(size: Size, random: &mut Random) -> (u64, Vec<Lent>) {
         rows[replaced - 1] = clause(size.n, random);
     }
     let number = if random.once_in(8) { one(&ODD, random) } else { number as u64 };
-    (number, [lent_tables(size, &rows, random), texts, vec![numbers_for(3, random)]].concat())
+    (number, [lent_tables(size, &rows, random), texts].concat())
+}
+
+/// Room for the bytes of the clause of a row: as many as it has, some more, one fewer, or few.
+fn room_for_clause(size: Size, number: u64, texts: [&[u8]; 2], random: &mut Random) -> Lent {
+    let station = usize::from(number > size.left as u64);
+    let place = usize::try_from(number).ok().and_then(|number| number.checked_sub(1 + station * size.left));
+    let places = model::clause_places(texts[station]);
+    let length = place.and_then(|place| places.get(place)).map_or(0, |place| place.len());
+    let room = one(&[length, length, slack(length, random), length.saturating_sub(1), random.below(12)], random);
+    Lent::Bytes(some_bytes(room, random))
 }
 
 /// Three texts, room for their rows, and room for their sizes.
@@ -411,6 +424,14 @@ fn solving(size: Size, random: &mut Random) -> (u64, Vec<Lent>) {
     (budget, lent)
 }
 
+/// Tables, a run, room for two numbers, and how many steps: none, some, or until the run closes.
+fn continuing(size: Size, random: &mut Random) -> (u64, Vec<Lent>) {
+    let (mut lent, run) = tables_and_run(size, random);
+    lent.extend([Lent::Run(run), numbers_for(2, random)]);
+    let most = if size.n <= 9 { u64::MAX } else { 200 };
+    (one(&[0, 1, 2, 3, random.below(20) as u64, most, most], random), lent)
+}
+
 /// A call that is right, but for what texts, line numbers and answers bring along.
 fn right(function: Function, circuits: &Circuits, random: &mut Random) -> Result<Call, String> {
     let size = match function {
@@ -446,12 +467,23 @@ pub fn of_size(function: Function, size: Size, circuits: &Circuits, random: &mut
             let (budget, lent) = solving(size, random);
             call([numbers(size), vec![budget]].concat(), lent)
         }
+        Function::Continue => {
+            let (times, lent) = continuing(size, random);
+            call([numbers(size), vec![times]].concat(), lent)
+        }
         Function::Replace | Function::ReplaceIndexed => {
             let (numbers, lent) = late(size, function == Function::ReplaceIndexed, random);
             call(numbers, lent)
         }
         Function::Clause => {
-            let (number, lent) = asked_clause(size, random);
+            let (number, mut lent) = asked_clause(size, random);
+            lent.push(numbers_for(3, random));
+            call([numbers(size), vec![number]].concat(), lent)
+        }
+        Function::Excerpt => {
+            let (number, mut lent) = asked_clause(size, random);
+            let room = room_for_clause(size, number, [3, 4].map(|k| lent[k].bytes()), random);
+            lent.extend([room, numbers_for(1, random)]);
             call([numbers(size), vec![number]].concat(), lent)
         }
         Function::Model => {
@@ -534,7 +566,8 @@ fn strike(call: &mut Call, random: &mut Random) {
         let k = random.below(call.numbers.len());
         let number = call.numbers[k];
         // a number of steps stays one in which the model comes to an end
-        if !matches!(call.function, Function::Solve | Function::SolveIndexed | Function::Repeat) || k < 4 {
+        let runs = [Function::Solve, Function::SolveIndexed, Function::Continue, Function::Repeat];
+        if !runs.contains(&call.function) || k < 4 {
             call.numbers[k] = one(&[number.wrapping_sub(1), number.wrapping_add(1), one(&ODD, random)], random);
         }
         return;

@@ -4,8 +4,9 @@ use crate::calls::{Call, Function, Given, Lent};
 use crate::circuits::Circuits;
 use forkhemit_tests::bristol::Gate;
 use forkhemit_tests::memory;
-use forkhemit_tests::model::{self, Condition, Row, Run, Size};
+use forkhemit_tests::model::{self, Condition, Row, Run, Size, Ties};
 use forkhemit_tests::wires;
+use std::ops::Range;
 
 /// What a call writes: into the front of which buffer.
 type Writes = Vec<(usize, Lent)>;
@@ -82,6 +83,7 @@ impl Call {
             Function::Fresh => self.fresh(),
             Function::Step => self.step(),
             Function::Solve | Function::SolveIndexed => self.solve(),
+            Function::Continue => self.go_on(),
             Function::CountFree => self.count_free(),
             Function::Index => self.index(),
             Function::Unsatisfied => self.unsatisfied(),
@@ -90,6 +92,7 @@ impl Call {
             Function::ReplaceIndexed => self.replace_indexed(),
             Function::StepExplained => self.step_explained(),
             Function::Clause => self.clause(),
+            Function::Excerpt => self.excerpt(),
             Function::Model => self.model(),
             Function::Generate => match self.size().and_then(|size| self.room_for_gates(size, 0)) {
                 Ok(size) => {
@@ -174,6 +177,16 @@ impl Call {
         };
         let model = answer.model.iter().enumerate().fold(0, |word, (v, &value)| word | u64::from(value) << v);
         Ok(vec![(3, Lent::Numbers(vec![answer.steps, verdict, model]))])
+    }
+
+    /// The run after giant steps through the one that closes it, at most so many; how many, and whether it is closed: 12, 13.
+    fn go_on(&self) -> Result<Writes, u8> {
+        let size = self.size()?;
+        let rows = memory::accepted(size, self.tables())?;
+        let mut run = memory::run_for(size.n, self.words(3))?;
+        let steps = run.go_on(Ties::LowestVariable, &rows, self.numbers[4]);
+        let closed = u64::from(run.standing != model::Standing::Open);
+        Ok(vec![(3, Lent::Run(memory::run_words(&run))), (4, Lent::Numbers(vec![steps, closed]))])
     }
 
     /// How many literals of each row are free under the run, a byte a row: 4, 3, 10, 12, 13.
@@ -265,27 +278,48 @@ impl Call {
         Ok(vec![(3, Lent::Run(memory::run_words(&after))), (4, Lent::Numbers(told))])
     }
 
-    /// Station, start and length of a row's clause: the tables' 4 and 3, the left text's refusal, the right text's, 6, 17.
-    fn clause(&self) -> Result<Writes, u8> {
+    /// The station and the place of a row's clause: 5 for an overlong text, the tables' 1, 2, 4 and 3, the left text's refusal, the right
+    /// text's, 6, 17.
+    fn clause_place(&self) -> Result<(usize, Range<usize>), u8> {
+        let texts = [self.bytes(3), self.bytes(4)];
+        if texts.iter().any(|text| text.len() > model::TEXT_LIMIT) {
+            return Err(5);
+        }
         let size = self.size()?;
         let rows = memory::accepted(size, self.tables())?;
-        let texts = [self.bytes(3), self.bytes(4)];
         let left = model::read(texts[0], model::STATION)?;
         let right = model::read(texts[1], model::STATION)?;
         if left.n != right.n {
             return Err(6);
         }
         let number = self.numbers[4];
-        let station = size.station(number).ok_or(17)?;
+        let station = size.station(number).ok_or(17)? as usize;
         if [left.n, left.rows.len(), right.rows.len()] != [size.n, size.left, size.right] {
             return Err(17);
         }
         let place = number as usize - 1;
-        let clause = model::clause_places(texts[station as usize])[place - station as usize * size.left].clone();
+        let clause = model::clause_places(texts[station])[place - station * size.left].clone();
         let read = [left.rows, right.rows].concat();
         let same = memory::row_words(&rows[place..=place]) == memory::row_words(&read[place..=place]);
-        let clause = if same { clause } else { 0..0 };
-        Ok(vec![(5, Lent::Numbers(vec![station, clause.start as u64, clause.len() as u64]))])
+        Ok((station, if same { clause } else { 0..0 }))
+    }
+
+    /// Station, start and length of a row's clause.
+    fn clause(&self) -> Result<Writes, u8> {
+        let (station, clause) = self.clause_place()?;
+        let numbers = [station, clause.start, clause.len()].map(|number| number as u64);
+        Ok(vec![(5, Lent::Numbers(numbers.to_vec()))])
+    }
+
+    /// The bytes of a row's clause, and how many: 11 where fewer are lent.
+    fn excerpt(&self) -> Result<Writes, u8> {
+        let (station, clause) = self.clause_place()?;
+        let bytes = self.bytes(3 + station)[clause].to_vec();
+        if self.bytes(5).len() < bytes.len() {
+            return Err(11);
+        }
+        let length = bytes.len() as u64;
+        Ok(vec![(5, Lent::Bytes(bytes)), (6, Lent::Numbers(vec![length]))])
     }
 
     /// The model as a word; 12, 14.

@@ -1,5 +1,5 @@
-//! Late conditions: runs in which stations replace padding rows, plain, with index and number, and by one repeat of the circuit at a time,
-//! side by side and beside the model's. The verdict at the close is held to all assignments or to another solver, on the tables as they are then.
+//! Late conditions: runs in which stations replace padding rows, plain, with index and number, by one repeat of the circuit at a time, and
+//! continued from one replacement to the next, side by side and beside the model's. The verdict at the close is held to all assignments or to another solver, on the tables as they are then.
 
 use crate::calls::{numbers, Call, Function, Lent};
 use crate::circuits::Circuits;
@@ -20,7 +20,7 @@ const SIZES: [([usize; 4], usize, usize); 10] = [
     ([8, 30, 20, 6], 120, 300), ([10, 40, 40, 10], 40, 300), ([12, 60, 50, 0], 20, 300), ([32, 64, 64, 64], 1, 12), ([32, 128, 128, 128], 1, 6),
 ];
 
-/// Tables and a run over them, in three ways, and the model's rows and run.
+/// Tables and a run over them, in four ways, and the model's rows and run.
 #[derive(Clone)]
 struct Ways<'a> {
     size: Size,
@@ -34,6 +34,9 @@ struct Ways<'a> {
     repeated: Vec<Lent>,
     /// Tables of its own, index, run and number.
     indexed: Vec<Lent>,
+    /// The run that is continued, and how many steps it is behind.
+    continued: Lent,
+    behind: u64,
     ledger: &'a Ledger,
     guard: usize,
 }
@@ -55,7 +58,8 @@ impl<'a> Ways<'a> {
         let repeated =
             [&room[..], &[Lent::Bytes(vec![7; inputs + gates]), plain.clone(), Lent::Numbers(vec![7; 2])]].concat();
         let indexed = [&tables[..], &draw::indexed(size, &tables, memory::run_words(&run))].concat();
-        Ok(Ways { size, rows, run, steps: 0, tables, plain, repeated, indexed, ledger, guard })
+        let continued = plain.clone();
+        Ok(Ways { size, rows, run, steps: 0, tables, plain, repeated, indexed, continued, behind: 0, ledger, guard })
     }
 
     /// A call, and what it gives.
@@ -68,6 +72,7 @@ impl<'a> Ways<'a> {
     /// A row replaced, plain and with index and number: the refusal is the model's and leaves all memory; else the row's two words are
     /// the new ones and all others as they were, and index and number are those that the new tables have.
     fn replace(&mut self, late: &[u64]) -> Result<u8, String> {
+        self.catch_up()?;
         let row = memory::row(late[2] as u32, late[3] as u32);
         let condition = Condition { station: late[0], number: late[1], row };
         let after = model::replaced(self.size, &self.rows, &self.run, &condition);
@@ -115,7 +120,31 @@ impl<'a> Ways<'a> {
         }
     }
 
-    /// One step in the three ways: the model's run each time, and its number.
+    /// The run that is continued goes on to where the others are, over the tables as they have been since it stood still; if that closes it,
+    /// whatever number of steps is allowed. Half of them first, where there are several.
+    fn catch_up(&mut self) -> Result<(), String> {
+        let closed = u64::from(self.closed());
+        let half = self.behind / 2;
+        let rest = if self.closed() { u64::MAX } else { self.behind - half };
+        for (times, steps, mark) in [(half, half, None), (rest, self.behind - half, Some(closed))] {
+            let lent = [&self.tables[..], &[self.continued.clone(), Lent::Numbers(vec![7; 2])]].concat();
+            let mut given = taken(Function::Continue, self.size, &[times], lent, self.guard)?;
+            let numbers = given.pop().expect("numbers are lent");
+            self.continued = given.pop().expect("a run is lent");
+            let mark = mark.unwrap_or_else(|| u64::from(self.continued.words()[1] != 0));
+            if numbers.numbers() != [steps, mark] || given != self.tables {
+                return Err(format!("continued {times} times: {numbers:?} and not {:?}", [steps, mark]));
+            }
+        }
+        self.ledger.kind("continued", 1);
+        self.behind = 0;
+        match self.continued.words() == memory::run_words(&self.run) {
+            true => Ok(()),
+            false => Err(format!("after step {} the run is, continued, {:?}", self.steps, self.continued)),
+        }
+    }
+
+    /// One step in the three ways that step: the model's run each time, and its number.
     fn step(&mut self) -> Result<(), String> {
         let (size, guard) = (self.size, self.guard);
         let plain = [&self.tables[..], &[self.plain.clone()]].concat();
@@ -126,6 +155,7 @@ impl<'a> Ways<'a> {
         let repeated = taken(Function::Repeat, size, &[1], repeated, guard)?;
         self.run.step(&self.rows);
         self.steps += 1;
+        self.behind += 1;
         let words = memory::run_words(&self.run);
         for (way, run) in [("plain", &plain[3]), ("indexed", &indexed[4]), ("by the circuit", &repeated[6])] {
             if run.words() != words {
@@ -152,7 +182,8 @@ impl<'a> Ways<'a> {
     }
 
     /// At the close: the verdict on the rows as they are, a model of them, and no more steps than their variables allow.
-    fn close(&self, satisfiable: bool) -> Result<(), String> {
+    fn close(&mut self, satisfiable: bool) -> Result<(), String> {
+        self.catch_up()?;
         let live: Vec<&Row> = self.rows.iter().filter(|row| !model::padding(row)).collect();
         let occurs = |v: i64| live.iter().any(|row| row.contains(&v) || row.contains(&-v));
         let variables = (1..=self.size.n as i64).filter(|&v| occurs(v)).count() as u32;
@@ -346,5 +377,5 @@ pub fn runs(circuits: &Circuits, guard: usize) -> Tally {
         }
     }
     ledger
-        .close(&format!("runs with rows replaced, in three ways, verdicts beside those of {solver}, seeds from {SEED}"))
+        .close(&format!("runs with rows replaced, in four ways, verdicts beside those of {solver}, seeds from {SEED}"))
 }

@@ -1,14 +1,15 @@
 //! Tests of the library as hosts call it. Use: interface CALLS [exact]
 //! Every refusal as it was written by hand, alone and two at once, then calls at the limits of size, then rows of every shape judged and
-//! counted, then runs with index and number beside the plain ones, then runs whose steps tell their rules, then clauses by their own
-//! bytes, then steps where several literals are forced, then runs in which rows are replaced, whose verdicts are held to another solver's,
-//! then random calls over all functions: each result and every lent buffer is held to the model. With `exact` each buffer has an
-//! allocation of its own of exactly its length, for a memory checker; else it stands between guards. The last line is
-//! `N passed, M failed`, and the status 0 where M is 0.
+//! counted, then runs with index and number beside the plain ones, then runs continued in slices, then runs whose steps tell their rules,
+//! then clauses by their own bytes, then steps where several literals are forced, then runs in which rows are replaced, whose verdicts are
+//! held to another solver's, then random calls over all functions: each result and every lent buffer is held to the model. With `exact`
+//! each buffer has an allocation of its own of exactly its length, for a memory checker; else it stands between guards. The last line is `N
+//! passed, M failed`, and the status 0 where M is 0.
 
 mod calls;
 mod circuits;
 mod clauses;
+mod continued;
 mod draw;
 mod expected;
 mod explained;
@@ -140,6 +141,9 @@ fn main() -> ExitCode {
     total.add(indexed::handed_over(guard));
     total.add(indexed::damaged(&circuits, guard));
     total.add(indexed::solved(guard));
+    total.add(continued::runs(guard));
+    total.add(continued::handed_over(guard));
+    total.add(continued::summed(guard));
     total.add(explained::written(&circuits, guard));
     total.add(explained::runs(&circuits, guard));
     total.add(explained::handed_over(&circuits, guard));

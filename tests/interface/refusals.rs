@@ -20,10 +20,11 @@ enum Place {
     Lent(usize),
 }
 
-/// A change to a call, and all that it touches.
+/// A change to a call, all that it touches, and whether it makes a text overlong.
 #[derive(Clone)]
 struct Change {
     places: Vec<Place>,
+    overlong: bool,
     make: Rc<dyn Fn(&mut Call)>,
 }
 
@@ -102,6 +103,7 @@ fn base(function: Function, circuits: &Circuits) -> Result<Call, String> {
         Function::Fresh => (vec![2], vec![Lent::Run(vec![7; RUN_WORDS])]),
         Function::Step => (d, [tables(), vec![Lent::Run(run())]].concat()),
         Function::Solve | Function::SolveIndexed => (and(9), [tables(), vec![numbers(3)]].concat()),
+        Function::Continue => (and(9), [tables(), vec![Lent::Run(run()), numbers(2)]].concat()),
         Function::CountFree => (d, [tables(), vec![Lent::Run(run()), bytes(3)]].concat()),
         Function::Index => (d, [tables(), vec![numbers(INDEX_WORDS)]].concat()),
         Function::Unsatisfied => (d, [tables(), vec![Lent::Run(run()), numbers(1)]].concat()),
@@ -116,11 +118,12 @@ fn base(function: Function, circuits: &Circuits) -> Result<Call, String> {
             (late(), [late_tables(), besides].concat())
         }
         Function::StepExplained => (d, [tables(), vec![Lent::Run(run()), numbers(4)]].concat()),
-        // row 5 is the last right one
-        Function::Clause => {
+        // row 5 is the last right one, and has 15 bytes
+        Function::Clause | Function::Excerpt => {
             let tables = CLAUSE_TABLES.map(|table| Lent::Words(table.to_vec())).to_vec();
             let texts = CLAUSE_TEXTS.map(|text| Lent::Bytes(text.to_vec())).to_vec();
-            (clause_numbers, [tables, texts, vec![numbers(3)]].concat())
+            let room = if function == Function::Clause { vec![numbers(3)] } else { vec![bytes(15), numbers(1)] };
+            (clause_numbers, [tables, texts, room].concat())
         }
         Function::Model => (vec![], vec![Lent::Run(satisfied), numbers(1)]),
         Function::Generate => (d, vec![words(3 * SIZE.ceiling()), numbers(1)]),
@@ -144,7 +147,7 @@ fn base(function: Function, circuits: &Circuits) -> Result<Call, String> {
 impl Change {
     /// One place changed.
     fn new(place: Place, make: impl Fn(&mut Call) + 'static) -> Change {
-        Change { places: vec![place], make: Rc::new(make) }
+        Change { places: vec![place], overlong: false, make: Rc::new(make) }
     }
 }
 
@@ -205,17 +208,19 @@ fn byte(k: usize, at: usize, to: u8) -> Change {
 
 /// Another text as buffer k.
 fn text(k: usize, text: Vec<u8>) -> Change {
-    Change::new(Place::Lent(k), move |call| call.lent[k] = Lent::Bytes(text.clone()))
+    let overlong = text.len() > TEXT_LIMIT;
+    Change { overlong, ..Change::new(Place::Lent(k), move |call| call.lent[k] = Lent::Bytes(text.clone())) }
 }
 
 /// Two changes, one after the other.
 fn both(first: Change, second: Change) -> Change {
     let places = [first.places, second.places].concat();
+    let overlong = first.overlong || second.overlong;
     let make = move |call: &mut Call| {
         (first.make)(call);
         (second.make)(call);
     };
-    Change { places, make: Rc::new(make) }
+    Change { places, overlong, make: Rc::new(make) }
 }
 
 /// 1 and 2, at numbers that a cut to fewer bits would make right.
@@ -476,11 +481,13 @@ fn late_without_public_rows() -> Change {
     both(no_public_rows(), both(index, entry(5, 0, 1)))
 }
 
-/// The 1, 2 and 5 of both texts and 6, then 17: a row that is no station's, and a text whose n or row count is not its table's.
+/// An overlong text's 5, the 1, 2 and 5 of both texts and 6, then 17: a row that is no station's, and a text whose n or row count is not its table's.
 fn clause(list: &mut Changes) {
     for (k, base) in CLAUSE_TEXTS.iter().enumerate() {
         text_at(3 + k, NAMES[k], base, list);
     }
+    let overlong = || vec![b'\n'; TEXT_LIMIT + 1];
+    add(list, "both texts overlong", 5, both(text(3, overlong()), text(4, overlong())));
     for (row, whose) in [
         (0, "none"),
         (6, "the first public one"),
@@ -525,6 +532,17 @@ fn clause(list: &mut Changes) {
             let what = format!("{} text \"{}\", row {row}", NAMES[k - 3], to.escape_ascii());
             add(list, &what, 17, both(text(k, to.to_vec()), number(4, row)));
         }
+    }
+}
+
+/// A clause's refusals, then 11: fewer bytes than the clause has, a remark inside it too.
+fn excerpt(list: &mut Changes) {
+    clause(list);
+    add(list, "a byte short", 11, shorter(5));
+    add(list, "bytes for what stands before the remark", 11, cut(5, 2));
+    add(list, "no bytes", 11, cut(5, 0));
+    for (row, length) in [(1, 5), (2, 6), (3, 4), (4, 1)] {
+        add(list, &format!("row {row}, a byte short"), 11, both(number(4, row), cut(5, length - 1)));
     }
 }
 
@@ -618,12 +636,13 @@ fn changes(function: Function) -> Changes {
         Function::Accept | Function::Solve | Function::Index | Function::SolveIndexed => &[sizes, tables],
         Function::Judge => &[],
         Function::Fresh | Function::Answer => &[variables],
-        Function::Step | Function::Unsatisfied | Function::StepExplained => &[sizes, tables, step],
+        Function::Step | Function::Unsatisfied | Function::StepExplained | Function::Continue => &[sizes, tables, step],
         Function::CountFree => &[sizes, tables, count_free],
         Function::StepIndexed => &[sizes, tables, step_indexed],
         Function::Replace => &[sizes, tables, replace],
         Function::ReplaceIndexed => &[sizes, tables, replace_indexed],
         Function::Clause => &[sizes, tables, clause],
+        Function::Excerpt => &[sizes, tables, excerpt],
         Function::Model => &[model_wanted],
         Function::Generate => &[sizes, generate],
         Function::Pack => &[sizes, tables, pack],
@@ -636,6 +655,25 @@ fn changes(function: Function) -> Changes {
     let mut list = vec![];
     groups.iter().for_each(|group| group(&mut list));
     list
+}
+
+/// Changes after which a clause is still asked for: another row, or other words in one.
+fn asked_clauses() -> Vec<(&'static str, Change)> {
+    vec![
+        ("no public rows, and words of some", number(3, 0)),
+        ("no public rows, and words that would be refused", both(number(3, 0), word(2, 1, u32::MAX))),
+        ("no public rows and no words", both(number(3, 0), cut(2, 0))),
+        ("the first left row", number(4, 1)),
+        ("the last left row", number(4, 2)),
+        ("the first right row", number(4, 3)),
+        ("an empty row", number(4, 4)),
+        ("the row with a literal more", word(1, 4, 0b11)),
+        ("the row with its signs exchanged", both(word(1, 4, 0b01), word(1, 5, 0b10))),
+        ("the row by another", both(word(1, 4, 0), word(1, 5, 0b10))),
+        ("padding by other padding", both(number(4, 2), both(word(0, 2, 0b11), word(0, 3, 0b11)))),
+        ("another row by another", word(1, 2, 0b10)),
+        ("words behind the tables", both(longer(0, &[7, u32::MAX]), longer(1, &[7, u32::MAX]))),
+    ]
 }
 
 /// Changes after which the call is still taken: no public rows, with public words there or none.
@@ -690,21 +728,35 @@ fn harmless(function: Function) -> Vec<(String, Change)> {
                 ("words behind the tables", both(longer(0, &[7, u32::MAX]), longer(1, &[7, u32::MAX]))),
             ]
         }
-        Function::Clause => vec![
+        Function::Continue => vec![
             ("no public rows, and words of some", number(3, 0)),
             ("no public rows, and words that would be refused", both(number(3, 0), word(2, 1, u32::MAX))),
             ("no public rows and no words", both(number(3, 0), cut(2, 0))),
-            ("the first left row", number(4, 1)),
-            ("the last left row", number(4, 2)),
-            ("the first right row", number(4, 3)),
-            ("an empty row", number(4, 4)),
-            ("the row with a literal more", word(1, 4, 0b11)),
-            ("the row with its signs exchanged", both(word(1, 4, 0b01), word(1, 5, 0b10))),
-            ("the row by another", both(word(1, 4, 0), word(1, 5, 0b10))),
-            ("padding by other padding", both(number(4, 2), both(word(0, 2, 0b11), word(0, 3, 0b11)))),
-            ("another row by another", word(1, 2, 0b10)),
+            ("no steps", number(4, 0)),
+            ("one step", number(4, 1)),
+            ("two steps", number(4, 2)),
+            ("256 steps", number(4, 256)),
+            ("2^32 steps", number(4, 1 << 32)),
+            ("as many steps as a number holds", number(4, u64::MAX)),
+            ("a satisfied run", word(3, 1, 1)),
+            ("a refuted run", word(3, 1, 2)),
+            ("a refuted run and no steps", both(number(4, 0), word(3, 1, 2))),
             ("words behind the tables", both(longer(0, &[7, u32::MAX]), longer(1, &[7, u32::MAX]))),
         ],
+        Function::Clause => asked_clauses(),
+        Function::Excerpt => {
+            let exact = |row: u64, length: usize| both(number(4, row), cut(5, length));
+            let mut list = asked_clauses();
+            list.extend([
+                ("more bytes than the clause has", text(5, vec![7; 40])),
+                ("the first left row in as many bytes", exact(1, 5)),
+                ("the last left row in as many bytes", exact(2, 6)),
+                ("the first right row in as many bytes", exact(3, 4)),
+                ("an empty row in one byte", exact(4, 1)),
+                ("another row's words, and no bytes", both(word(1, 4, 0b11), cut(5, 0))),
+            ]);
+            list
+        }
         Function::ReadTables => vec![
             ("no public rows", none()),
             ("no public rows and no words", both(none(), cut(5, 0))),
@@ -718,17 +770,19 @@ fn harmless(function: Function) -> Vec<(String, Change)> {
 // ---- Two changes at once
 
 /// Which of two refusals comes first: the lower number, but 4 before 3, and a new row's 3 last; of texts whatever refuses the left one, then
-/// whatever refuses the right one, then the public one, then 4 and 6. Where tables and texts are lent, the texts' come behind the
-/// tables' 3 and before 6.
+/// whatever refuses the right one, then the public one, then 4 and 6. Where tables and texts are lent, an overlong text's 5 comes first, the
+/// texts' other refusals come behind the tables' 3 and before 6, and a clause's 11 comes last.
 fn order(function: Function, number: u8, change: &Change) -> u8 {
     match (function, number) {
         (Function::ReadTables, 1 | 2 | 5) => {
             let text = (0..3).find(|&k| change.places == [Place::Lent(usize::from(k))]);
             text.expect("one of three texts is refused")
         }
-        (Function::Clause, 1 | 2 | 5) if change.places == [Place::Lent(3)] => 5,
-        (Function::Clause, 1 | 2 | 5) if change.places == [Place::Lent(4)] => 6,
-        (Function::Clause, 6) => 7,
+        (Function::Clause | Function::Excerpt, 5) if change.overlong => 0,
+        (Function::Clause | Function::Excerpt, 1 | 2 | 5) if change.places == [Place::Lent(3)] => 5,
+        (Function::Clause | Function::Excerpt, 1 | 2 | 5) if change.places == [Place::Lent(4)] => 6,
+        (Function::Clause | Function::Excerpt, 6) => 7,
+        (Function::Excerpt, 11) => u8::MAX,
         (Function::Replace | Function::ReplaceIndexed, 3)
             if change.places.iter().any(|place| matches!(place, Place::Number(_))) =>
         {

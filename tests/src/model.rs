@@ -355,6 +355,16 @@ impl Run {
         }
     }
 
+    /// Giant steps through the one that closes the run, at most so many; how many they were.
+    pub fn go_on(&mut self, ties: Ties, rows: &[Row], times: u64) -> u64 {
+        let mut steps = 0;
+        while steps < times && self.standing == Standing::Open {
+            self.step_by(ties, rows);
+            steps += 1;
+        }
+        steps
+    }
+
     /// What the step to `after` tells: rule, row from 1, variable from 1, value. It is read off what the step changed.
     pub fn told(&self, after: &Run, rows: &[Row]) -> [u64; 4] {
         let lowest = |free: &[i64]| {
@@ -397,11 +407,7 @@ pub fn run(n: usize, rows: &[Row], budget: u64) -> Answer {
 /// The same with another choice among forced literals.
 pub fn run_by(ties: Ties, n: usize, rows: &[Row], budget: u64) -> Answer {
     let mut run = Run::fresh(n);
-    let mut steps = 0;
-    while steps < budget && run.standing == Standing::Open {
-        run.step_by(ties, rows);
-        steps += 1;
-    }
+    let steps = run.go_on(ties, rows, budget);
     run.answer(steps)
 }
 

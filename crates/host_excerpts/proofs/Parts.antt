@@ -15,11 +15,11 @@ use Rattle.refusals.specs.declared.Refusal.{Refusal}
 use Rattle.refusals.specs.declared.Refusal.the-variants.{LineBuffer}
 use Rattle.refusals.proofs.Outcomes.{outcome-taken, outcome-refused}
 use Rattle.lent.specs.Lent.{front}
-use Rattle.host_excerpts.specs.Parts.{roomChecks, bytesAfter, lengthAfter}
+use Rattle.host_excerpts.specs.Parts.{roomChecks, partAfter, lengthAfter}
 
 -- what is returned, and what is left in bytes and number
 abbrev pub Given : Outcome → List ℕ → List ℕ → List ℕ → ℕ → List ℕ → List ℕ → Type 0
-Given o part bytes number code bytes′ number′ = (code ≡ codeOf o) × ((bytes′ ≡ bytesAfter o part bytes) × (number′ ≡ lengthAfter o part number))
+Given o part bytes number code bytes′ number′ = (code ≡ codeOf o) × ((bytes′ ≡ partAfter o part bytes) × (number′ ≡ lengthAfter o part number))
 
 module _ (part bytes number : List ℕ) where
   pub no-room : length bytes < length part → (code : ℕ) → code ≡ codeOf (Refused LineBuffer)

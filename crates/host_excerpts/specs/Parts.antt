@@ -16,8 +16,8 @@ abbrev pub roomChecks : List ℕ → List ℕ → List Check
 roomChecks part bytes = check (ltb (length bytes) (length part)) LineBuffer ∷ []
 
 -- the lent bytes with the part over their front; refused, as they were
-abbrev pub bytesAfter : Outcome → List ℕ → List ℕ → List ℕ
-bytesAfter o part bytes = given o (front part bytes) (λ r. bytes)
+abbrev pub partAfter : Outcome → List ℕ → List ℕ → List ℕ
+partAfter o part bytes = given o (front part bytes) (λ r. bytes)
 
 -- the lent number: how long the part is; refused, as it was
 abbrev pub lengthAfter : Outcome → List ℕ → List ℕ → List ℕ

@@ -11,7 +11,7 @@ ghost use Rattle.refusals.specs.Numbers.{codeOf};
 ghost use Rattle.refusals.specs.Checks.{outcome};
 ghost use Rattle.excerpts.specs.Excerpts.{placed, placedCode, placedNumbers, clauseBytes};
 ghost use Rattle.lent.specs.Lent.{numbersOr};
-ghost use Rattle.host_excerpts.specs.Parts.{roomChecks, bytesAfter, lengthAfter, excerptIn};
+ghost use Rattle.host_excerpts.specs.Parts.{roomChecks, partAfter, lengthAfter, excerptIn};
 
 // The station, start and length of the clause of a row, from 1; 5 for an overlong text, the tables' 1, 2, 4 or 3, the left text's 1, 2
 // or 5, the right text's, 6 or 17 where it is turned back.
@@ -57,7 +57,7 @@ pub extern "C" fn forkhemit_clause(
 fn give(part: &[u8], bytes: &mut [u8], length: &mut [u64; 1]) -> u8
     ensures { λ r. ⌜ r ≡ codeOf (outcome (roomChecks (now (part .entry)) (now (bytes .entry)))) ⌝ }
     ensures { λ _.
-        ⌜ now (bytes .exit) ≡ bytesAfter (outcome (roomChecks (now (part .entry)) (now (bytes .entry)))) (now (part .entry))
+        ⌜ now (bytes .exit) ≡ partAfter (outcome (roomChecks (now (part .entry)) (now (bytes .entry)))) (now (part .entry))
         (now (bytes .entry)) ⌝ }
     ensures { λ _.
         ⌜ now (length .exit) ≡ lengthAfter (outcome (roomChecks (now (part .entry)) (now (bytes .entry)))) (now (part .entry))
@@ -93,7 +93,7 @@ pub extern "C" fn forkhemit_excerpt<'a>(
         (allTables (now (left .entry)) (now (right .entry)) (now (public .entry))) (now («left_text» .entry))
         (now («right_text» .entry)) row (now (bytes .entry))) ⌝ }
     ensures { λ _.
-        ⌜ now (bytes .exit) ≡ bytesAfter (excerptIn (dimensions n «left_rows» «right_rows» «public_rows»)
+        ⌜ now (bytes .exit) ≡ partAfter (excerptIn (dimensions n «left_rows» «right_rows» «public_rows»)
         (allTables (now (left .entry)) (now (right .entry)) (now (public .entry))) (now («left_text» .entry))
         (now («right_text» .entry)) row (now (bytes .entry)))
         (clauseBytes (dimensions n «left_rows» «right_rows» «public_rows»)

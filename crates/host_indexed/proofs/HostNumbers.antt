@@ -22,7 +22,7 @@ use Rattle.indexed.specs.declared.Counted.the-variants as counted′
 use Rattle.indexed.specs.declared.SteppedIndexed.{SteppedIndexed}
 use Rattle.indexed.specs.Entries.{indexAfter, counted, indexedChecks, steppedBy, steppedIndexed}
 use Rattle.indexed.specs.declared.Continued.{Continued}
-use Rattle.indexed.specs.Continuing.{continued, refusedWith}
+use Rattle.indexed.specs.Continuing.{continued, notContinued}
 use Rattle.stored.specs.Words.{runIn}
 use Rattle.codes.proofs.AsBytes.{asBytes, on-numbers}
 use Rattle.host_indexed.specs.Steps.{indexedStepIn, continueIn}
@@ -49,7 +49,7 @@ module _ (tables : Tables) (d : Dimensions) (q : Refusal) (h : outcome (sizeChec
       ap (λ (o : Outcome). steppedBy o (d .n) rows run number)
       (outcome-refused (tableChecks d tables) (indexedChecks (d .n) rows index run number) q accept-refused)
 
-  continue-refused : (times : ℕ) (run : Run) → continued d tables times run ≡ refusedWith run q
+  continue-refused : (times : ℕ) (run : Run) → continued d tables times run ≡ notContinued run q
   unfolding continued
   continue-refused times run = rw (outcome-refused (tableChecks d tables) (stateChecks d run) q accept-refused)
 
@@ -78,5 +78,5 @@ module _ (asked d : Dimensions) (e : d ≡ asBytes asked) (tables : Tables) wher
   pub continue-is : (times : ℕ) (words : List ℕ) (run : Run) → run ≡ runIn words
       → (c : Continued) → c ≡ continued d tables times run → c ≡ continueIn asked tables times words
   continue-is times words run held c r =
-      on-numbers asked (λ x. continued x tables times run) (λ q. refusedWith run q) (λ x q h. continue-refused tables x q h times run) d e c r
+      on-numbers asked (λ x. continued x tables times run) (λ q. notContinued run q) (λ x q h. continue-refused tables x q h times run) d e c r
       ∙ ap (λ (x : Run). continued asked tables times x) held

@@ -27,7 +27,7 @@ use Rattle.solver.proofs.StepLaws.{fresh-well-formed}
 use Rattle.indexed.specs.declared.Continued.{Continued}
 use Rattle.indexed.specs.declared.beside.Reached.{Reached}
 use Rattle.indexed.specs.Held.{reachedBy}
-use Rattle.indexed.specs.Continuing.{continuedBy, refusedWith, continued, continuedCode, continuedNumbers, ranNumbers}
+use Rattle.indexed.specs.Continuing.{continuedBy, notContinued, continued, continuedCode, continuedNumbers, ranNumbers}
 
 -- ---- the fresh run
 
@@ -60,14 +60,14 @@ module _ (d : Dimensions) (tables : Tables) (times : ℕ) (run : Run) where
   ran = runFrom (d .n) (always (rowsOf d tables)) times (stateOf run)
 
   -- what is given says its number and its values
-  with-said : (c : Continued) → c ≡ given checked (continuedBy (d .n) ran) (refusedWith run)
+  with-said : (c : Continued) → c ≡ given checked (continuedBy (d .n) ran) (notContinued run)
       → (c ≡ continued d tables times run) × (says c ≡ said checked (ranNumbers ran))
   unfolding continued
-  with-said c e = (e, ap says e ∙ given-said says checked (continuedBy (d .n) ran) (refusedWith run) _ refl (λ q. refl))
+  with-said c e = (e, ap says e ∙ given-said says checked (continuedBy (d .n) ran) (notContinued run) _ refl (λ q. refl))
 
   -- a given outcome leads to what the checks lead to
-  by-checks : (o : Outcome) → o ≡ checked → given o (continuedBy (d .n) ran) (refusedWith run) ≡ given checked (continuedBy (d .n) ran) (refusedWith run)
-  by-checks o e = ap (λ (x : Outcome). given x (continuedBy (d .n) ran) (refusedWith run)) e
+  by-checks : (o : Outcome) → o ≡ checked → given o (continuedBy (d .n) ran) (notContinued run) ≡ given checked (continuedBy (d .n) ran) (notContinued run)
+  by-checks o e = ap (λ (x : Outcome). given x (continuedBy (d .n) ran) (notContinued run)) e
 
   module _ (o : Outcome) (e : o ≡ checked) where
     -- the run that the steps reach, and whether it is closed

@@ -28,7 +28,7 @@ use Rattle.solver.proofs.RunLaws.{run-of}
 use Rattle.solver.proofs.BudgetedRun.{run-resumes}
 use Rattle.solver.proofs.Entries.{passed}
 use Rattle.indexed.specs.declared.Continued.{Continued}
-use Rattle.indexed.specs.Continuing.{continuedBy, refusedWith, continued, Resumes, solvedBy}
+use Rattle.indexed.specs.Continuing.{continuedBy, notContinued, continued, Resumes, solvedBy}
 
 module _ (d : Dimensions) (tables : Tables) where
   abbrev rows : List Row
@@ -42,9 +42,9 @@ module _ (d : Dimensions) (tables : Tables) where
 
   -- by an outcome of the checks
   by-outcome : (times : ℕ) (run : Run) (o : Outcome) → checked run ≡ o
-      → continued d tables times run ≡ given o (continuedBy (d .n) (ran times (stateOf run))) (refusedWith run)
+      → continued d tables times run ≡ given o (continuedBy (d .n) (ran times (stateOf run))) (notContinued run)
   unfolding continued
-  by-outcome times run o e = ap (λ (x : Outcome). given x (continuedBy (d .n) (ran times (stateOf run))) (refusedWith run)) e
+  by-outcome times run o e = ap (λ (x : Outcome). given x (continuedBy (d .n) (ran times (stateOf run))) (notContinued run)) e
 
   -- the run of a well-formed state passes the checks of accepted tables
   passes : outcome (tableChecks d tables) ≡ Taken → (s : State) → wellFormedState (d .n) s ≡ true → checked (runOf (d .n) s) ≡ Taken
@@ -100,10 +100,10 @@ module _ (d : Dimensions) (tables : Tables) where
               closed = ap (λ (c : Continued). c .closed) second ∙ sym (ap (λ (c : Continued). c .closed) whole);
             }
         go (Refused x) e =
-            let first : continued d tables a run ≡ refusedWith run x = by-outcome a run (Refused x) e in
-            let second : continued d tables b (continued d tables a run .run) ≡ refusedWith run x =
+            let first : continued d tables a run ≡ notContinued run x = by-outcome a run (Refused x) e in
+            let second : continued d tables b (continued d tables a run .run) ≡ notContinued run x =
             ap (λ (c : Continued). continued d tables b (c .run)) first ∙ by-outcome b run (Refused x) e in
-            let whole : continued d tables (a + b) run ≡ refusedWith run x = by-outcome (a + b) run (Refused x) e in
+            let whole : continued d tables (a + b) run ≡ notContinued run x = by-outcome (a + b) run (Refused x) e in
             record {
               outcome = ap (λ (c : Continued). c .outcome) (second ∙ sym whole);
               run = ap (λ (c : Continued). c .run) (second ∙ sym whole);

@@ -29,15 +29,15 @@ abbrev pub continuedBy : ℕ → Ran → Continued
 continuedBy n r = record { outcome = Taken; run = runOf n (r .final); steps = r .steps; closed = ifOpen (r .final .standing) false true }
 
 -- refused, the run as it was, with no step
-abbrev pub refusedWith : Run → Refusal → Continued
-refusedWith run r = record { outcome = Refused r; run = run; steps = 0; closed = false }
+abbrev pub notContinued : Run → Refusal → Continued
+notContinued run r = record { outcome = Refused r; run = run; steps = 0; closed = false }
 
 -- steps through the one that closes the run, at most so many: 1, 2, 4, 3, 12, 13
 unfoldable pub continued : Dimensions → Tables → ℕ → Run → Continued
 unfolding runFrom runOf
 continued d tables times run =
     given (outcome (tableChecks d tables ++ stateChecks d run))
-    (continuedBy (d .n) (runFrom (d .n) (always (rowsOf d tables)) times (stateOf run))) (refusedWith run)
+    (continuedBy (d .n) (runFrom (d .n) (always (rowsOf d tables)) times (stateOf run))) (notContinued run)
 
 -- ---- its numbers
 
