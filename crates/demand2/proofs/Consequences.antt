@@ -1,5 +1,5 @@
 -- What demand 2 comes to, in a reader's words. From the fields of the record alone, each of which is used: one that said less would be refused here.
-use mathlib.Core.Path.{_≡_, refl, sym, ap, _∙_}
+use mathlib.Core.Path.{_≡_, refl, sym, ap, ap₂, _∙_}
 use mathlib.Core.Bool.{Bool, true, false, true≢false}
 use mathlib.Core.List.{List, [], _∷_, _++_}
 use Prim.Native.Nat.{ℕ, zero, suc, _+_, _-_, _^_, _≤_, _<_}
@@ -15,8 +15,9 @@ use Rattle.dimensions.specs.declared.Dimensions.{Dimensions}
 use Rattle.tables.specs.Tables.{Tables}
 use Rattle.tables.specs.Rows.{rowAt, rowsFrom, rowsOf}
 use Rattle.tables.specs.Acceptance.{tableChecks}
-use Rattle.state.specs.declared.Standing.the-variants.{Open}
-use Rattle.state.specs.State.{fresh}
+use Rattle.state.specs.declared.Standing.{Standing}
+use Rattle.state.specs.declared.Standing.the-variants.{Open, Satisfied, Refuted}
+use Rattle.state.specs.State.{State, fresh}
 use Rattle.verdicts.specs.declared.Verdict.{Verdict}
 use Rattle.verdicts.specs.declared.Verdict.the-variants.{Satisfiable, Unsatisfiable, Unknown}
 use Rattle.scan.specs.Rules.{allRows}
@@ -25,8 +26,9 @@ use Rattle.solver.specs.declared.Answer.{Answer}
 use Rattle.solver.specs.Step.{always, after}
 use Rattle.solver.specs.Truth.{rowTrue, allTrue, occurring}
 use Rattle.solver.specs.Entries.{answerOf}
-use Rattle.demand2.specs.Demand2.{atEnd, Demand2}
-use Rattle.demand2.proofs.Demand2.{demand2}
+use Rattle.verdicts.specs.Verdicts.{verdictOf}
+use Rattle.demand2.specs.Demand2.{atEnd, stateAtEnd, Demand2}
+use Rattle.demand2.proofs.Demand2.{verdict-satisfied, verdict-refuted, demand2}
 
 -- ---- any answer of which demand 2 holds
 
@@ -49,6 +51,20 @@ module _ (n : ℕ) (rows : ℕ → List Row) (budget : ℕ) (answer : Answer) (h
 
   pub unknown-spent : answer .verdict ≡ Unknown → answer .count ≡ budget
   unknown-spent e = holds .unknown e .0
+
+  -- a satisfied run is satisfiable by its T, a refuted one unsatisfiable, and no other is
+  pub satisfied-model-given : stateAtEnd n rows answer .standing ≡ Satisfied → answer .verdict ≡ Satisfiable (stateAtEnd n rows answer .t)
+  satisfied-model-given e = holds .by-standing ∙ ap (λ (st : Standing). verdictOf st (stateAtEnd n rows answer .t)) e
+
+  pub refuted-said : stateAtEnd n rows answer .standing ≡ Refuted → answer .verdict ≡ Unsatisfiable
+  refuted-said e = holds .by-standing ∙ ap (λ (st : Standing). verdictOf st (stateAtEnd n rows answer .t)) e
+
+  pub model-is-t : (model : ℕ) → answer .verdict ≡ Satisfiable model
+      → (stateAtEnd n rows answer .standing ≡ Satisfied) × (stateAtEnd n rows answer .t ≡ model)
+  model-is-t model e = verdict-satisfied (stateAtEnd n rows answer .standing) (stateAtEnd n rows answer .t) model (sym (holds .by-standing) ∙ e)
+
+  pub unsatisfiable-refuted : answer .verdict ≡ Unsatisfiable → stateAtEnd n rows answer .standing ≡ Refuted
+  unsatisfiable-refuted e = verdict-refuted (stateAtEnd n rows answer .standing) (stateAtEnd n rows answer .t) (sym (holds .by-standing) ∙ e)
 
   -- a decided answer tells whether some assignment makes every row true
   found : (answer .verdict ≡ Unknown → ⊥) → (a : ℕ → Bool) → allTrue a (atEnd rows answer) ≡ true
@@ -81,6 +97,17 @@ module _ (n : ℕ) (rows : ℕ → List Row) (budget : ℕ) (answer : Answer) (h
   one-step none-occurs some =
       let one : 2 ^ suc (occurring n (atEnd rows answer)) - 1 ≡ 1 = ap (λ (k : ℕ). 2 ^ suc k - 1) none-occurs in
       (omega (arith, one, holds .bound-count), holds .bound (omega (arith, one)))
+
+-- demand 2 leaves one answer: count, verdict and model
+pub one-answer : (n : ℕ) (rows : ℕ → List Row) (budget : ℕ) (answer answer′ : Answer) → Demand2 n rows budget answer → Demand2 n rows budget answer′
+    → answer ≡ answer′
+one-answer n rows budget answer answer′ holds holds′ =
+    let same : answer .count ≡ answer′ .count =
+    count-only n rows budget answer holds (answer′ .count) (holds′ .count-most) (holds′ .count-least) (holds′ .count-closes) in
+    ap₂ (λ (k : ℕ) (v : Verdict). record { count = k; verdict = v }) same
+    (holds .by-standing
+    ∙ ap (λ (k : ℕ). let s = after n rows k fresh in verdictOf (s .standing) (s .t)) same
+    ∙ sym (holds′ .by-standing))
 
 -- ---- the answer for accepted tables, row by row
 

@@ -37,12 +37,14 @@ use Rattle.demand2.proofs.Bound.{after-closes, occurring-le}
 
 -- ---- the standing that a verdict comes from
 
-verdict-satisfied : (st : Standing) (t model : ℕ) → verdictOf st t ≡ Satisfiable model → (st ≡ Satisfied) × (t ≡ model)
+-- a verdict of satisfiable comes from a satisfied standing, and its model is T
+pub verdict-satisfied : (st : Standing) (t model : ℕ) → verdictOf st t ≡ Satisfiable model → (st ≡ Satisfied) × (t ≡ model)
 verdict-satisfied Open t model e = let z : _≡_ {A = ℕ} 0 1 = cc in absurd (omega arith)
 verdict-satisfied Satisfied t model e = (refl, cc)
 verdict-satisfied Refuted t model e = let z : _≡_ {A = ℕ} 0 1 = cc in absurd (omega arith)
 
-verdict-refuted : (st : Standing) (t : ℕ) → verdictOf st t ≡ Unsatisfiable → st ≡ Refuted
+-- one of unsatisfiable comes from a refuted standing
+pub verdict-refuted : (st : Standing) (t : ℕ) → verdictOf st t ≡ Unsatisfiable → st ≡ Refuted
 verdict-refuted Open t e = let z : _≡_ {A = ℕ} 0 1 = cc in absurd (omega arith)
 verdict-refuted Satisfied t e = let z : _≡_ {A = ℕ} 0 1 = cc in absurd (omega arith)
 verdict-refuted Refuted t e = refl
@@ -135,6 +137,7 @@ module _ (n : ℕ) (rows : ℕ → List Row) (few : n ≤ 32) (low : (i : ℕ) �
     count-most = ran .most;
     count-least = ran .open-before;
     count-closes = λ e. ran .open-whole (ap (λ (s : State). s .standing) (ran .final-after) ∙ e);
+    by-standing = ap (λ (s : State). verdictOf (s .standing) (s .t)) (ran .final-after);
     bound-count = steps-bound;
     bound = unknown-bound;
     bound-n = λ h e. let p : 2 ^ suc (occurring n last) ≤ 2 ^ suc n = pow-mono (omega (arith, occurring-le n last)) in unknown-bound (omega arith) e;

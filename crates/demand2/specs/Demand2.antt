@@ -9,13 +9,18 @@ use Rattle.words.specs.Sets.{bit}
 use Rattle.state.specs.declared.Standing.the-variants.{Open}
 use Rattle.solver.specs.declared.Answer.{Answer}
 use Rattle.verdicts.specs.declared.Verdict.the-variants.{Satisfiable, Unsatisfiable, Unknown}
-use Rattle.state.specs.State.{fresh}
+use Rattle.verdicts.specs.Verdicts.{verdictOf}
+use Rattle.state.specs.State.{State, fresh}
 use Rattle.solver.specs.Step.{after}
 use Rattle.solver.specs.Truth.{allTrue, occurring}
 
 -- the rows that the last step read: of a closed run, those at the close
 abbrev pub atEnd : (ℕ → List Row) → Answer → List Row
 atEnd rows answer = rows (answer .count - 1)
+
+-- the state after the count's steps
+abbrev pub stateAtEnd : ℕ → (ℕ → List Row) → Answer → State
+stateAtEnd n rows answer = after n rows (answer .count) fresh
 
 -- n variables, the rows as they stand at each step, their words below 2 ^ n, a budget, and the answer
 pub record Demand2 (n : ℕ) (rows : ℕ → List Row) (budget : ℕ) (answer : Answer) : Type 0 where
@@ -28,7 +33,9 @@ pub record Demand2 (n : ℕ) (rows : ℕ → List Row) (budget : ℕ) (answer : 
   -- the count is the least number of steps, at most the budget, that closes the run, else the budget
   pub count-most : answer .count ≤ budget
   pub count-least : (k : ℕ) → k < answer .count → after n rows k fresh .standing ≡ Open
-  pub count-closes : (after n rows (answer .count) fresh .standing ≡ Open → answer .count ≡ budget)
+  pub count-closes : (stateAtEnd n rows answer .standing ≡ Open → answer .count ≡ budget)
+  -- the verdict is satisfiable, with T as the model, unsatisfiable or unknown as the standing then is satisfied, refuted or open
+  pub by-standing : answer .verdict ≡ verdictOf (stateAtEnd n rows answer .standing) (stateAtEnd n rows answer .t)
   -- the count is at most 2 ^ (k + 1) - 1, k being the number of variables in rows at the end that are no padding, and so many steps
   -- suffice; and k is at most n
   pub bound-count : answer .count ≤ 2 ^ suc (occurring n (atEnd rows answer)) - 1

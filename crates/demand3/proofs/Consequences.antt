@@ -25,6 +25,8 @@ use Rattle.state.specs.State.{State, fresh, runOf, ifOpen}
 use Rattle.state.specs.WellFormed.{wellFormedState}
 use Rattle.solver.specs.declared.Answer.{Answer}
 use Rattle.solver.specs.Step.{step, after}
+use Rattle.solver.specs.Entries.{answerOf}
+use Rattle.solver.proofs.RunLaws.{run-of}
 use Rattle.answers.specs.Printed.{answerText}
 use Rattle.gates.specs.Memory.{bytesOf}
 use Rattle.two_pass.specs.Evaluation.{filledWires}
@@ -35,6 +37,7 @@ use Rattle.netlist.specs.Outputs.{closed, outputBits, outputsIn}
 use Rattle.bristol.specs.declared.Written.the-variants.{Past}
 use Rattle.bristol.specs.Writing.{lineAt, writtenLine, requested}
 use Rattle.repeats.specs.Repeats.{Attempt, Lent, Repeat, circuitWords, marks, lastRun, repeatsEnded, longEnough, longOnes}
+use Rattle.demand3.proofs.Histories.{repeated, repeated-length, repeated-at}
 use Rattle.demand3.specs.Demand3.{rowsByStep, historyOf, answerFor, answerIn, circuitTextOf, publicIn, Seen, seen, AllAccepts, SamePublic, Demand3}
 
 -- ---- steps, runs and attempts
@@ -133,9 +136,26 @@ module _ (d : Dimensions) (x : Demand3 d) where
         let none : Repeat = record { run = runOf (d .n) fresh; mark = false } in
         List·getD-map (λ (r : Repeat). r .mark) whole i none ∙ ap (λ (r : Repeat). r .mark) (x .history tables acc budget attempts .each i none b)
 
+    -- every long enough attempt is a repeat until the run closes or the budget is spent, and there is none behind
+    pub repeats-all : longOnes d attempts ≤ answerFor d tables budget .count → length whole ≡ longOnes d attempts
+    repeats-all h = omega (arith, x .history tables acc budget attempts .number)
+
+    pub repeats-no-more : answerFor d tables budget .count ≤ longOnes d attempts → length whole ≡ answerFor d tables budget .count
+    repeats-no-more h = omega (arith, x .history tables acc budget attempts .number)
+
     -- no more than the budget
     pub repeats-most : length whole ≤ budget
-    repeats-most = x .history tables acc budget attempts .most
+    unfolding answerOf
+    repeats-most = omega (arith, x .history tables acc budget attempts .number, run-of (d .n) (rowsByStep d tables) budget fresh .most)
+
+    -- the list itself: the first so many states of the plain run, as repeats return them, and no other
+    pub whole-is : whole ≡ repeated d tables fresh (min (longOnes d attempts) (answerFor d tables budget .count))
+    whole-is =
+        let f = x .history tables acc budget attempts in
+        let k = min (longOnes d attempts) (answerFor d tables budget .count) in
+        let none : Repeat = record { run = runOf (d .n) fresh; mark = false } in
+        ext-getD none whole (repeated d tables fresh k) (f .number ∙ sym (repeated-length d tables fresh k))
+        (λ i b. f .each i none b ∙ sym (repeated-at d tables fresh k i none (omega (arith, f .number))))
 
     -- ---- end
 

@@ -120,10 +120,11 @@ module _ (d : Dimensions) (tables : ℕ → Tables) (acc : AllAccepts d tables) 
     size : length whole ≡ k
     size = ap length is ∙ repeated-length d tables fresh k
 
-    pub follows : Follows d tables budget whole
+    pub follows : Follows d tables budget attempts whole
+    unfolding answerOf
     follows = record {
+      number = size;
       each = λ i none b. ap (λ (h : List Repeat). getD h i none) is ∙ repeated-at d tables fresh k i none (omega (arith, size));
-      most = omega (arith, size, law .most);
     }
 
     -- repeats that are fewer than the steps have not ended

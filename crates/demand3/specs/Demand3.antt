@@ -35,16 +35,17 @@ rowsByStep d tables = λ i. rowsOf d (tables i)
 abbrev pub historyOf : Dimensions → (ℕ → Tables) → ℕ → List Attempt → List Repeat
 historyOf d tables budget attempts = repeats d tables budget (runOf (d .n) fresh) attempts
 
--- repeat i, of at most the budget, returned the state after i + 1 giant steps
-pub record Follows (d : Dimensions) (tables : ℕ → Tables) (budget : ℕ) (h : List Repeat) : Type 0 where
-  pub each : (i : ℕ) (none : Repeat) → i < length h → getD h i none ≡ returned (d .n) (after (d .n) (rowsByStep d tables) (suc i) fresh)
-  pub most : length h ≤ budget
-
--- ---- end
-
 -- the budgeted run's answer
 abbrev pub answerFor : Dimensions → (ℕ → Tables) → ℕ → Answer
 answerFor d tables budget = answerOf (d .n) (rowsByStep d tables) budget
+
+-- exactly these repeats: as many as there are long enough attempts, at most as many as the budgeted run counts, and repeat i returned the
+-- state after i + 1 giant steps
+pub record Follows (d : Dimensions) (tables : ℕ → Tables) (budget : ℕ) (attempts : List Attempt) (h : List Repeat) : Type 0 where
+  pub number : length h ≡ min (longOnes d attempts) (answerFor d tables budget .count)
+  pub each : (i : ℕ) (none : Repeat) → i < length h → getD h i none ≡ returned (d .n) (after (d .n) (rowsByStep d tables) (suc i) fresh)
+
+-- ---- end
 
 -- the answer that repeats give: how many marks there are, and the verdict and model of the last one's run
 abbrev pub answerIn : ℕ → List Repeat → Answer
@@ -86,7 +87,7 @@ pub record Demand3 (d : Dimensions) : Type 0 where
   pub every-state : CarriesOut d (circuitWords d)
   -- after every repeat of any list of attempts
   pub history : (tables : ℕ → Tables) → AllAccepts d tables → (budget : ℕ) (attempts : List Attempt)
-      → Follows d tables budget (historyOf d tables budget attempts)
+      → Follows d tables budget attempts (historyOf d tables budget attempts)
   -- repeats that have ended give the run's answer; and they end where as many attempts as it counts are long enough
   pub end : (tables : ℕ → Tables) → AllAccepts d tables → (budget : ℕ) (attempts : List Attempt)
       → (repeatsEnded budget (historyOf d tables budget attempts) ≡ true

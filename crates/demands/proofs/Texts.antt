@@ -48,7 +48,7 @@ module _ (left right public : List ℕ) (taken : textTables left right public .o
   reply-demand2 steps = demand2 sizes (tablesIn read) steps (read-accepted 0)
 
   -- after every repeat, the plain run over the rows that were read
-  pub reply-history : (budget : ℕ) (attempts : List Attempt) → Follows sizes tables budget (historyOf sizes tables budget attempts)
+  pub reply-history : (budget : ℕ) (attempts : List Attempt) → Follows sizes tables budget attempts (historyOf sizes tables budget attempts)
   reply-history = circuit-demand3 .history tables read-accepted
 
   -- at the end the composed answer is the pair program's

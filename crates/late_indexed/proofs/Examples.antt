@@ -7,6 +7,7 @@ use lib.Dec.{eqb}
 use lib.ListN.{set, replicate}
 use Rattle.refusals.specs.Checks.{outcome, given}
 use Rattle.refusals.specs.declared.Outcome.{Outcome}
+use Rattle.refusals.specs.declared.Outcome.the-variants.{Taken}
 use Rattle.refusals.specs.Numbers.{codeOf}
 use Rattle.words.specs.Sets.{bit, any, all, wordOf}
 use Rattle.words.specs.Sameness.{same}
@@ -22,9 +23,11 @@ use Rattle.state.specs.WellFormed.{disjoint, wellFormed}
 use Rattle.occurrences.specs.Index.{at, indexOf}
 use Rattle.tally.specs.Tallies.{countRows, unsatisfiedRows}
 use Rattle.indexed.specs.Held.{keptChecks}
+use Rattle.indexed.specs.Entries.{steppedIndexed}
 use Rattle.late.specs.declared.Condition.{Condition}
 use Rattle.late.specs.Replacement.{conditionChecks, replacedIn}
-use Rattle.late_indexed.specs.Replacement.{indexThen, numberThen, replacedIndexed}
+use Rattle.late_indexed.specs.Replacement.{replaceChecks, tablesThen, indexThen, numberThen, replacedIndexed}
+use Rattle.late_indexed.proofs.Again.{replaced-again, replaced-judged}
 
 -- rows 1 and 2: (1 2), (1 -1) | rows 3 and 4: (2 -2), (-1) | row 5, public: (1 -1)
 abbrev d : Dimensions
@@ -97,6 +100,28 @@ raised = answer-by (run 0) 2 (late 1 3 1 0)
 moved : after (run 0) 2 (late 1 3 1 0) ≡ fourSets 23 1 26 0
 unfolding met
 moved = after-by (run 0) 2 (late 1 3 1 0) ∙ later
+
+-- the step after it is taken, over tables, index and number as they were handed on, and so is a second replacement of another padding row
+taken : outcome (replaceChecks d tables index (run 0) 2 (late 1 3 1 0)) ≡ Taken
+unfolding met
+taken = ap (λ (b : Bool). met b (run 0) 2 (late 1 3 1 0)) exact
+
+abbrev handed : Tables × List ℕ × ℕ
+handed = (
+  tablesThen d tables index (run 0) 2 (late 1 3 1 0),
+  indexThen d tables index (run 0) 2 (late 1 3 1 0),
+  numberThen d tables index (run 0) 2 (late 1 3 1 0),
+)
+
+step-after : steppedIndexed d (handed .0) (handed .1) (run 0) (handed .2) .outcome ≡ Taken
+step-after = replaced-again d tables index (run 0) 2 (late 1 3 1 0) taken
+
+-- row 2 becomes (-2)
+second-after : outcome (replaceChecks d (handed .0) (handed .1) (run 0) (handed .2) (late 0 2 0 2)) ≡ Taken
+unfolding tablesThen padding bit any replacedIn runOf
+second-after =
+    replaced-judged d tables index (run 0) 2 (late 1 3 1 0) taken (late 0 2 0 2)
+    ∙ ap (λ (o : Outcome). outcome (conditionChecks d (given o (replacedIn d tables (late 1 3 1 0)) (λ r. tables)) (run 0) (late 0 2 0 2))) taken
 
 -- where 1 is true the new row is satisfied
 as-before : answer (run 1) 1 (late 1 3 1 0) ≡ 0 ∷ 1 ∷ []

@@ -35,7 +35,7 @@ module _ (d : Dimensions) (tables : Tables) (acc : Accepts d tables) (conditions
     repeated = historyOf d (tablesAt d tables conditions) budget attempts
 
     -- circuit and plain run side by side: each repeat returned the state after as many steps, over the same replacements
-    pub history-late : Follows d (tablesAt d tables conditions) budget repeated
+    pub history-late : Follows d (tablesAt d tables conditions) budget attempts repeated
     history-late = circuit .history (tablesAt d tables conditions) (tables-accepted d conditions tables acc) budget attempts
 
     -- repeats that have ended give the run's answer, and they end where as many attempts as it counts are long enough

@@ -4,12 +4,14 @@
 use mathlib.Core.Path.{_≡_, refl, sym, ap, _∙_}
 use mathlib.Core.Bool.{Bool, true, false}
 use mathlib.Core.List.{List, [], _∷_}
-use Prim.Native.Nat.{ℕ, suc, _≤_, _<_}
+use Prim.Native.Nat.{ℕ, suc, _*_, _≤_, _<_}
 use native.Mathlib.Omega.{arith}
+use lib.Dec.{leb}
 use lib.ListN.{length, getD}
 use Rattle.words.specs.Sets.{bit, put, any, all, count, lowest}
 use Rattle.dimensions.specs.declared.Dimensions.{Dimensions}
-use Rattle.dimensions.specs.Sizes.{dimensions}
+use Rattle.words.proofs.Truth.{and-r}
+use Rattle.dimensions.specs.Sizes.{dimensions, ceiling}
 use Rattle.tables.specs.Tables.{Tables, allTables}
 use Rattle.tables.specs.Rows.{rowsOf, padding, satisfied, freeLiterals}
 use Rattle.tables.specs.Acceptance.{allBelow}
@@ -23,13 +25,15 @@ use Rattle.solver.specs.Step.{after}
 use Rattle.solver.specs.Truth.{allTrue}
 use Rattle.solver.specs.Entries.{answerOf}
 use Rattle.late.specs.declared.Condition.{Condition}
-use Rattle.repeats.specs.Repeats.{Accepts, Attempt, Repeat, returned, longOnes}
+use Rattle.repeats.specs.Repeats.{Accepts, Attempt, Repeat, returned, longEnough, longOnes, repeatsEnded}
+use Rattle.repeats.specs.Repeating.{whole}
 use Rattle.demand3.specs.Demand3.{rowsByStep, historyOf, answerIn, answerFor, seen}
-use Rattle.late_runs.specs.Schedule.{tablesAt}
-use Rattle.late_runs.specs.Host.{dated, Step, Replace, play, started, stepsOf, Turn, repeatsBy, conditionsIn}
+use Rattle.late_runs.specs.Schedule.{Dated, tablesAt}
+use Rattle.late_runs.specs.Host.{dated, Step, Replace, play, started, stepsOf, Turn, Try, Call, Renew, repeatsBy, countBy, roomFor, attemptsIn}
+use Rattle.late_runs.specs.Host.{conditionsIn}
 use Rattle.late_runs.proofs.Demands.{end-late, secrecy-late}
 use Rattle.late_runs.proofs.Host.{host-refuted, host-closes}
-use Rattle.late_runs.proofs.CircuitHost.{host-history}
+use Rattle.late_runs.proofs.CircuitHost.{host-history, host-end, host-ends, host-count, hosts-alike, plainAnswer, hostSees}
 
 abbrev small : Dimensions
 small = dimensions 1 1 1 0
@@ -101,11 +105,12 @@ host-after = refl
 
 -- ---- the circuit
 
-accepted : Accepts small tables
+-- none of 1 to 4 turns them back
+pub accepted : Accepts small tables
 unfolding allBelow
 accepted = refl
 
-accepted′ : Accepts small replaced
+pub accepted′ : Accepts small replaced
 unfolding allBelow
 accepted′ = refl
 
@@ -168,3 +173,54 @@ pub host-each : (turns : List Turn) (i : ℕ) (none : Repeat) → i < length (re
     → getD (repeatsBy small tables 9 (runOf 1 fresh) turns) i none
     ≡ returned 1 (after 1 (rowsByStep small (tablesAt small tables (conditionsIn small 0 turns))) (suc i) fresh)
 host-each turns i none b = host-history small tables accepted 9 turns .each i none b
+
+-- ---- calls of `repeat`
+
+-- a call for one repeat, one that is refused since it lends no gate words, the replacement, a call for as many as are left
+module _ (gates bytes wires : List ℕ) (room : roomFor small gates bytes wires ≡ true) where
+  abbrev pub calls : List Turn
+  calls = Call 1 gates bytes wires ∷ Call 5 [] bytes wires ∷ Renew (ill 1 2) ∷ Call 8 gates bytes wires ∷ []
+
+  -- the replacement comes after the one repeat
+  called-at : conditionsIn small 0 calls ≡ dated 1 (ill 1 2) ∷ []
+  unfolding conditionsIn
+  called-at = rw room
+
+  called-plainly : plainAnswer small tables accepted 9 calls ≡ answer 2 Unsatisfiable
+  called-plainly = ap (λ (at : List Dated). answerFor small (tablesAt small tables at) 9) called-at ∙ after-one
+
+  called-ended : repeatsEnded 9 (repeatsBy small tables 9 (runOf 1 fresh) calls) ≡ true
+  unfolding attemptsIn longOnes
+  called-ended =
+      host-ends small tables accepted 9 calls
+      (omega (arith, ap (λ (a : Answer). a .count) called-plainly, called-long))
+    where
+      called-long : longOnes small (attemptsIn small calls) ≡ 9
+      called-long = rw (room, and-r (leb (3 * ceiling small) (length gates)) _ room)
+
+  -- the repeats end unsatisfiable
+  pub called-answer : answerIn 1 (repeatsBy small tables 9 (runOf 1 fresh) calls) ≡ answer 2 Unsatisfiable
+  called-answer = host-end small tables accepted 9 calls called-ended ∙ called-plainly
+
+  -- and the numbers that the calls give add up: one, none and one
+  pub called-count : countBy small tables 9 (runOf 1 fresh) calls ≡ 2
+  called-count = host-count small tables accepted 9 calls called-ended ∙ ap (λ (a : Answer). a .count) called-plainly
+
+  -- one call over (1) | (−1), there from the first, is seen alike
+  abbrev pub one-call : List Turn
+  one-call = Call 9 gates bytes wires ∷ []
+
+  at-once-plainly : plainAnswer small replaced accepted′ 9 one-call ≡ answer 2 Unsatisfiable
+  unfolding conditionsIn
+  at-once-plainly = from-the-first
+
+  at-once-ended : repeatsEnded 9 (repeatsBy small replaced 9 (runOf 1 fresh) one-call) ≡ true
+  unfolding attemptsIn longOnes
+  at-once-ended = host-ends small replaced accepted′ 9 one-call (omega (arith, ap (λ (a : Answer). a .count) at-once-plainly, at-once-long))
+    where
+      at-once-long : longOnes small (attemptsIn small one-call) ≡ 9
+      at-once-long = rw (room, and-r (leb (3 * ceiling small) (length gates)) _ room)
+
+  pub called-unseen : hostSees small tables accepted 9 calls ≡ hostSees small replaced accepted′ 9 one-call
+  called-unseen =
+      hosts-alike small tables replaced accepted accepted′ refl 9 calls one-call (called-plainly ∙ sym at-once-plainly) called-ended at-once-ended

@@ -5,6 +5,7 @@ pub mod AcceptedRule
 pub mod SettingLaws
 pub mod StepLaws
 pub mod RunLaws
+pub mod RowOrder
 pub mod HeldRules
 pub mod HeldStep
 pub mod BudgetedRun
