@@ -27,7 +27,7 @@ pub fn check_variables(n: u8) -> Outcome
     ensures { λ r. ⌜ r ≡ outcome (variableChecks n) ⌝ }
     ensures { λ r. ⌜ codeOf r ∷ [] ≡ said (outcome (variableChecks n)) [] ⌝ }
 {
-    if (n < 1) | (Dimensions::VARIABLES < n as u64) {
+    if Dimensions::variables_outside(n as u64) {
         return Outcome::Refused(Refusal::Variables);
     }
     Outcome::Taken

@@ -1,5 +1,5 @@
 -- The checks of run, index and number: the first that fails decides, and what passes them is exact.
-use mathlib.Core.Path.{_≡_, sym, ap, ap₂, _∙_}
+use mathlib.Core.Path.{_≡_, sym, ap, ap₂, subst, _∙_}
 use mathlib.Core.Bool.{Bool, true, false, not}
 use mathlib.Core.List.{List}
 use Prim.Native.Nat.{ℕ, _^_, _<_}
@@ -13,6 +13,7 @@ use Rattle.refusals.specs.declared.Refusal.the-variants as refusal
 use Rattle.refusals.proofs.Outcomes.{check-passed, checks-taken}
 use Rattle.words.specs.declared.Row.{Row}
 use Rattle.words.specs.Sameness.{same}
+use Rattle.words.proofs.Sameness.{same-true}
 use Rattle.tables.specs.Rows.{rowsFrom}
 use Rattle.state.specs.declared.Run.{Run}
 use Rattle.state.specs.State.{stateOf}
@@ -88,10 +89,10 @@ module _ (n : ℕ) (words : List ℕ) (m : ℕ) (sets : List ℕ) (x : Indexed n
     passed : Kept n run (same index sets) (eqb number (tally .number))
     passed = kept n run (same index sets) (eqb number (tally .number)) (sym q ∙ taken)
 
-    -- what the step asks
-    pub step-ready : Indexed (run .n) words m sets × Exact rows (record { run = run; tally = tally })
+    -- what the step asks, of the index that was judged equal
+    pub step-ready : Indexed (run .n) words m index × Exact rows (record { run = run; tally = tally })
     step-ready = (
-      of-run n words m sets x run (passed .same-n),
+      subst (Indexed (run .n) words m) (sym (same-true index sets (passed .sets))) (of-run n words m sets x run (passed .same-n)),
       record { formed = passed .formed; exact = tally-exact },
     )
 

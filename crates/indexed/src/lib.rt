@@ -314,7 +314,7 @@ pub fn check_indexed(
 
 // ---- the step
 
-// The step over rows whose index is `sets`, with the index and the number that were handed over.
+// The step over rows whose index is `sets`, with the index and the number that were handed over: by that index, once it is judged equal.
 fn step_rows(
     n: u8,
     words: &[u32; 768],
@@ -331,7 +331,7 @@ fn step_rows(
     let outcome = check_kept(n, sets, tally.number, index, run, number);
     match outcome {
         Outcome::Taken => {
-            let next = beside::advance(words, rows, sets, Held { run, tally });
+            let next = beside::advance(words, rows, index, Held { run, tally });
             let run = next.run;
             let tally = next.tally;
             SteppedIndexed {

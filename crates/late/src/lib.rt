@@ -3,11 +3,10 @@ use dimensions::Dimensions;
 use refusals::Outcome;
 use refusals::Refusal;
 use state::Run;
-use state::Standing;
 use words::Row;
 ghost use mathlib.Core.Path.{_≡_};
 ghost use mathlib.Core.List.{[], _∷_};
-ghost use mathlib.Core.Bool.{true, false, _&&_, cond};
+ghost use mathlib.Core.Bool.{_&&_, cond};
 ghost use Prim.Native.Nat.{_+_, _-_, _*_, _≤_, _<_};
 ghost use lib.Dec.{leb};
 ghost use lib.ListN.{length};
@@ -16,7 +15,6 @@ ghost use Rattle.refusals.specs.Numbers.{codeOf, said};
 ghost use Rattle.tables.specs.Tables.{allTables};
 ghost use Rattle.tables.specs.Rows.{rowAt, padding};
 ghost use Rattle.tables.specs.Acceptance.{lowRow};
-ghost use Rattle.state.specs.State.{ifOpen};
 ghost use Rattle.late.specs.Replacement as Replacement;
 ghost use Rattle.late.specs.Replacement.{lateChecks, putRow, tablesAfter};
 
@@ -67,18 +65,6 @@ fn replaceable(d: Dimensions, left: &[u32], right: &[u32], station: u64, number:
     is_padding(right, (number - 1 - left_rows) as usize)
 }
 
-// Whether the run is closed.
-fn closed(run: Run) -> bool
-    ensures { λ r. ⌜ r ≡ ifOpen (run .standing) false true ⌝ }
-{
-    let standing = run.standing;
-    match standing {
-        Standing::Open => false,
-        Standing::Satisfied => true,
-        Standing::Refuted => true,
-    }
-}
-
 // Whether neither word of the row has a bit at or above n.
 fn low(row: Row, n: u32) -> bool
     ensures { λ r. ⌜ r ≡ lowRow n row ⌝ }
@@ -108,7 +94,7 @@ fn check(
     if !replaceable(d, left, right, condition.station, condition.number) {
         return Outcome::Refused(Refusal::NotPadding);
     }
-    if closed(run) {
+    if verdicts::closed(run) {
         return Outcome::Refused(Refusal::Closed);
     }
     if !low(condition.row, d.n as u32) {

@@ -40,24 +40,24 @@ module _ (n : ℕ) (bytes : List ℕ) where
   pub levels-room : (depth : ℕ) → depth ≤ n → stateWires n ≤ length bytes → 3 * n + 1 + (n + (n + n)) * depth ≤ length bytes
   levels-room depth h r = omega (arith, mul-le-mul-left (n + (n + n)) h, width-is n)
 
-  -- the closing wires, the last two
-  closing : (k : ℕ) → 3 * n * n + 3 * n + 1 + k ≡ n + (n + (suc n + (levelAt n n + k)))
-  closing k = omega (arith, width-is n)
+  -- the closing wires, the last two of the state's
+  closing : (last : ℕ) → last + 2 ≡ stateWires n → (k : ℕ) → last + k ≡ n + (n + (suc n + (levelAt n n + k)))
+  closing last e k = omega (arith, e, width-is n)
 
-  pub run-read : (st : Standing) (t f depth : ℕ) (levels : List Level)
-      → st ≡ standingOf (wireIn bytes (3 * n * n + 3 * n + 1)) (wireIn bytes (3 * n * n + 3 * n + 1 + 1))
+  pub run-read : (last : ℕ) → last + 2 ≡ stateWires n → (st : Standing) (t f depth : ℕ) (levels : List Level)
+      → st ≡ standingOf (wireIn bytes last) (wireIn bytes (last + 1))
       → t ≡ wordOf (λ i. wireIn bytes (0 + i)) n → f ≡ wordOf (λ i. wireIn bytes (n + i)) n
       → depth ≡ lowest (λ i. wireIn bytes (n + n + i)) n → levels ≡ levelsFrom n depth bytes (3 * n + 1)
       → _≡_ {A = Run} (record { n = n; standing = st; t = t; f = f; depth = depth; levels = levels }) (runIn n bytes)
   unfolding runIn runOf
-  run-read st t f depth levels es et ef ed el =
+  run-read last at-last st t f depth levels es et ef ed el =
       let b = stateAt n (λ k. wireIn bytes k) in
       let d : ℕ = lowest (b .depth) n in
       let e : depth ≡ d = ed ∙ lowest-cong _ _ n (λ j h. ap (wireIn bytes) (add-assoc n n j)) in
-      let first : 3 * n * n + 3 * n + 1 ≡ n + (n + (suc n + (levelAt n n + 0))) = omega (arith, closing 0) in
+      let first : last ≡ n + (n + (suc n + (levelAt n n + 0))) = omega (arith, closing last at-last 0) in
       λ i. record {
         n = n;
-        standing = (es ∙ ap₂ (λ (x y : ℕ). standingOf (wireIn bytes x) (wireIn bytes y)) first (closing 1)) i;
+        standing = (es ∙ ap₂ (λ (x y : ℕ). standingOf (wireIn bytes x) (wireIn bytes y)) first (closing last at-last 1)) i;
         t = (et ∙ wordOf-cong _ _ n (λ j h. ap (wireIn bytes) (zero-add j))) i;
         f = ef i;
         depth = (e ∙ sym (length-last d (levelOf n b))) i;

@@ -21,9 +21,6 @@ ghost use Rattle.gates.specs.Memory.{bytesOf};
 ghost use Rattle.wires.specs.Layout.{stateBits};
 ghost use Rattle.readback.specs.Reading.{readChecks, readBack};
 
-// The wires of a state of 32 variables.
-const STATE_WIRES: usize = 3171;
-
 // A run read back; with a refusal, the fresh run.
 pub struct Read {
     pub outcome: Outcome,
@@ -31,18 +28,17 @@ pub struct Read {
 }
 
 // Whether the run is a well-formed state that gives these bytes when it is packed.
-fn gives(d: Dimensions, run: Run, bytes: &[u8]) -> bool
-    requires { ⌜ d .n ≤ 32 ⌝ }
-    requires { ⌜ run .n ≡ d .n ⌝ }
-    requires { ⌜ stateWires (d .n) ≤ length (now bytes) ⌝ }
-    ensures { λ r.
-        ⌜ r ≡ wellFormed run && same (bytesOf (stateBits (d .n) (stateOf run))) (take (stateWires (d .n)) (now (bytes .entry))) ⌝ }
+fn gives(n: u8, run: Run, bytes: &[u8]) -> bool
+    requires { ⌜ n ≤ 32 ⌝ }
+    requires { ⌜ run .n ≡ n ⌝ }
+    requires { ⌜ stateWires n ≤ length (now bytes) ⌝ }
+    ensures { λ r. ⌜ r ≡ wellFormed run && same (bytesOf (stateBits n (stateOf run))) (take (stateWires n) (now (bytes .entry))) ⌝ }
 {
-    let mut again = [0u8; STATE_WIRES];
+    let mut again = [0u8; Dimensions::STATE_WIRES];
     if !wires::pack_state(run, &mut again) {
         return false;
     }
-    let k = d.state_wires();
+    let k = Dimensions::state_wires_of(n);
     check::same(&again[..k], &bytes[..k])
 }
 
@@ -61,20 +57,14 @@ pub fn read_back(n: u8, bytes: &[u8]) -> Read
     ensures { λ r. ⌜ r ≡ readBack n (now (bytes .entry)) ⌝ }
     ensures { λ r. ⌜ codeOf (r .outcome) ∷ [] ≡ said (outcome (readChecks n (now (bytes .entry)))) [] ⌝ }
 {
-    if n < 1 || Dimensions::VARIABLES < n as u64 {
+    if Dimensions::variables_outside(n as u64) {
         return refused(n, Refusal::Variables);
     }
-    let d = Dimensions {
-        n,
-        left: 1,
-        right: 1,
-        public: 0,
-    };
-    if bytes.len() < d.state_wires() {
+    if bytes.len() < Dimensions::state_wires_of(n) {
         return refused(n, Refusal::Wires);
     }
     let run = unpacking::get_run(n, bytes);
-    if !gives(d, run, bytes) {
+    if !gives(n, run, bytes) {
         return refused(n, Refusal::State);
     }
     Read {

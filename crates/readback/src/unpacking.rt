@@ -1,4 +1,5 @@
 // Wires read from bytes, a byte a wire. A wire is set where its byte is 1.
+use dimensions::Dimensions;
 use state::Level;
 use state::Run;
 use state::Standing;
@@ -112,7 +113,7 @@ pub(crate) fn get_run(n: u8, bytes: &[u8]) -> Run
     let k = n as usize;
     let depth = get_one(k, bytes, k + k);
     let levels = get_levels(k, depth, bytes, 3 * k + 1);
-    let last = 3 * k * k + 3 * k + 1;
+    let last = Dimensions::state_wires_of(n) - 2;
     let t = get_set(k, bytes, 0);
     let f = get_set(k, bytes, k);
     let standing = standing(bytes[last] == 1, bytes[last + 1] == 1);

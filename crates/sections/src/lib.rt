@@ -107,8 +107,8 @@ fn layout(n: u32, m: u32, b: u32) -> Addresses
     ensures { λ r. ⌜ r ≡ addressesOf n m b ⌝ }
 {
     let state = 2 * (n * m);
-    let standing = state + 3 * n + 1 + 3 * (n * n);
-    let inputs = standing + 2;
+    let state_wires = Dimensions::state_wires_of(n as u8) as u32;
+    let inputs = state + state_wires;
     let r = layout_reading(n, m, b, inputs);
     let c = layout_acting(n, b, r.greatest);
     Addresses {
@@ -119,7 +119,7 @@ fn layout(n: u32, m: u32, b: u32) -> Addresses
         nodes: r.nodes,
         skip: 2 * r.pairs + 1 - m,
         state,
-        standing,
+        standing: inputs - 2,
         inputs,
         literals: r.literals,
         counts: r.counts,
@@ -137,7 +137,7 @@ fn layout(n: u32, m: u32, b: u32) -> Addresses
         assignments: c.assignments,
         depths: c.depths,
         outputs: c.outputs,
-        wires: c.outputs + 3 * n + 4 + 3 * (n * n),
+        wires: c.outputs + state_wires + 1,
     }
 }
 

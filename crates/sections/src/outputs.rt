@@ -2,6 +2,7 @@
 use crate::Addresses;
 use crate::Section;
 use crate::templates;
+use dimensions::Dimensions;
 ghost use mathlib.Core.Path.{_≡_};
 ghost use Prim.Native.Nat.{_*_, _≤_};
 ghost use Rattle.sections.specs.Addressing.{Small};
@@ -78,11 +79,11 @@ pub(crate) fn next_standing(a: Addresses) -> Section
     requires { ⌜ Small a × (3 * a .n * a .n ≤ 195075) ⌝ }
     ensures { λ r. ⌜ r ≡ Sections.nextStanding a ⌝ }
 {
-    let n = a.n;
+    let next_state = Dimensions::state_wires_of(a.n as u8) as u32;
     let e = a.standing;
     let r = a.rule;
     Section {
-        base: a.outputs + 3 * n + 1 + 3 * n * n,
+        base: a.outputs + next_state - 2,
         zeros: 0,
         template: templates::STANDING,
         size: 3,

@@ -14,6 +14,7 @@ use Rattle.words.specs.Booleans.{imp}
 use Rattle.words.specs.Sets.{bit, all}
 use Rattle.words.proofs.Bits.{bit-or}
 use Rattle.words.proofs.Operations.{bit-and, bit-not, bit-high, zero-word, or-zero, and-lt-left}
+use Rattle.dimensions.specs.Sizes.{outside}
 use Rattle.tables.specs.Rows.{free}
 use Rattle.state.specs.declared.Level.{Level}
 use Rattle.state.specs.declared.Run.{Run}
@@ -148,18 +149,14 @@ module _ (levels : List Level) (i : ℕ) (h : i < length levels) where
 -- ---- a run
 
 module _ (run : Run) where
-  pub too-few : run .n < 1 → false ≡ wellFormed run
+  pub no-variables : outside 32 (run .n) ≡ true → false ≡ wellFormed run
   unfolding wellFormed
-  too-few h = rw (lt-ltb (run .n) 1 h)
+  no-variables h = rw h
 
-  pub too-many : 1 ≤ run .n → 32 < run .n → false ≡ wellFormed run
-  unfolding wellFormed
-  too-many h k = rw (le-ltb (run .n) 1 h, lt-ltb 32 (run .n) k)
-
-  module _ (a : 1 ≤ run .n) (b : run .n ≤ 32) where
+  module _ (a : outside 32 (run .n) ≡ false) where
     pub not-sets : sets (run .n) (run .t) (run .f) ≡ false → false ≡ wellFormed run
     unfolding wellFormed wellFormedState
-    not-sets e = rw (le-ltb (run .n) 1 a, le-ltb 32 (run .n) b, e)
+    not-sets e = rw (a, e)
 
     module _ (s : sets (run .n) (run .t) (run .f) ≡ true) where
       few : leb (length (levelsOf (run .depth) (run .levels))) (run .n) ≡ leb (run .depth) (run .n)
@@ -167,14 +164,14 @@ module _ (run : Run) where
 
       pub too-deep : run .n < run .depth → false ≡ wellFormed run
       unfolding wellFormed wellFormedState
-      too-deep h = rw (le-ltb (run .n) 1 a, le-ltb 32 (run .n) b, s, few, lt-leb (run .depth) (run .n) h)
+      too-deep h = rw (a, s, few, lt-leb (run .depth) (run .n) h)
 
       module _ (d : run .depth ≤ run .n) where
         pub not-linked : chain (run .n) (run .t) (run .f) (levelsOf (run .depth) (run .levels)) ≡ false → false ≡ wellFormed run
         unfolding wellFormed wellFormedState
-        not-linked h = rw (le-ltb (run .n) 1 a, le-ltb 32 (run .n) b, s, few, le-leb (run .depth) (run .n) d, h)
+        not-linked h = rw (a, s, few, le-leb (run .depth) (run .n) d, h)
 
         pub rest-decides : chain (run .n) (run .t) (run .f) (levelsOf (run .depth) (run .levels))
             ≡ true → unused (drop (run .depth) (run .levels)) ≡ wellFormed run
         unfolding wellFormed wellFormedState
-        rest-decides h = rw (le-ltb (run .n) 1 a, le-ltb 32 (run .n) b, s, few, le-leb (run .depth) (run .n) d, h)
+        rest-decides h = rw (a, s, few, le-leb (run .depth) (run .n) d, h)

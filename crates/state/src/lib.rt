@@ -132,10 +132,7 @@ pub fn well_formed(run: Run) -> bool
     let n = run.n as u32;
     let depth = run.depth;
     let levels = run.levels;
-    if n < 1 {
-        return false;
-    }
-    if Dimensions::VARIABLES < n as u64 {
+    if Dimensions::variables_outside(n as u64) {
         return false;
     }
     if !sets(n, run.t, run.f) {

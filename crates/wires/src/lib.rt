@@ -77,13 +77,7 @@ pub fn pack_state(run: Run, bytes: &mut [u8]) -> bool
     ensures { λ _. ⌜ now (bytes .exit) ≡ packedState run (now (bytes .entry)) ⌝ }
 {
     let n = run.n;
-    let d = Dimensions {
-        n,
-        left: 1,
-        right: 1,
-        public: 0,
-    };
-    if bytes.len() < d.state_wires() {
+    if bytes.len() < Dimensions::state_wires_of(n) {
         return false;
     }
     if !state::well_formed(run) {

@@ -16,19 +16,19 @@ use borrow.Author.Needs.{needs}
 use Rattle.wires.proofs.pack_state.Statement.{statement}
 use Rattle.wires.proofs.pack_state.Tie as tie
 
-state-wires-requires : tie.Need-state-wires-requires
-state-wires-requires c κs = search needs
+state-wires-of-requires : tie.Need-state-wires-of-requires
+state-wires-of-requires c κs = search needs
 
 returns : tie.Need-returns
 returns c = let s = c .before .before .before in
-    state-no-room (s .args .run) (s .args .bytes .now) (subst (λ (k : ℕ). length (s .args .bytes .now) < k) (c .before .state-wires .ensures) (c .if1 .taken))
+    state-no-room (s .args .run) (s .args .bytes .now) (subst (λ (k : ℕ). length (s .args .bytes .now) < k) (c .before .state-wires-of .ensures) (c .if1 .taken))
 
 well-formed-requires : tie.Need-well-formed-requires
 well-formed-requires c κs = search needs
 
 returns-2 : tie.Need-returns-2
 returns-2 c = let s = c .before .before .before .before .before in
-    let h = subst (λ (k : ℕ). k ≤ length (s .args .bytes .now)) (c .before .before .before .state-wires .ensures) (c .before .before .if1 .left) in
+    let h = subst (λ (k : ℕ). k ≤ length (s .args .bytes .now)) (c .before .before .before .state-wires-of .ensures) (c .before .before .if1 .left) in
     let f : wellFormed (s .args .run) ≡ false = sym (c .before .well-formed .ensures) ∙ not-true _ (c .if2 .taken) in
     (sym f ∙ state-decided (s .args .run) (s .args .bytes .now) h, state-kept (s .args .run) (s .args .bytes .now) h f)
 
@@ -41,7 +41,7 @@ put-state-requires c κs =
     let at-state-wires = at-well-formed .before .before in
     let s = at-state-wires .before .before in
     let f : wellFormed (s .args .run) ≡ true = sym (at-well-formed .well-formed .ensures) ∙ not-false _ (c .before .if2 .left) in
-    (formed-run-e (s .args .run) f .most, omega (arith, at-state-wires .state-wires .ensures))
+    (formed-run-e (s .args .run) f .most, omega (arith, at-state-wires .state-wires-of .ensures))
 
 same-length : tie.Need-same-length
 same-length c = search needs
@@ -55,7 +55,7 @@ returns-3 c =
     let at-state-wires = at-if1 .before in
     let s = at-state-wires .before .before in
     let w = stateBits (s .args .run .n) (stateOf (s .args .run)) in
-    let h = subst (λ (k : ℕ). k ≤ length (s .args .bytes .now)) (at-state-wires .state-wires .ensures) (at-if1 .if1 .left) in
+    let h = subst (λ (k : ℕ). k ≤ length (s .args .bytes .now)) (at-state-wires .state-wires-of .ensures) (at-if1 .if1 .left) in
     let f : wellFormed (s .args .run) ≡ true = sym (at-well-formed .well-formed .ensures) ∙ not-false _ (at-if2 .if2 .left) in (
       sym f ∙ state-decided (s .args .run) (s .args .bytes .now) h,
       at-put-state .put-state .ensures ∙ stored-front (s .args .bytes .now) w (omega (arith, h, state-length (s .args .run .n) (stateOf (s .args .run))))
@@ -66,7 +66,7 @@ pub pack-state-spec : {M : Type 1} → statement M
 pack-state-spec =
     tie.close
     (tie.spec
-    state-wires-requires
+    state-wires-of-requires
     returns
     well-formed-requires
     returns-2

@@ -1,4 +1,5 @@
 -- `get_run` meets its contract: its callees read the wires where the definition has them.
+use Prim.Native.Nat.{_-_}
 use native.Mathlib.Omega.{arith}
 use Rattle.readback.proofs.RunRead.{levels-room, run-read}
 use borrow.Author.Needs.{needs}
@@ -31,20 +32,11 @@ get-levels-requires c κs =
       ),
     )
 
-mul-last : tie.Need-mul-last
-mul-last c = search needs
+state-wires-of-requires : tie.Need-state-wires-of-requires
+state-wires-of-requires c κs = search needs
 
-mul-last-2 : tie.Need-mul-last-2
-mul-last-2 c = search needs
-
-mul-last-3 : tie.Need-mul-last-3
-mul-last-3 c = search needs
-
-add-last : tie.Need-add-last
-add-last c = search needs
-
-add-last-2 : tie.Need-add-last-2
-add-last-2 c = search needs
+sub-last : tie.Need-sub-last
+sub-last c = search needs
 
 get-set-requires : tie.Need-get-set-requires
 get-set-requires c κs = search needs
@@ -67,10 +59,12 @@ standing-requires c κs = search needs
 returns : tie.Need-returns
 returns c =
     let at-sets = c .before .before .before in
-    let at-levels = at-sets .before .before in
+    let at-wires = at-sets .before .before in
+    let at-levels = at-wires .before in
     let at-one = at-levels .before in
     let s = start at-one in
-    run-read (s .args .n) (s .args .bytes .now) _ _ _ _ _ (c .standing .ensures) (at-sets .before .get-set .ensures) (at-sets .get-set2 .ensures)
+    run-read (s .args .n) (s .args .bytes .now) (at-wires .state-wires-of .result - 2) (omega (arith, at-wires .state-wires-of .ensures))
+    _ _ _ _ _ (c .standing .ensures) (at-sets .before .get-set .ensures) (at-sets .get-set2 .ensures)
     (at-one .get-one .ensures .0) (at-levels .get-levels .ensures)
 
 pub get-run-spec : {M : Type 1} → statement M
@@ -82,11 +76,8 @@ get-run-spec =
     mul-get-levels
     add-get-levels
     get-levels-requires
-    mul-last
-    mul-last-2
-    mul-last-3
-    add-last
-    add-last-2
+    state-wires-of-requires
+    sub-last
     get-set-requires
     get-set-requires-2
     shared-slice-read-standing
