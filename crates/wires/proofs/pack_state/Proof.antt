@@ -21,7 +21,8 @@ state-wires-of-requires c κs = search needs
 
 returns : tie.Need-returns
 returns c = let s = c .before .before .before in
-    state-no-room (s .args .run) (s .args .bytes .now) (subst (λ (k : ℕ). length (s .args .bytes .now) < k) (c .before .state-wires-of .ensures) (c .if1 .taken))
+    state-no-room (s .args .run) (s .args .bytes .now)
+    (subst (λ (k : ℕ). length (s .args .bytes .now) < k) (c .before .state-wires-of .ensures) (c .if1 .taken))
 
 well-formed-requires : tie.Need-well-formed-requires
 well-formed-requires c κs = search needs
