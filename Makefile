@@ -3,8 +3,9 @@
 # make install PREFIX=/DIR: programs, library, header, man pages and documents there (below DESTDIR); make uninstall takes them away.
 # make examples: builds the example hosts and runs them. make bench: compares with other solvers and with plain Rust.
 # make checktime: how long each crate's check takes, from nothing. make pictures: draws docs/pictures anew.
+# make statements: writes tests/statements.txt, in a commit that changes what is proved.
 # make fmt: puts every file in its layout. make fmt-check: says which are not.
-.PHONY: all test run lib install absolute uninstall examples bench checktime pictures fmt fmt-check
+.PHONY: all test run lib install absolute uninstall examples bench checktime pictures statements fmt fmt-check
 # `rt` keeps notes in target: one call at a time.
 .NOTPARALLEL:
 
@@ -130,6 +131,11 @@ checktime:
 pictures:
 	cargo build --quiet --release --bin pictures --offline --locked --manifest-path tests/Cargo.toml
 	tests/target/release/pictures .
+
+statements:
+	cargo build --quiet --release --bin check --offline --locked --manifest-path tests/Cargo.toml
+	tests/target/release/check statements crates >tests/statements.new
+	mv tests/statements.new tests/statements.txt
 
 fmt:
 	rt fmt

@@ -2,6 +2,7 @@
 //! words that say nothing, laws without a word, long cells of tables, and blocks of lines that stand in two places. Each number is held to
 //! its ceiling in tests/ceilings.txt.
 
+use crate::antt;
 use crate::contracts;
 use crate::report::Tally;
 use crate::source;
@@ -161,7 +162,7 @@ fn unexplained(files: &[File]) -> Vec<Place> {
     for (file, name) in laws {
         let lines: Vec<&str> = file.text.lines().collect();
         let defines =
-            |line: &&str| line.contains("pub ") && source::definitions(line).iter().any(|law| law.name == *name);
+            |line: &&str| line.contains("pub ") && antt::definitions(line).iter().any(|law| law.name == *name);
         let at = lines.iter().position(defines);
         if !at.map_or(false, |at| at > 0 && lines[at - 1].trim_start().starts_with("--")) {
             found.push(single(file, at.map_or(0, |at| at + 1), 1, format!("{name} has no sentence above")));

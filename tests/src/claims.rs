@@ -1,10 +1,13 @@
 //! What docs/PROOFS.md names is there: files, must-fail edits, definitions and laws, functions. A name that stands before a
-//! file, as in "`sized` (`dimensions/specs/Sizes`)" or "`pack-read` in `readback/proofs/RoundTrip`", is defined in that file;
+//! file, as in "`sized` (`dimensions/specs/Sizes`)", "(`held`, `solver/proofs/HeldRules`)" or "`pack-read` in `readback/proofs/RoundTrip`", is
+//! defined in that file;
 //! any other is defined somewhere in the crates. And the page leaves out nothing that must be believed: it names every file of
 //! definitions, with its lines where a column counts them, every name of the kit's that these files bring, and every type of the code's.
 //! Of what must be believed no name stands in two crates, and of the code's types none.
 
+use crate::antt;
 use crate::contracts;
+use crate::page::{blocks, chain, items, lists, rows, Item};
 use crate::report::Tally;
 use crate::source;
 use std::collections::{BTreeMap, BTreeSet};
@@ -14,14 +17,21 @@ use std::path::Path;
 /// Words that the page has in quotes and that name nothing of the project's.
 #[rustfmt::skip]
 const WORDS: &[&str] = &[
-    "rt ci", "requires", "ensures", "cc", "memcpy", "memset", "read", "write", "axioms=5", "axioms=2", "logic-built=trusted", "libraries-built=trusted", "target", "crates/NAME/src", "crates/NAME/specs",
+    "rt ci", "make statements", "requires", "ensures", "cc", "memcpy", "memset", "read", "write", "axioms=5", "axioms=2", "logic-built=trusted", "libraries-built=trusted", "target", "crates/NAME/src", "crates/NAME/specs",
     "crates/NAME/proofs", "crates/NAME/must-fail", "×", "→", "⊥", "now", ".entry", ".exit", "use",
 ];
 
+/// What a page names: files by their paths, all else as it stands; and the names that stand with their file or folder.
+#[derive(Default)]
+pub struct Named {
+    pub items: Vec<String>,
+    pub placed: Vec<(String, String)>,
+}
+
 /// What can be named: the names that each file defines, by its path in the crates' folder without its ending; all else that has a path.
 #[derive(Default)]
-struct Index {
-    defined: BTreeMap<String, BTreeSet<String>>,
+pub struct Index {
+    pub defined: BTreeMap<String, BTreeSet<String>>,
     paths: BTreeSet<String>,
     /// How many lines of a file of definitions are no comments, no imports and not empty; and what it defines, fields of records aside.
     lines: BTreeMap<String, usize>,
@@ -33,7 +43,7 @@ struct Index {
 
 impl Index {
     /// Reads all crates, and the folders beside them.
-    fn new(crates: &Path) -> std::io::Result<Index> {
+    pub fn new(crates: &Path) -> std::io::Result<Index> {
         let mut index = Index::default();
         let root = crates.join("..");
         for folder in ["crates", "docs", "tests", "examples", "include"] {
@@ -66,9 +76,9 @@ impl Index {
     }
 
     /// Adds a file's names.
-    fn define(&mut self, path: &str, ending: &str, text: &str) {
+    pub fn define(&mut self, path: &str, ending: &str, text: &str) {
         let names = if ending == "antt" {
-            source::definitions(text).into_iter().map(|definition| definition.name).collect()
+            antt::definitions(text).into_iter().map(|definition| definition.name).collect()
         } else {
             source::declared(text).into_iter().collect()
         };
@@ -85,7 +95,7 @@ impl Index {
         let marks = ["use ", "pub use ", "unfoldable pub use "];
         let counts = |line: &&str| !line.trim().is_empty() && !marks.iter().any(|mark| line.starts_with(mark));
         self.lines.insert(path.into(), text.lines().filter(counts).count());
-        let meant = source::definitions(&text).into_iter().filter(|definition| !definition.field);
+        let meant = antt::definitions(&text).into_iter().filter(|definition| !definition.field);
         self.meant.insert(path.into(), meant.map(|definition| definition.name).collect());
         for source::Import { module, name, .. } in source::imports(&text) {
             if !module.starts_with("Rattle·") {
@@ -132,23 +142,6 @@ impl Index {
     }
 }
 
-/// A quoted item, with what stands between it and the one before.
-struct Item<'a> {
-    before: &'a str,
-    text: &'a str,
-}
-
-/// The quoted items of a block of text.
-fn items(block: &str) -> Vec<Item<'_>> {
-    let parts: Vec<&str> = block.split('`').collect();
-    parts.chunks_exact(2).map(|pair| Item { before: pair[0], text: pair[1] }).collect()
-}
-
-/// Whether what stands between two items only lists them.
-fn lists(between: &str) -> bool {
-    [",", "and", ", and", ";", ":"].contains(&between.trim())
-}
-
 /// Where an item stands: its path, or the name itself, and the law behind the path of its file.
 struct Place {
     path: String,
@@ -189,7 +182,7 @@ impl Place {
 }
 
 /// What a block names and is not there; all that it names, files by their paths, goes to `named`.
-fn unknown(block: &str, index: &Index, named: &mut Vec<String>) -> Vec<String> {
+pub fn unknown(block: &str, index: &Index, named: &mut Named) -> Vec<String> {
     let items = items(block);
     let (mut faults, mut folder, mut beside) = (vec![], None::<String>, vec![]);
     for (at, item) in items.iter().enumerate() {
@@ -198,16 +191,22 @@ fn unknown(block: &str, index: &Index, named: &mut Vec<String>) -> Vec<String> {
         if !place.is_known(item.text, index) {
             faults.push(format!("`{}` is nothing that is there", item.text));
         }
-        named.push(place.path.clone());
+        named.items.push(place.path.clone());
+        named.placed.extend(place.law.clone().map(|law| (law, place.path.clone())));
         if !place.is_path {
             continue;
         }
         let path = &place.path;
         // names stand before their file, or before the first of several
-        if !place.listed && (item.before.trim_start().starts_with('(') || item.before.trim() == "in") {
+        let inside = item.before == ", " && at > 0 && items[at - 1].before.ends_with('(');
+        if !place.listed && (item.before.trim_start().starts_with('(') || item.before.trim() == "in" || inside) {
             beside = chain(&items[..at]);
         }
-        beside.retain(|name| !index.defines(name, |file| file == path || file.starts_with(&format!("{path}/"))));
+        let within = |file: &str| file == path || file.starts_with(&format!("{path}/"));
+        let (here, elsewhere) = beside.into_iter().partition(|name| index.defines(name, within));
+        let here: Vec<&str> = here;
+        named.placed.extend(here.into_iter().map(|name| (name.into(), path.clone())));
+        beside = elsewhere;
         let more = |next: &Item| lists(next.before) && next.text.starts_with(char::is_uppercase);
         if !items.get(at + 1).map_or(false, more) {
             faults.extend(beside.drain(..).map(|name| format!("`{name}` is not defined in `{path}`")));
@@ -217,62 +216,11 @@ fn unknown(block: &str, index: &Index, named: &mut Vec<String>) -> Vec<String> {
     faults
 }
 
-/// The names that stand one behind the other at the end, the last part of each.
-fn chain<'a>(items: &[Item<'a>]) -> Vec<&'a str> {
-    let mut names = vec![];
-    for item in items.iter().rev() {
-        let name = item.text.split(' ').next().unwrap_or("");
-        if name.contains('/') || name.contains("::") {
-            break;
-        }
-        names.push(name.rsplit('.').next().unwrap_or(name));
-        if !lists(item.before) {
-            break;
-        }
-    }
-    names
-}
-
-/// The blocks of a page: the cells of tables, and paragraphs.
-fn blocks(page: &str) -> Vec<String> {
-    let mut blocks = vec![String::new()];
-    for line in page.lines() {
-        if line.starts_with('|') {
-            blocks.extend(line.split('|').map(String::from));
-            blocks.push(String::new());
-        } else if line.trim().is_empty() {
-            blocks.push(String::new());
-        } else if let Some(last) = blocks.last_mut() {
-            last.push_str(line);
-            last.push('\n');
-        }
-    }
-    blocks
-}
-
-/// The rows of a page's tables, each as the cells of its table's head and its own.
-fn rows(page: &str) -> Vec<(Vec<&str>, Vec<&str>)> {
-    let (mut found, mut head) = (vec![], None::<Vec<&str>>);
-    for line in page.lines() {
-        let cells: Vec<&str> = line.split('|').map(str::trim).collect();
-        if cells.len() < 3 {
-            head = None;
-        } else if let Some(head) = &head {
-            found.push((head.clone(), cells));
-        } else {
-            head = Some(cells);
-        }
-    }
-    // the line of dashes below a head is none
-    found.retain(|(_, cells)| !cells[1].starts_with('-'));
-    found
-}
-
 /// The files that a row begins with.
 fn files_of(cells: &[&str], index: &Index) -> Vec<String> {
-    let mut named = vec![];
+    let mut named = Named::default();
     unknown(cells[1], index, &mut named);
-    named.into_iter().filter(|path| index.lines.contains_key(path)).collect()
+    named.items.into_iter().filter(|path| index.lines.contains_key(path)).collect()
 }
 
 /// What is wrong with the numbers in columns that are headed `lines`: each is the sum over the files that the row begins with.
@@ -314,13 +262,13 @@ fn homonyms(page: &str, index: &Index) -> Vec<String> {
 
 /// All that is wrong with a page, and how many names it has.
 fn faults(page: &str, index: &Index) -> (Vec<String>, usize) {
-    let mut named = vec![];
+    let mut named = Named::default();
     let mut faults: Vec<String> = blocks(page).iter().flat_map(|block| unknown(block, index, &mut named)).collect();
-    let missing = index.lines.keys().chain(&index.kit).chain(&index.types).filter(|name| !named.contains(name));
+    let missing = index.lines.keys().chain(&index.kit).chain(&index.types).filter(|name| !named.items.contains(name));
     faults.extend(missing.map(|name| format!("`{name}` must be believed, and is not named")));
     faults.extend(miscounted(page, index));
     faults.extend(homonyms(page, index));
-    (faults, named.len())
+    (faults, named.items.len())
 }
 
 /// Two crates and an edit for the samples.
@@ -356,6 +304,7 @@ const SAMPLES: &[(&str, &[&str])] = &[
     ("`a/must-fail/wrong`, `right`", &["`right` is nothing that is there"]),
     ("`size`", &["`size` is nothing that is there"]),
     ("`sized`, `sum` (`a/specs/Sizes`)", &["`sum` is not defined in `a/specs/Sizes`"]),
+    ("that (`sum-zero`, `b/proofs/Laws`), and this (`sized`, `b/proofs/Laws`)", &["`sized` is not defined in `b/proofs/Laws`"]),
     ("`sum-zero` in `a/specs/Sizes`", &["`sum-zero` is not defined in `a/specs/Sizes`"]),
     ("`sum-zero` (`a/specs/Sizes`, `Sums`)", &["`sum-zero` is not defined in `a/specs/Sums`"]),
     ("`Laws.sum-one`", &["`Laws.sum-one` is nothing that is there"]),

@@ -1,14 +1,16 @@
-//! The project's own tests. Use: check CRATES [PROGRAM..]
+//! The project's own tests. Use: check CRATES [PROGRAM..], or check edits CRATES, or check statements CRATES
 //! CRATES is the folder of crates, whose contracts and symbols are looked at, with what their checks said they assume, what the
 //! page of proofs names and how much there is that is hard to read; each PROGRAM is a compiled program, known by its name,
 //! `pair`, `circuit`, `host-c` or `host-rust`. A host is held to the pair program, which must be given too. A `pair` in a folder
 //! `static` is linked statically: nothing can be loaded before it that cuts what it reads into parts, and those tests are left out.
+//! `edits` reads what each must-fail edit was refused for, after `rt ci`; `statements` prints tests/statements.txt as the crates have it.
 //! The last line is `N passed, M failed`, and the status 0 where M is 0.
 
 use forkhemit_tests::process::{self, Source};
 use forkhemit_tests::report::{self, Tally};
 use forkhemit_tests::{
-    assumed, cases, ceilings, circuits, claims, contracts, damage, hosts, pictures, published, symbols, tables, ties,
+    assumed, cases, ceilings, circuits, citations, claims, contracts, damage, edits, hosts, pictures, published,
+    statements, symbols, tables, ties,
 };
 use std::path::Path;
 use std::process::ExitCode;
@@ -55,6 +57,8 @@ fn all(arguments: &[String]) -> std::io::Result<Tally> {
     total.add(symbols::run(Path::new(crates))?);
     total.add(assumed::run(Path::new(crates))?);
     total.add(claims::run(Path::new(crates))?);
+    total.add(statements::run(Path::new(crates))?);
+    total.add(citations::run(Path::new(crates))?);
     total.add(ceilings::run(Path::new(crates))?);
     let own = Path::new(env!("CARGO_MANIFEST_DIR"));
     total.add(pictures::run(&own.join(".."))?);
@@ -66,9 +70,36 @@ fn all(arguments: &[String]) -> std::io::Result<Tally> {
     Ok(total)
 }
 
+/// Prints a text, or says why there is none.
+fn printed(text: std::io::Result<String>) -> ExitCode {
+    match text {
+        Ok(text) => {
+            print!("{text}");
+            ExitCode::SUCCESS
+        }
+        Err(error) => {
+            eprintln!("{error}");
+            ExitCode::FAILURE
+        }
+    }
+}
+
+/// What the first argument asks for.
+fn asked(arguments: &[String]) -> std::io::Result<Tally> {
+    match arguments {
+        [first, crates] if first == "edits" => edits::run(Path::new(crates)),
+        _ => all(arguments),
+    }
+}
+
 fn main() -> ExitCode {
     let arguments: Vec<String> = std::env::args().skip(1).collect();
-    let total = all(&arguments).unwrap_or_else(|error| {
+    if let [first, crates] = arguments.as_slice() {
+        if first == "statements" {
+            return printed(statements::text(Path::new(crates)));
+        }
+    }
+    let total = asked(&arguments).unwrap_or_else(|error| {
         println!("FAILED: {error}");
         Tally { passed: 0, failed: 1 }
     });

@@ -1,5 +1,5 @@
-//! Reading sources as far as the gate's own checks need it: Rattle by its tokens, functions with their contracts, and the
-//! names of antt.
+//! Reading sources as far as the gate's own checks need it: Rattle by its tokens, functions with their contracts; antt's
+//! tokens and imports.
 
 /// Goes through Rattle's text. Comments, nested ones too, are passed over; what a string holds is no token.
 struct Reader {
@@ -235,8 +235,13 @@ pub fn ghost_uses(source: &str) -> Vec<String> {
     found
 }
 
-/// antt's text without its comments, line for line.
+/// antt's text without its comments and what its strings hold, line for line.
 pub fn uncommented(text: &str) -> String {
+    stripped(text, false)
+}
+
+/// antt's text without its comments, and, unless they are kept, what strings hold.
+pub fn stripped(text: &str, strings: bool) -> String {
     let mut reader = Reader::new(text);
     let mut kept = String::new();
     while reader.at < reader.signs.len() {
@@ -249,7 +254,10 @@ pub fn uncommented(text: &str) -> String {
             reader.at += reader.signs[start..].iter().position(|&s| s == '\n').unwrap_or(reader.signs.len() - start);
         } else if reader.sees("\"") {
             reader.pass_quoted('"');
-            kept.push_str("\"\"");
+            match strings {
+                true => kept.extend(&reader.signs[start..reader.at]),
+                false => kept.push_str("\"\""),
+            }
         } else {
             kept.push(reader.signs[start]);
             reader.at += 1;
@@ -326,60 +334,6 @@ pub fn imports(text: &str) -> Vec<Import> {
         }
     }
     found
-}
-
-/// A name that antt's text gives a meaning: a definition or law, a type, a constructor, a field, a name opened from a record.
-#[derive(Debug, PartialEq)]
-pub struct Definition {
-    pub name: String,
-    /// A field of a record, which is reached by its dot alone.
-    pub field: bool,
-}
-
-/// The definitions of antt's text, those of inner blocks too.
-pub fn definitions(text: &str) -> Vec<Definition> {
-    let (mut found, mut record) = (vec![], None);
-    for line in uncommented(text).lines() {
-        let indent = line.chars().take_while(|sign| *sign == ' ').count();
-        let tokens = tokens(line);
-        let marks = ["unfoldable", "abbrev", "axiom", "pub"];
-        let start = tokens.iter().take_while(|token| marks.contains(&token.as_str())).count();
-        let rest = &tokens[start..];
-        if rest.is_empty() {
-            continue;
-        }
-        record = record.filter(|outer| indent > *outer);
-        let field = record.is_some();
-        found.extend(defined(rest).iter().map(|name| Definition { name: name.clone(), field }));
-        if rest[0] == "record" && rest.len() > 1 && rest[1] != "{" {
-            record = Some(indent);
-        }
-    }
-    found
-}
-
-/// The names that a line, its marks left out, gives a meaning.
-fn defined(line: &[String]) -> Vec<String> {
-    let place = |sign: &str| line.iter().position(|token| token == sign);
-    match line[0].as_str() {
-        "record" | "data" => line.get(1).filter(|name| *name != "{").into_iter().cloned().collect(),
-        "open" => {
-            let names = line[place("using").unwrap_or(line.len())..].iter();
-            names.filter(|name| !["using", "(", ")", ",", "as"].contains(&name.as_str())).cloned().collect()
-        }
-        "use" | "module" | "mod" | "infix" | "infixl" | "infixr" => vec![],
-        _ => {
-            // a signature: names, perhaps levels in brackets, and a colon
-            let colon = place(":").unwrap_or(0);
-            let names = &line[..place("{").map_or(colon, |levels| levels.min(colon))];
-            let other = ["(", ")", "=", "let", "λ", "→", "∀", ";"];
-            if names.iter().any(|name| other.contains(&name.as_str())) {
-                vec![]
-            } else {
-                names.to_vec()
-            }
-        }
-    }
 }
 
 /// The functions, types and variants that a source of Rattle declares.

@@ -1,6 +1,7 @@
 //! What symbols mean: every operator, and every name of the library that contracts and definitions use, has the library's
 //! meaning. With an own `_≡_` that is always true a function that gives 1 would ensure that it gives 7.
 
+use crate::antt;
 use crate::contracts;
 use crate::report::Tally;
 use crate::source::{self, Import};
@@ -129,7 +130,7 @@ fn definition_faults(path: &str, text: &str) -> Vec<String> {
     let proof = path.contains("/proofs/");
     let imports = source::imports(&source::uncommented(text));
     let mut faults: Vec<String> = imports.iter().filter_map(|import| import_fault(import, proof)).collect();
-    for source::Definition { name, field } in source::definitions(text) {
+    for antt::Definition { name, field } in antt::definitions(text) {
         let second = (name.as_str(), path) == (SECOND.0, SECOND.1);
         let own = second || OWN.contains(&(name.as_str(), path));
         let symbol = home(&name).is_some() || !proof && BUILT_IN.contains(&name.as_str());
