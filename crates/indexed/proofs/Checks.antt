@@ -47,6 +47,7 @@ module _ (n : ℕ) (run : Run) (exact right : Bool) where
         pub refuse-other : (run .n ≡ n → ⊥) → Refused OtherVariables ≡ outcome (keptChecks n run exact right)
         refuse-other h = rw (formed, sets, number, ne-eqb (run .n) n h)
 
+        -- the run's own n: the call is taken
         pub take-kept : run .n ≡ n → Taken ≡ outcome (keptChecks n run exact right)
         take-kept h = rw (formed, sets, number, eq-eqb (run .n) n h)
 

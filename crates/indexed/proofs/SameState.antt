@@ -86,6 +86,7 @@ module _ (d : Dimensions) (tables : Tables) (index : List ℕ) (run : Run) (numb
         ∙ sym (take-kept (d .n) (next .run) exact _ formed-then (keeps .sets) (eq-eqb _ _ right) same-n-then) in
         ap (λ (o : Outcome). steppedBy o (d .n) rows (next .run) (next .number) .outcome) e
 
+    -- the step with an index gives the plain step's run and the right number, and the next step is taken
     pub same-state : SameState d tables index run next
     same-state = record { plain = plain; right = right; again = again }
 

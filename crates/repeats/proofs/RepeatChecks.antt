@@ -67,14 +67,17 @@ module _ (d : Dimensions) (tables : Tables) (gates bytes wires : ℕ) (run : Run
     rest : outcome (repeatChecks d tables gates bytes wires run) ≡ outcome later
     rest = outcome-taken (tableChecks d tables) later e
 
+    -- too few gate words: 7
     pub refuse-gates : gates < 3 * ceiling d → Refused GateBuffer ≡ outcome (repeatChecks d tables gates bytes wires run)
     refuse-gates h = sym (rest ∙ rw (lt-ltb gates (3 * ceiling d) h))
 
     module _ (g : 3 * ceiling d ≤ gates) where
+      -- too few bytes or wires: 10
       pub refuse-room : ltb bytes (inputWires d) || ltb wires (inputWires d + length (gatesOn d)) ≡ true
           → Refused Wires ≡ outcome (repeatChecks d tables gates bytes wires run)
       refuse-room h = sym (rest ∙ rw (le-ltb gates (3 * ceiling d) g, h))
 
+      -- with room for all of them the run decides: 12, 13 or taken
       pub state-decides : ltb bytes (inputWires d) || ltb wires (inputWires d + length (gatesOn d)) ≡ false
           → outcome (stateChecks d run) ≡ outcome (repeatChecks d tables gates bytes wires run)
       state-decides h = sym (rest ∙ rw (le-ltb gates (3 * ceiling d) g, h))
