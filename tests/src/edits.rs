@@ -10,7 +10,7 @@ use std::path::Path;
 #[rustfmt::skip]
 const SHAPES: &[&str] = &[
     "can be named from here", "not in scope", "has no field", "is a method, not a field", "exports no such name", "has no such", "unbound",
-    "is not a constructor", "does not define it", "does not parse", "unexpected token", "unexpected character", "expected a term, found", "expected a name",
+    "is not a constructor", "does not define it", "is still open", "does not parse", "unexpected token", "unexpected character", "expected a term, found", "expected a name",
 ];
 /// Where only a later law is refused, and the law that it cites was refused before.
 const CONSEQUENCE: &str = "so this cannot be checked";
