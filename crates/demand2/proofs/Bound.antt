@@ -19,11 +19,11 @@ use Rattle.state.specs.declared.Standing.the-variants.{Open, Satisfied, Refuted
 use Rattle.scan.specs.Rules.{rule}
 use Rattle.state.specs.State.{State, fresh, ifOpen}
 use Rattle.solver.specs.Step.{back, assign, follow, later, step, after}
-use Rattle.solver.specs.Truth.{occurs, occurring}
+use Rattle.truth.specs.Truth.{occurs, occurring}
 use Rattle.state.specs.WellFormed.{chain}
-use Rattle.solver.proofs.RuleLaws.{Ruled, ruled, Settable, unit-settable, choice-settable}
+use Rattle.truth.proofs.RuleLaws.{Ruled, ruled, Settable, unit-settable, choice-settable}
 use Rattle.state.proofs.WellFormedLaws.{Formed, chain-head}
-use Rattle.solver.proofs.SettingLaws.{freeAmong, free-le, free-less-t, free-less-f}
+use Rattle.truth.proofs.FreeVariables.{freeAmong, free-le, free-less-t, free-less-f}
 use Rattle.solver.proofs.StepLaws.{step-formed, fresh-formed}
 
 -- each level's variable passes

@@ -24,7 +24,7 @@ use Rattle.scan.specs.Rules.{allRows}
 use Rattle.scan.proofs.RowLaws.{In, not-all-rows}
 use Rattle.solver.specs.declared.Answer.{Answer}
 use Rattle.solver.specs.Step.{always, after}
-use Rattle.solver.specs.Truth.{rowTrue, allTrue, occurring}
+use Rattle.truth.specs.Truth.{rowTrue, allTrue, occurring}
 use Rattle.solver.specs.Entries.{answerOf}
 use Rattle.verdicts.specs.Verdicts.{verdictOf}
 use Rattle.demand2.specs.Demand2.{atEnd, stateAtEnd, Demand2}

@@ -23,12 +23,12 @@ use Rattle.verdicts.specs.declared.Verdict.the-variants.{Satisfiable, Unsatisfi
 use Rattle.scan.specs.Rules.{allRows}
 use Rattle.state.specs.State.{State, fresh}
 use Rattle.solver.specs.Step.{always, step, after}
-use Rattle.solver.specs.Truth.{allTrue, occurring}
+use Rattle.truth.specs.Truth.{allTrue, occurring}
 use Rattle.verdicts.specs.Verdicts.{verdictOf}
 use Rattle.solver.specs.Entries.{Ran, runFrom, answerOf}
 use Rattle.demand2.specs.Demand2.{Demand2}
 use Rattle.solver.proofs.RunLaws.{RunOf, run-of}
-use Rattle.solver.proofs.LowRows.{accepted-low}
+use Rattle.truth.proofs.LowRows.{accepted-low}
 use Rattle.demand2.proofs.Satisfaction.{satisfied-model}
 use Rattle.demand2.proofs.Refutation.{refuted-none}
 use Rattle.solver.proofs.StepLaws.{after-last, after-formed, fresh-formed}

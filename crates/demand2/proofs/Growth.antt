@@ -12,7 +12,7 @@ use Rattle.words.proofs.Truth.{mp, and-l, and-r, and-i, on, taut3}
 use Rattle.words.proofs.Upto.{any-e, any-i}
 use Rattle.tables.specs.Rows.{padding, holds, empty}
 use Rattle.scan.specs.Rules.{allRows, anyRow}
-use Rattle.solver.specs.Truth.{rowTrue, allTrue, occurs}
+use Rattle.truth.specs.Truth.{rowTrue, allTrue, occurs}
 
 -- ---- one element of a list
 

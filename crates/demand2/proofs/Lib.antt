@@ -1,4 +1,3 @@
-pub mod TruthLaws
 pub mod Satisfaction
 pub mod Refutation
 pub mod Growth

@@ -19,13 +19,13 @@ use Rattle.state.specs.declared.Standing.the-variants.{Open, Satisfied, Refuted
 use Rattle.scan.specs.Rules.{allRows, rule}
 use Rattle.state.specs.State.{State, ifOpen}
 use Rattle.solver.specs.Step.{back, follow, step}
-use Rattle.solver.specs.Truth.{rowTrue, allTrue}
+use Rattle.truth.specs.Truth.{rowTrue, allTrue}
 use Rattle.scan.proofs.RowLaws.{all-rows-mono}
-use Rattle.solver.proofs.RuleLaws.{Ruled, ruled}
+use Rattle.truth.proofs.RuleLaws.{Ruled, ruled}
 use Rattle.state.proofs.WellFormedLaws.{Sets, Formed}
 use Rattle.solver.proofs.StepLaws.{step-formed}
 use Rattle.tables.specs.Acceptance.{lowRow}
-use Rattle.demand2.proofs.TruthLaws.{literal, row-true}
+use Rattle.truth.proofs.TruthLaws.{literal, row-true}
 
 module _ (n : ℕ) (rows : List Row) where
   -- if the standing is satisfied, all rows are

@@ -12,7 +12,7 @@ use Rattle.verdicts.specs.declared.Verdict.the-variants.{Satisfiable, Unsatisfi
 use Rattle.verdicts.specs.Verdicts.{verdictOf}
 use Rattle.state.specs.State.{State, fresh}
 use Rattle.solver.specs.Step.{after}
-use Rattle.solver.specs.Truth.{allTrue, occurring}
+use Rattle.truth.specs.Truth.{allTrue, occurring}
 
 -- the rows that the last step read: of a closed run, those at the close
 abbrev pub atEnd : (ℕ → List Row) → Answer → List Row

@@ -20,9 +20,9 @@ use Rattle.scan.specs.declared.Rule.{Rule}
 use Rattle.scan.specs.declared.Rule.the-variants as rules
 use Rattle.scan.specs.Rules.{rowsIn, allRows, rule}
 use Rattle.scan.proofs.RowLaws.{In, in-head, in-tail}
-use Rattle.solver.proofs.LowRows.{accepted-low}
+use Rattle.truth.proofs.LowRows.{accepted-low}
 use Rattle.solver.proofs.WidthLaws.{with-alike, rule-width}
-use Rattle.solver.proofs.AcceptedRule.{rows-in-front}
+use Rattle.scan.proofs.Fronts.{rows-in-front}
 use Rattle.explained.specs.declared.Told.the-variants.{Forced}
 use Rattle.explained.specs.Explanation.{lowestFrom, lowestRow, shows, toldBack, told}
 

@@ -20,7 +20,7 @@ use Rattle.scan.specs.declared.Rule.{Rule}
 use Rattle.scan.specs.declared.Rule.the-variants as rules
 use Rattle.scan.specs.Rules.{rule}
 use Rattle.scan.proofs.RowLaws.{any-row-i}
-use Rattle.solver.proofs.RuleLaws.{Conflicts, Forces, ruled}
+use Rattle.truth.proofs.RuleLaws.{Conflicts, Forces, ruled}
 use Rattle.explained.specs.declared.Told.{Told}
 use Rattle.explained.specs.declared.Told.the-variants.{Nothing}
 use Rattle.explained.specs.Explanation.{lowestRow, shows, toldBack, told, explanation, toldNumbers}

@@ -13,7 +13,7 @@ use Rattle.tables.specs.Rows.{rowsFrom, rowsOf}
 use Rattle.tables.specs.Acceptance.{lowRow, tableChecks}
 use Rattle.tables.proofs.Accepted.{accepted}
 use Rattle.scan.specs.Rules.{allRows}
-use Rattle.solver.proofs.LowRows.{accepted-low}
+use Rattle.truth.proofs.LowRows.{accepted-low}
 use Rattle.occurrences.specs.Index.{indexOf}
 use Rattle.occurrences.specs.RowWords.{gathered}
 use Rattle.occurrences.proofs.Gathering.{gathered-rows, gathered-index}

@@ -9,7 +9,7 @@ use Rattle.words.proofs.Truth.{and-l, and-r}
 use Rattle.tables.proofs.Rows.{satisfied-width}
 use Rattle.scan.specs.Rules.{allRows}
 use Rattle.tables.specs.Acceptance.{lowRow}
-use Rattle.solver.proofs.LowRows.{low-positive, low-negative}
+use Rattle.truth.proofs.LowRows.{low-positive, low-negative}
 use Rattle.tally.specs.Tallies.{countRows, unmet, unsatisfiedRows, tallyOf}
 
 module _ (n : ℕ) (narrow : n ≤ 32) (t f : ℕ) where

@@ -14,7 +14,7 @@ use Rattle.scan.specs.Rules.{anyRow, unsatisfiedWith, rule}
 use Rattle.state.specs.State.{State}
 use Rattle.state.proofs.WellFormedLaws.{Formed}
 use Rattle.solver.specs.Step.{follow}
-use Rattle.solver.proofs.RuleLaws.{Ruled, ruled, Settable, rule-unit, rule-choice}
+use Rattle.truth.proofs.RuleLaws.{Ruled, ruled, Settable, rule-unit, rule-choice}
 use Rattle.solver.proofs.StepLaws.{follow-formed}
 use Rattle.solver.proofs.WidthLaws.{rule-width}
 use Rattle.tables.proofs.Numbering.{table-length}

@@ -27,7 +27,7 @@ use Rattle.tables.specs.Acceptance.{tableChecks}
 use Rattle.tables.proofs.Accepted.{accepted}
 use Rattle.tables.proofs.Numbering.{tables-length, left-row, right-row}
 use Rattle.tables.proofs.Rows.{satisfied-width}
-use Rattle.solver.proofs.LowRows.{low-positive, low-negative}
+use Rattle.truth.proofs.LowRows.{low-positive, low-negative}
 use Rattle.state.specs.declared.Run.{Run}
 use Rattle.state.specs.WellFormed.{stateChecks}
 use Rattle.state.proofs.Checks.{take-state}

@@ -8,7 +8,7 @@ use Rattle.tables.specs.Tables.{Tables}
 use Rattle.tables.specs.Rows.{publicRows}
 use Rattle.tables.proofs.Accepted.{accepted}
 use Rattle.solver.specs.Entries.{answerOf}
-use Rattle.solver.proofs.LowRows.{accepted-low}
+use Rattle.truth.proofs.LowRows.{accepted-low}
 use Rattle.demand2.specs.Demand2.{Demand2}
 use Rattle.demand2.proofs.Demand2.{demand2-rows}
 use Rattle.repeats.specs.Repeats.{Accepts, Attempt, Repeat, repeatsEnded, longOnes}

@@ -22,7 +22,7 @@ use Rattle.verdicts.specs.declared.Verdict.{Verdict}
 use Rattle.verdicts.specs.declared.Verdict.the-variants.{Satisfiable, Unsatisfiable}
 use Rattle.solver.specs.declared.Answer.{Answer}
 use Rattle.solver.specs.Step.{after}
-use Rattle.solver.specs.Truth.{allTrue}
+use Rattle.truth.specs.Truth.{allTrue}
 use Rattle.solver.specs.Entries.{answerOf}
 use Rattle.late.specs.declared.Condition.{Condition}
 use Rattle.repeats.specs.Repeats.{Accepts, Attempt, Repeat, returned, longEnough, longOnes, repeatsEnded}

@@ -27,7 +27,7 @@ use Rattle.state.proofs.HeldRun.{state-back}
 use Rattle.solver.specs.declared.Stepped.{Stepped}
 use Rattle.solver.specs.Step.{later, step, after}
 use Rattle.solver.specs.Entries.{runFrom, answerOf, stepped}
-use Rattle.solver.specs.Truth.{allTrue}
+use Rattle.truth.specs.Truth.{allTrue}
 use Rattle.solver.proofs.StepLaws.{step-well-formed, fresh-well-formed}
 use Rattle.solver.proofs.RunLaws.{run-of}
 use Rattle.verdicts.specs.Verdicts.{verdictOf}

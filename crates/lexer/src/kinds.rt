@@ -48,7 +48,7 @@ pub(crate) fn is_kind(kind: Kind, b: u8) -> bool
 }
 
 // The first place from `at` on whose byte is not of the kind, or the end.
-pub(crate) fn skip(text: &[u8], at: usize, kind: Kind) -> usize
+pub fn skip(text: &[u8], at: usize, kind: Kind) -> usize
     ensures { λ r. ⌜ r ≡ runEnd (passes kind) (now (text .entry)) at ⌝ }
 {
     let mut i = at;

@@ -19,7 +19,7 @@ use Rattle.tables.specs.Rows.{satisfied, free, freeIn}
 use Rattle.scan.specs.declared.Rule.{Rule}
 use Rattle.scan.specs.declared.Rule.the-variants.{AllSatisfied, Conflict, Unit, Choice}
 use Rattle.scan.specs.Rules.{anyRow, unsatisfiedWith, forces, forcedVariable, forcedTrue, unitOr, choice, rule}
-use Rattle.solver.proofs.RuleLaws.{with-unsatisfied, with-count, with-some}
+use Rattle.truth.proofs.RuleLaws.{with-unsatisfied, with-count, with-some}
 use Rattle.wires.proofs.Addresses.{rowOf}
 use Rattle.netlist.proofs.RowNumbers.{some-row, no-row, not-all, all-pass}
 use Rattle.netlist.proofs.Thresholds.{any-below}

@@ -22,7 +22,8 @@ use Rattle.state.specs.State.{State, isSatisfied, ifOpen}
 use Rattle.scan.specs.Rules.{rule}
 use Rattle.solver.specs.Step.{follow, step}
 use Rattle.state.proofs.WellFormedLaws.{Formed, chain-head}
-use Rattle.solver.proofs.SettingLaws.{free-less-t, depth-free}
+use Rattle.truth.proofs.FreeVariables.{free-less-t}
+use Rattle.solver.proofs.SettingLaws.{depth-free}
 use Rattle.wires.specs.Layout.{isRefuted, stateBits}
 use Rattle.wires.specs.Bits.{Bits, bitsIn, inOrder}
 use Rattle.wires.proofs.Addresses.{Same, order-cong}

@@ -2,17 +2,19 @@
 use mathlib.Core.Path.{_≡_, refl, sym, ap, _∙_}
 use mathlib.Core.List.{List, [], _∷_}
 use Prim.Native.Nat.{ℕ, _<_}
+use native.Mathlib.Omega.{arith}
 use lib.Dec.{lit<}
 use lib.ListN.{getD}
 use Rattle.refusals.specs.Numbers.{numberOf}
 use Rattle.refusals.specs.declared.Refusal.{Refusal}
 use Rattle.refusals.specs.declared.Refusal.the-variants.{Variables, RowCount, RowBit, RowBuffer, Text, TextsDiffer, GateBuffer, NumberLine, Gates, Wires}
-use Rattle.refusals.specs.declared.Refusal.the-variants.{LineBuffer, State, OtherVariables, NoModel, NotPadding, Closed, NoClause}
+use Rattle.refusals.specs.declared.Refusal.the-variants.{LineBuffer, State, OtherVariables, NoModel, NotPadding, Closed, NoClause, ProofText}
+use Rattle.refusals.specs.declared.Refusal.the-variants.{NotFollowing, NoEmptyClause}
 
 -- the refusal of a number; no refusal has 0
 refusalOf : ℕ → Refusal
-refusalOf k = getD (NoClause ∷ Variables ∷ RowCount ∷ RowBit ∷ RowBuffer ∷ Text ∷ TextsDiffer ∷ GateBuffer ∷ NumberLine ∷ Gates ∷ Wires ∷ LineBuffer ∷ State
-    ∷ OtherVariables ∷ NoModel ∷ NotPadding ∷ Closed ∷ []) k NoClause
+refusalOf k = getD (NoEmptyClause ∷ Variables ∷ RowCount ∷ RowBit ∷ RowBuffer ∷ Text ∷ TextsDiffer ∷ GateBuffer ∷ NumberLine ∷ Gates ∷ Wires ∷ LineBuffer
+    ∷ State ∷ OtherVariables ∷ NoModel ∷ NotPadding ∷ Closed ∷ NoClause ∷ ProofText ∷ NotFollowing ∷ []) k NoEmptyClause
 
 refusal-back : (r : Refusal) → refusalOf (numberOf r) ≡ r
 unfolding refusalOf
@@ -33,13 +35,16 @@ refusal-back NoModel = refl
 refusal-back NotPadding = refl
 refusal-back Closed = refl
 refusal-back NoClause = refl
+refusal-back ProofText = refl
+refusal-back NotFollowing = refl
+refusal-back NoEmptyClause = refl
 
 -- two refusals with one number are one refusal
 pub number-injective : (q r : Refusal) → numberOf q ≡ numberOf r → q ≡ r
 number-injective q r e = sym (refusal-back q) ∙ ap refusalOf e ∙ refusal-back r
 
--- no refusal's number is above 17
-pub number-lt : (r : Refusal) → numberOf r < 18
+-- no refusal's number is above 20
+pub number-lt : (r : Refusal) → numberOf r < 21
 number-lt Variables = lit< tt
 number-lt RowCount = lit< tt
 number-lt RowBit = lit< tt
@@ -57,3 +62,11 @@ number-lt NoModel = lit< tt
 number-lt NotPadding = lit< tt
 number-lt Closed = lit< tt
 number-lt NoClause = lit< tt
+number-lt ProofText = lit< tt
+number-lt NotFollowing = lit< tt
+number-lt NoEmptyClause = lit< tt
+
+-- no refusal has the number 0
+pub number-positive : (r : Refusal) → numberOf r ≡ 0 → ⊥
+unfolding refusalOf
+number-positive r e = let q : 20 ≡ numberOf r = ap numberOf (sym (ap refusalOf e) ∙ refusal-back r) in omega arith

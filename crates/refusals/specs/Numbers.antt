@@ -5,7 +5,7 @@ use mathlib.Core.List.{List, [], _∷_}
 use Rattle.refusals.specs.declared.Refusal.{Refusal}
 use Rattle.refusals.specs.declared.Refusal.the-variants.{Variables, RowCount, RowBit, RowBuffer, Text, TextsDiffer, GateBuffer}
 use Rattle.refusals.specs.declared.Refusal.the-variants.{NumberLine, Gates, Wires, LineBuffer, State, OtherVariables, NoModel}
-use Rattle.refusals.specs.declared.Refusal.the-variants.{NotPadding, Closed, NoClause}
+use Rattle.refusals.specs.declared.Refusal.the-variants.{NotPadding, Closed, NoClause, ProofText, NotFollowing, NoEmptyClause}
 use Rattle.refusals.specs.declared.Outcome.{Outcome}
 use Rattle.refusals.specs.declared.Outcome.the-variants.{Taken, Refused}
 
@@ -28,6 +28,9 @@ numberOf NoModel = 14
 numberOf NotPadding = 15
 numberOf Closed = 16
 numberOf NoClause = 17
+numberOf ProofText = 18
+numberOf NotFollowing = 19
+numberOf NoEmptyClause = 20
 
 -- 0 where the call was taken, else the refusal's number
 abbrev pub codeOf : Outcome → ℕ

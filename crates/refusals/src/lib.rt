@@ -3,7 +3,7 @@ ghost use mathlib.Core.Path.{_≡_};
 ghost use Rattle.refusals.specs.Numbers.{numberOf};
 
 // Why a call is turned back: 1 to 11 because of the input, 12 to 14 because of the state, 15 and 16 because of a late condition, 17 because
-// of texts that are not the tables'.
+// of texts that are not the tables', 18 to 20 because of a proof from another solver.
 pub enum Refusal {
     // 1: n outside 1 to 32.
     Variables,
@@ -39,6 +39,12 @@ pub enum Refusal {
     Closed,
     // 17: a row of neither station, or a text whose n or row count is not its table's.
     NoClause,
+    // 18: malformed or overlong text of a proof, or more than 256 additions in it.
+    ProofText,
+    // 19: an addition of a proof that does not follow, up to the empty clause.
+    NotFollowing,
+    // 20: a proof that does not add the empty clause.
+    NoEmptyClause,
 }
 
 // What a call gives that has no other result.
@@ -69,5 +75,8 @@ pub fn number(refusal: Refusal) -> u8
         Refusal::NotPadding => 15,
         Refusal::Closed => 16,
         Refusal::NoClause => 17,
+        Refusal::ProofText => 18,
+        Refusal::NotFollowing => 19,
+        Refusal::NoEmptyClause => 20,
     }
 }

@@ -16,7 +16,7 @@ use Rattle.solver.specs.Step.{follow, step}
 use Rattle.state.specs.WellFormed.{wellFormed, wellFormedState}
 use Rattle.rules.specs.Followed.{followed}
 use Rattle.solver.proofs.HeldRules.{Fits, held}
-use Rattle.solver.proofs.RuleLaws.{rule-unit, rule-choice}
+use Rattle.truth.proofs.RuleLaws.{rule-unit, rule-choice}
 use Rattle.solver.proofs.StepLaws.{step-well-formed, choice-depth}
 use Rattle.state.proofs.HeldRun.{length-levels, run-back, formed-run-e, formed-tidy, run-of-formed}
 

@@ -1,5 +1,3 @@
-pub mod RuleLaws
-pub mod LowRows
 pub mod WidthLaws
 pub mod AcceptedRule
 pub mod SettingLaws

@@ -8,7 +8,7 @@ use lib.ListN.{length}
 use lib.Pow.{pow-pos}
 use Rattle.words.specs.declared.Row.{Row}
 use Rattle.words.specs.Sets.{put}
-use Rattle.words.proofs.Bits.{bit-zero}
+use Rattle.words.proofs.Bits.{bit-zero, put-keeps, put-has}
 use Rattle.state.specs.declared.Level.{Level}
 use Rattle.scan.specs.declared.Rule.{Rule}
 use Rattle.scan.specs.declared.Rule.the-variants.{AllSatisfied, Conflict, Unit, Choice}
@@ -18,9 +18,10 @@ use Rattle.scan.specs.Rules.{rule}
 use Rattle.state.specs.State.{State, fresh, ifOpen}
 use Rattle.solver.specs.Step.{back, assign, follow, later, step, after}
 use Rattle.state.specs.WellFormed.{chain, wellFormedState}
-use Rattle.solver.proofs.RuleLaws.{Ruled, ruled, Settable, unit-settable, choice-settable, rule-choice}
+use Rattle.truth.proofs.RuleLaws.{Ruled, ruled, Settable, unit-settable, choice-settable, rule-choice}
 use Rattle.state.proofs.WellFormedLaws.{Sets, Formed, formed-e, formed-i, chain-head, chain-tail, chain-cons}
-use Rattle.solver.proofs.SettingLaws.{put-keeps, put-has, sets-t, sets-f, free-less-t, chain-mono, depth-free}
+use Rattle.truth.proofs.FreeVariables.{free-less-t}
+use Rattle.solver.proofs.SettingLaws.{sets-t, sets-f, chain-mono, depth-free}
 
 -- what each step keeps, any number of steps keeps
 pub after-keeps : (n : ℕ) (rows : ℕ → List Row) (P : State → Type 0) (k : ℕ) → ((i : ℕ) → i < k → (s : State) → P s → P (step n (rows i) s))

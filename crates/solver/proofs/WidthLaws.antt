@@ -14,9 +14,9 @@ use Rattle.scan.specs.declared.Rule.{Rule}
 use Rattle.scan.specs.declared.Rule.the-variants.{Unit, Choice}
 use Rattle.scan.specs.Rules.{allRows, anyRow, unsatisfiedWith, forces, forcedVariable, forcedTrue, unitOr, choice, rule}
 use Rattle.scan.proofs.RowLaws.{all-rows-cong, any-row-cong}
-use Rattle.solver.proofs.RuleLaws.{forced-hit, choice-hit}
+use Rattle.truth.proofs.RuleLaws.{forced-hit, choice-hit}
 use Rattle.tables.specs.Acceptance.{lowRow}
-use Rattle.solver.proofs.LowRows.{low-positive, low-negative}
+use Rattle.truth.proofs.LowRows.{low-positive, low-negative}
 
 module _ (n k : ℕ) (wide : n ≤ k) (t f : ℕ) where
   satisfied-alike : (r : Row) → lowRow n r ≡ true → satisfied k r t f ≡ satisfied n r t f

@@ -10,6 +10,7 @@ use Rattle.words.specs.Booleans.{imp}
 use Rattle.words.specs.Sets.{bit}
 use Rattle.words.proofs.Truth.{and-l, and-r, and-i, mp, imp-i}
 use Rattle.words.proofs.Upto.{all-e, all-i}
+use Rattle.words.proofs.Bits.{Within}
 use Rattle.tables.specs.Rows.{free}
 use Rattle.state.specs.declared.Level.{Level}
 use Rattle.state.specs.State.{State}
@@ -38,10 +39,6 @@ module _ (n t f : ℕ) where
   sets-i s = and-i (and-i (lt-ltb t (2 ^ n) (s .low-t)) (lt-ltb f (2 ^ n) (s .low-f))) (all-i _ n (s .apart))
 
 -- ---- a level before T and F
-
--- what a has below n, b has
-abbrev pub Within : ℕ → ℕ → ℕ → Type 0
-Within n a b = (i : ℕ) → i < n → bit a i ≡ true → bit b i ≡ true
 
 pub record Precedes (n : ℕ) (l : Level) (t f : ℕ) : Type 0 where
   pub own : Sets n (l .t) (l .f)

@@ -8,16 +8,17 @@ use Rattle.words.specs.Sets.{bit, any}
 use Rattle.words.proofs.Upto.{any-width}
 use Rattle.words.proofs.Operations.{bit-high}
 use Rattle.scan.specs.Rules.{allRows}
-use Rattle.solver.specs.Truth.{rowTrue, allTrue}
+use Rattle.truth.specs.Truth.{rowTrue, allTrue}
 use Rattle.scan.proofs.RowLaws.{In}
 use Rattle.tables.specs.Acceptance.{lowRow}
-use Rattle.solver.proofs.LowRows.{low-positive, low-negative}
+use Rattle.truth.proofs.LowRows.{low-positive, low-negative}
 
 -- the assignment makes a literal of this variable true
 abbrev pub literal : (ℕ → Bool) → Row → ℕ → Bool
 literal a r i = (bit (r .positive) i && a i) || (bit (r .negative) i && not (a i))
 
 module _ (n : ℕ) (few : n ≤ 32) where
+  -- a row without a bit at or above n is true exactly if a literal of a variable below n is
   pub row-true : (a : ℕ → Bool) (r : Row) → lowRow n r ≡ true → rowTrue a r ≡ any (λ i. literal a r i) n
   unfolding rowTrue
   row-true a r low =

@@ -15,7 +15,7 @@ use Rattle.tables.proofs.Rows.{unsatisfied-padding, unsatisfied-literals}
 use Rattle.scan.specs.declared.Rule.{Rule}
 use Rattle.scan.specs.declared.Rule.the-variants.{AllSatisfied, Conflict, Unit, Choice}
 use Rattle.scan.specs.Rules.{allRows, anyRow, unsatisfiedWith, forces, forcedVariable, forcedTrue, unitOr, choice, rule}
-use Rattle.solver.specs.Truth.{occurs}
+use Rattle.truth.specs.Truth.{occurs}
 use Rattle.scan.proofs.RowLaws.{In, any-row-e, any-row-i, not-all-rows, no-row}
 
 -- ---- what holds
@@ -107,13 +107,11 @@ module _ (n : ℕ) (rows : List Row) (t f : ℕ) where
             (λ b. b)),
       ))
 
-  -- rule 3
-  ruled-unit : (other : Rule) → Ruled n rows t f other → Ruled n rows t f (unitOr n t f rows other)
-  unfolding unitOr
-  ruled-unit other h =
-      on (anyRow (unsatisfiedWith 1 n t f) rows)
-      (λ e. rw (e, unitOr)
-      (let v = forced-hit e in
+  -- where some row is a unit row, some row forces the lowest forced variable, in the sign that is taken
+  pub forced-forces : anyRow (unsatisfiedWith 1 n t f) rows ≡ true
+      → let v = forcedVariable n rows t f in Forces n rows t f v (forcedTrue n rows t f v)
+  forced-forces e =
+      let v = forced-hit e in
       let x = forced-row (forcedVariable n rows t f) (v .1) in
       record {
         row = x .0;
@@ -122,7 +120,14 @@ module _ (n : ℕ) (rows : List Row) (t f : ℕ) where
         low = v .0;
         free-there = and-r (unsatisfiedWith 1 n t f (x .0)) _ (x .2);
         sign = x .3;
-      }))
+      }
+
+  -- rule 3
+  ruled-unit : (other : Rule) → Ruled n rows t f other → Ruled n rows t f (unitOr n t f rows other)
+  unfolding unitOr
+  ruled-unit other h =
+      on (anyRow (unsatisfiedWith 1 n t f) rows)
+      (λ e. rw (e, unitOr) (forced-forces e))
       (λ e. rw (e, unitOr) h)
 
   module _ (e₁ : allRows (λ r. satisfied n r t f) rows ≡ false) (e₂ : anyRow (unsatisfiedWith 0 n t f) rows ≡ false) where

@@ -1,0 +1,48 @@
+-- `add` meets its contract: two stores behind the rows.
+use native.Mathlib.Omega.{arith}
+use lib.ListN.{length-set}
+use Rattle.drat.proofs.Present.{one-more}
+use borrow.Author.Needs.{needs}
+use Rattle.drat.proofs.rup.add.Statement.{statement}
+use Rattle.drat.proofs.rup.add.Tie as tie
+
+mul-words : tie.Need-mul-words
+mul-words c = search needs
+
+mul-words-2 : tie.Need-mul-words-2
+mul-words-2 c = search needs
+
+slice-write-words : tie.Need-slice-write-words
+slice-write-words c = search needs
+
+mul-words-3 : tie.Need-mul-words-3
+mul-words-3 c = search needs
+
+add-words : tie.Need-add-words
+add-words c = search needs
+
+mul-words-4 : tie.Need-mul-words-4
+mul-words-4 c = search needs
+
+slice-write-words-2 : tie.Need-slice-write-words-2
+slice-write-words-2 c = simp length-set (omega arith)
+
+same-length : tie.Need-same-length
+same-length c = search needs
+
+returns : tie.Need-returns
+returns c = one-more (c .args .words .now) (c .args .count) (c .args .row .positive) (c .args .row .negative) (c .pre)
+
+pub add-spec : {M : Type 1} → statement M
+add-spec =
+    tie.close
+    (tie.spec
+    mul-words
+    mul-words-2
+    slice-write-words
+    mul-words-3
+    add-words
+    mul-words-4
+    slice-write-words-2
+    same-length
+    returns)

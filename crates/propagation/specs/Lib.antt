@@ -1,0 +1,3 @@
+pub mod Propagation
+pub mod Orders
+pub mod Passes

@@ -1,0 +1,5 @@
+pub mod LowRows
+pub mod TruthLaws
+pub mod RuleLaws
+pub mod FreeVariables
+pub mod Agreement
