@@ -1,10 +1,13 @@
--- Small texts against the rows (1 2), (1 -2), (-1 2) and (-1 -2), computed: 0, 18, 19 or 20.
+-- Small texts against the rows (1 2), (1 -2), (-1 2) and (-1 -2), computed: 0, 18, 19 or 20. And what an accepted one shows of these rows.
 use mathlib.Core.Path.{_≡_, refl}
+use mathlib.Core.Bool.{Bool, false}
 use mathlib.Core.List.{List, [], _∷_}
 use Prim.Native.Nat.{ℕ}
 use Prim.Native.String.{String}
 use Rattle.refusals.specs.Numbers.{codeOf}
 use Rattle.refusals.specs.Checks.{outcome}
+use Rattle.refusals.specs.declared.Outcome.the-variants.{Taken}
+use Rattle.words.specs.declared.Row.{Row}
 use Rattle.words.specs.Sets.{bit, put, any, count, lowest}
 use Rattle.lexer.specs.Spelling.{bytes}
 use Rattle.lexer.specs.Bytes.{run}
@@ -16,10 +19,12 @@ use Rattle.tables.specs.Tables.{Tables, allTables}
 use Rattle.tables.specs.Rows.{padding, satisfied, freeLiterals}
 use Rattle.tables.specs.Acceptance.{allBelow}
 use Rattle.scan.specs.Rules.{anyRow, unsatisfiedWith, forcedVariable, forcedTrue}
+use Rattle.truth.specs.Truth.{allTrue}
 use Rattle.propagation.specs.Propagation.{reaches, follows}
 use Rattle.drat_line.specs.Lines.{hasBreak, clauseOf, lineOf}
 use Rattle.drat.specs.Proofs.{without, allFollow, addsEmpty, additions}
 use Rattle.drat.specs.Text.{linesOf, proofOf, proofChecks}
+use Rattle.drat.proofs.Refutation.{accepted-none}
 
 -- two left rows, one right and one public
 abbrev sizes : Dimensions
@@ -75,3 +80,12 @@ no-line = refl
 no-empty : code "1 0\nd 1 0\n" ≡ 20
 unfolding code
 no-empty = refl
+
+-- no assignment makes the four rows true, by the theorem on accepted texts
+abbrev row : ℕ → ℕ → Row
+row p q = record { positive = p; negative = q }
+
+four-rows : (a : ℕ → Bool) → allTrue a (row 3 0 ∷ (row 1 2 ∷ (row 2 1 ∷ (row 0 3 ∷ [])))) ≡ false
+unfolding proofOf linesOf lineOf clauseOf hasBreak clauses partsFrom cut notEmpty run numberRead decimalOf digitsAfter put additions allFollow addsEmpty without
+    follows reaches padding satisfied freeLiterals unsatisfiedWith anyRow forcedVariable forcedTrue any count lowest bit allBelow
+four-rows = accepted-none sizes tables (bytes "1 0\n0\n") refl

@@ -5,4 +5,5 @@ pub mod LinesRead
 pub mod Whole
 pub mod Entry
 pub mod Refutation
+pub mod Consequences
 pub mod Examples

@@ -28,9 +28,9 @@ read-none rows (some ls) h a = taken-none rows ls h a
 module _ (d : Dimensions) (tables : Tables) (text : List ℕ) where
   -- an accepted proof: no assignment makes all rows of the tables true
   pub accepted-none : outcome (proofChecks d tables text) ≡ Taken → (a : ℕ → Bool) → allTrue a (rowsOf d tables) ≡ false
-  accepted-none h =
-      read-none (rowsOf d tables) (proofOf (d .n) text)
-      (outcome-parts (tableChecks d tables) (readChecks (rowsOf d tables) (proofOf (d .n) text)) h .1)
+  accepted-none h a =
+      let taken = outcome-parts (tableChecks d tables) (readChecks (rowsOf d tables) (proofOf (d .n) text)) h .1 in
+      read-none (rowsOf d tables) (proofOf (d .n) text) taken a
 
   -- a text of at most 65,536 bytes whose lines are all well-formed, with at most 256 additions, is accepted if all that is added up to the empty clause follows
   -- and the empty clause is added

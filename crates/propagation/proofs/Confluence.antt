@@ -106,3 +106,17 @@ module _ (rows : List Row) where
 pub rows-alike : (rows rows′ : List Row) → ((r : Row) → In r rows → In r rows′) → {t f : ℕ} → Reachable rows t f → Reachable rows′ t f
 rows-alike rows rows′ inc (conflict r m e) = conflict r (inc r m) e
 rows-alike rows rows′ inc (force r v m c w next) = force r v (inc r m) c w (rows-alike rows rows′ inc next)
+
+-- a clause that follows goes on to follow when rows are added, wherever they are put
+pub more-rows-follow : (rows rows′ : List Row) → ((r : Row) → In r rows → In r rows′) → (c : Row) → follows rows c ≡ true → follows rows′ c ≡ true
+unfolding follows
+more-rows-follow rows rows′ inc c h =
+    on (padding 32 c) (λ q. rw q) (λ q. reachable-follows rows′ c (rows-alike rows rows′ inc (follows-reachable rows c q h)))
+
+-- what follows depends on which rows there are, and not on their order or number
+pub same-rows-follow : (rows rows′ : List Row) → ((r : Row) → In r rows → In r rows′) → ((r : Row) → In r rows′ → In r rows)
+    → (c : Row) → follows rows c ≡ follows rows′ c
+same-rows-follow rows rows′ inc inc′ c =
+    on (follows rows c)
+    (λ h. h ∙ sym (more-rows-follow rows rows′ inc c h))
+    (λ h. on (follows rows′ c) (λ h′. absurd (true≢false (sym (more-rows-follow rows′ rows inc′ c h′) ∙ h))) (λ h′. h ∙ sym h′))
