@@ -89,6 +89,7 @@ module _ (n : ℕ) (rows : ℕ → List Row) (budget : ℕ) (answer : Answer) (h
       → (model : ℕ) × (answer .verdict ≡ Satisfiable model) × (allTrue (bit model) (atEnd rows answer) ≡ true)
   enough-satisfiable h = found (holds .bound-n h)
 
+  -- and where no assignment makes every row true, it says unsatisfiable
   pub enough-unsatisfiable : 2 ^ suc n - 1 ≤ budget → ((a : ℕ → Bool) → allTrue a (atEnd rows answer) ≡ false) → answer .verdict ≡ Unsatisfiable
   enough-unsatisfiable h = none (holds .bound-n h)
 

@@ -23,8 +23,8 @@ use Rattle.solver.specs.Entries.{answerOf}
 use Rattle.demand2.proofs.Demand2.{demand2}
 use Rattle.demand2.proofs.Consequences.{enough-unsatisfiable}
 use Rattle.propagation.specs.Propagation.{follows}
-use Rattle.drat.specs.Proofs.{Line, added, deleted, isEmpty, without, allFollow, addsEmpty, additions}
-use Rattle.drat.specs.Text.{linesOf, proofOf, readChecks, proofChecks}
+use Rattle.drat.specs.Proofs.{ProofLine, added, deleted, isEmpty, without, allFollow, addsEmpty, additions}
+use Rattle.drat.specs.Text.{proofLines, proofOf, proofTextChecks, proofChecks}
 use Rattle.drat.proofs.Refutation.{accepted-none, all-accepted}
 
 module _ (d : Dimensions) (tables : Tables) where
@@ -40,19 +40,19 @@ module _ (d : Dimensions) (tables : Tables) where
     pub accepted-unsatisfiable : (budget : ℕ) → 2 ^ suc (d .n) - 1 ≤ budget
         → answerOf (d .n) (always (rowsOf d tables)) budget .verdict ≡ Unsatisfiable
     accepted-unsatisfiable budget enough =
-        let accepted = outcome-parts (tableChecks d tables) (readChecks (rowsOf d tables) (proofOf (d .n) text)) h .0 in
+        let accepted = outcome-parts (tableChecks d tables) (proofTextChecks (rowsOf d tables) (proofOf (d .n) text)) h .0 in
         enough-unsatisfiable (d .n) (always (rowsOf d tables)) budget (answerOf (d .n) (always (rowsOf d tables)) budget)
         (demand2 d tables budget accepted) enough (accepted-none d tables text h)
 
   -- ---- lines behind the empty clause
 
-  adds-behind : (front more : List Line) → addsEmpty front ≡ true → addsEmpty (front ++ more) ≡ true
+  adds-behind : (front more : List ProofLine) → addsEmpty front ≡ true → addsEmpty (front ++ more) ≡ true
   unfolding addsEmpty
   adds-behind [] more e = absurd (false≢true e)
   adds-behind (added c ∷ ls) more e = on (isEmpty c) (λ z. rw z) (λ z. rw z (adds-behind ls more (rw z at e)))
   adds-behind (deleted c ∷ ls) more e = adds-behind ls more e
 
-  follow-behind : (front more : List Line) (rows : List Row) → addsEmpty front ≡ true → allFollow rows front ≡ true
+  follow-behind : (front more : List ProofLine) (rows : List Row) → addsEmpty front ≡ true → allFollow rows front ≡ true
       → allFollow rows (front ++ more) ≡ true
   unfolding addsEmpty allFollow
   follow-behind [] more rows e f = absurd (false≢true e)
@@ -65,7 +65,7 @@ module _ (d : Dimensions) (tables : Tables) where
 
   -- lines behind the empty clause are read for form only: with any well-formed ones there, up to 256 additions in all, a proof is accepted
   pub behind-accepted : outcome (tableChecks d tables) ≡ Taken → (text : List ℕ) → length text ≤ 65536
-      → (front more : List Line) → linesOf (d .n) (linesFrom text 0) ≡ some (front ++ more) → additions (front ++ more) ≤ 256
+      → (front more : List ProofLine) → proofLines (d .n) (linesFrom text 0) ≡ some (front ++ more) → additions (front ++ more) ≤ 256
       → allFollow (rowsOf d tables) front ≡ true → addsEmpty front ≡ true → outcome (proofChecks d tables text) ≡ Taken
   behind-accepted taken text short front more read few follow empty =
       all-accepted d tables text taken short (front ++ more) read few (follow-behind front more (rowsOf d tables) empty follow)

@@ -17,7 +17,7 @@ use Rattle.dimensions.specs.declared.Dimensions.{Dimensions}
 use Rattle.tables.specs.Tables.{Tables}
 use Rattle.tables.specs.Rows.{rowsFrom, rowsOf}
 use Rattle.tables.specs.Acceptance.{tableChecks}
-use Rattle.drat.specs.Text.{linesOf, fewAdditions, proofOf, readChecks, proofChecks}
+use Rattle.drat.specs.Text.{proofLines, fewAdditions, proofOf, proofTextChecks, proofChecks}
 
 -- the tables' rows, one table behind the other
 pub all-rows : (d : Dimensions) (tables : Tables) (none x y z : List Row) → none ≡ rowsFrom (tables .left) 0 0
@@ -32,19 +32,19 @@ all-rows d tables none x y z e₀ e₁ e₂ e₃ =
 module _ (d : Dimensions) (tables : Tables) (text : List ℕ) where
   -- what the tables are refused with, the proof is refused with
   pub tables-refused : (q : Refusal) → outcome (tableChecks d tables) ≡ Refused q → Refused q ≡ outcome (proofChecks d tables text)
-  tables-refused q e = sym (outcome-refused (tableChecks d tables) (readChecks (rowsOf d tables) (proofOf (d .n) text)) q e)
+  tables-refused q e = sym (outcome-refused (tableChecks d tables) (proofTextChecks (rowsOf d tables) (proofOf (d .n) text)) q e)
 
   module _ (taken : outcome (tableChecks d tables) ≡ Taken) where
-    rest : outcome (proofChecks d tables text) ≡ outcome (readChecks (rowsOf d tables) (proofOf (d .n) text))
-    rest = outcome-taken (tableChecks d tables) (readChecks (rowsOf d tables) (proofOf (d .n) text)) taken
+    rest : outcome (proofChecks d tables text) ≡ outcome (proofTextChecks (rowsOf d tables) (proofOf (d .n) text))
+    rest = outcome-taken (tableChecks d tables) (proofTextChecks (rowsOf d tables) (proofOf (d .n) text)) taken
 
     pub overlong : 65536 < length text → Refused ProofText ≡ outcome (proofChecks d tables text)
     unfolding proofOf
     overlong h = sym (rest ∙ rw (lt-ltb 65536 (length text) h))
 
     pub lines-checked : length text ≤ 65536 → (rows : List Row) → rows ≡ rowsOf d tables → (r : Outcome)
-        → r ≡ outcome (readChecks rows (fewAdditions (linesOf (d .n) (linesFrom text 0)))) → r ≡ outcome (proofChecks d tables text)
+        → r ≡ outcome (proofTextChecks rows (fewAdditions (proofLines (d .n) (linesFrom text 0)))) → r ≡ outcome (proofChecks d tables text)
     unfolding proofOf
     lines-checked h rows e r q =
-        q ∙ ap (λ (rs : List Row). outcome (readChecks rs (fewAdditions (linesOf (d .n) (linesFrom text 0))))) e
+        q ∙ ap (λ (rs : List Row). outcome (proofTextChecks rs (fewAdditions (proofLines (d .n) (linesFrom text 0))))) e
         ∙ sym (rest ∙ rw (le-ltb 65536 (length text) h))

@@ -21,9 +21,9 @@ use Rattle.tables.specs.Acceptance.{allBelow}
 use Rattle.scan.specs.Rules.{anyRow, unsatisfiedWith, forcedVariable, forcedTrue}
 use Rattle.truth.specs.Truth.{allTrue}
 use Rattle.propagation.specs.Propagation.{reaches, follows}
-use Rattle.drat_line.specs.Lines.{hasBreak, clauseOf, lineOf}
+use Rattle.drat_line.specs.Lines.{hasBreak, clauseIn, lineSaid}
 use Rattle.drat.specs.Proofs.{without, allFollow, addsEmpty, additions}
-use Rattle.drat.specs.Text.{linesOf, proofOf, proofChecks}
+use Rattle.drat.specs.Text.{proofLines, proofOf, proofChecks}
 use Rattle.drat.proofs.Refutation.{accepted-none}
 
 -- two left rows, one right and one public
@@ -34,8 +34,8 @@ abbrev tables : Tables
 tables = allTables (3 ∷ (0 ∷ (1 ∷ (2 ∷ [])))) (2 ∷ (1 ∷ [])) (0 ∷ (3 ∷ []))
 
 code : String → ℕ
-unfolding proofOf linesOf lineOf clauseOf hasBreak clauses partsFrom cut notEmpty run numberRead decimalOf digitsAfter put additions allFollow addsEmpty without
-    follows reaches padding satisfied freeLiterals unsatisfiedWith anyRow forcedVariable forcedTrue any count lowest bit allBelow
+unfolding proofOf proofLines lineSaid clauseIn hasBreak clauses partsFrom cut notEmpty run numberRead decimalOf digitsAfter put additions allFollow addsEmpty
+    without follows reaches padding satisfied freeLiterals unsatisfiedWith anyRow forcedVariable forcedTrue any count lowest bit allBelow
 code text = codeOf (outcome (proofChecks sizes tables (bytes text)))
 
 -- 1 follows, since its negation forces 2 and then leaves a row in conflict; and then so does the empty clause
@@ -86,6 +86,6 @@ abbrev row : ℕ → ℕ → Row
 row p q = record { positive = p; negative = q }
 
 four-rows : (a : ℕ → Bool) → allTrue a (row 3 0 ∷ (row 1 2 ∷ (row 2 1 ∷ (row 0 3 ∷ [])))) ≡ false
-unfolding proofOf linesOf lineOf clauseOf hasBreak clauses partsFrom cut notEmpty run numberRead decimalOf digitsAfter put additions allFollow addsEmpty without
-    follows reaches padding satisfied freeLiterals unsatisfiedWith anyRow forcedVariable forcedTrue any count lowest bit allBelow
+unfolding proofOf proofLines lineSaid clauseIn hasBreak clauses partsFrom cut notEmpty run numberRead decimalOf digitsAfter put additions allFollow addsEmpty
+    without follows reaches padding satisfied freeLiterals unsatisfiedWith anyRow forcedVariable forcedTrue any count lowest bit allBelow
 four-rows = accepted-none sizes tables (bytes "1 0\n0\n") refl

@@ -13,12 +13,12 @@ use Rattle.refusals.specs.declared.Outcome.{Outcome}
 use Rattle.refusals.specs.declared.Outcome.the-variants.{Refused}
 use Rattle.words.specs.declared.Row.{Row}
 use Rattle.drat.specs.declared.rup.Progress.{Progress}
-use Rattle.drat.specs.Proofs.{Line, added, deleted, additions}
+use Rattle.drat.specs.Proofs.{ProofLine, added, deleted, additions}
 use Rattle.drat.specs.Progress.{outcomeWith, Takes}
 use Rattle.drat_line.specs.declared.Said.{Said}
 use Rattle.drat_line.specs.declared.Said.the-variants.{Nothing, Added, Deleted, Malformed}
 use Rattle.drat.specs.declared.Checker.{Checker}
-use Rattle.drat.specs.Text.{joined}
+use Rattle.drat.specs.Text.{lineBefore}
 use Rattle.drat.specs.Checking.{ending, Reads, Room}
 
 pub reads-nothing : (checker : Checker) (w : List ℕ) → Reads Nothing checker w checker w
@@ -80,4 +80,4 @@ module _ (checker : Checker) (w : List ℕ) (r : Room checker w) where
 
 pub reads-as : (s t : Said) (checker : Checker) (w : List ℕ) (checker′ : Checker) (y : List ℕ) → s ≡ t → Reads t checker w checker′ y
     → Reads s checker w checker′ y
-reads-as s t checker w checker′ y e h rest = h rest ∙ ap (λ (x : Said). ending checker w (joined x rest)) (sym e)
+reads-as s t checker w checker′ y e h rest = h rest ∙ ap (λ (x : Said). ending checker w (lineBefore x rest)) (sym e)

@@ -19,7 +19,7 @@ use Rattle.propagation.specs.Propagation.{follows}
 use Rattle.drat.specs.declared.rup.Stage.{Stage}
 use Rattle.drat.specs.declared.rup.Stage.the-variants.{Checking, Accepted, Failed}
 use Rattle.drat.specs.declared.rup.Progress.{Progress}
-use Rattle.drat.specs.Proofs.{Line, added, deleted, isEmpty, without, allFollow, addsEmpty, lineChecks}
+use Rattle.drat.specs.Proofs.{ProofLine, added, deleted, isEmpty, without, allFollow, addsEmpty, additionChecks}
 use Rattle.drat.specs.Progress.{outcomeAt, Takes}
 
 -- a proof that is being checked, over so many rows
@@ -28,16 +28,16 @@ checking k = record { count = k; stage = Checking }
 
 -- ---- a clause added
 
-module _ (rows : List Row) (c : Row) (ls : List Line) where
-  outcome-failed : follows rows c ≡ false → outcome (lineChecks rows (added c ∷ ls)) ≡ Refused NotFollowing
+module _ (rows : List Row) (c : Row) (ls : List ProofLine) where
+  outcome-failed : follows rows c ≡ false → outcome (additionChecks rows (added c ∷ ls)) ≡ Refused NotFollowing
   unfolding allFollow
   outcome-failed e = rw e
 
-  outcome-empty : follows rows c ≡ true → isEmpty c ≡ true → outcome (lineChecks rows (added c ∷ ls)) ≡ Taken
+  outcome-empty : follows rows c ≡ true → isEmpty c ≡ true → outcome (additionChecks rows (added c ∷ ls)) ≡ Taken
   unfolding allFollow addsEmpty
   outcome-empty e z = rw (e, z)
 
-  outcome-added : follows rows c ≡ true → isEmpty c ≡ false → outcome (lineChecks rows (added c ∷ ls)) ≡ outcome (lineChecks (rows ++ (c ∷ [])) ls)
+  outcome-added : follows rows c ≡ true → isEmpty c ≡ false → outcome (additionChecks rows (added c ∷ ls)) ≡ outcome (additionChecks (rows ++ (c ∷ [])) ls)
   unfolding allFollow addsEmpty
   outcome-added e z = rw (e, z)
 
@@ -57,7 +57,7 @@ module _ (w : List ℕ) (k : ℕ) (c : Row) (h : 2 * k ≤ length w) (x : Bool) 
   pub takes-added : x ≡ true → (bitOr (c .positive) (c .negative) ≡ 0 → ⊥)
       → (y : List ℕ) → rowsFrom y 0 (k + 1) ≡ rowsFrom w 0 k ++ (c ∷ []) → Takes (added c) (checking k) w (checking (k + 1)) y
   takes-added q z y r ls =
-      ap (λ (rows : List Row). outcome (lineChecks rows ls)) r
+      ap (λ (rows : List Row). outcome (additionChecks rows ls)) r
       ∙ sym (outcome-added (rowsFrom w 0 k) c ls (sym e ∙ q) (sym (or-zero (c .positive) (c .negative)) ∙ ne-eqb _ 0 z))
 
 -- ---- a clause deleted
@@ -69,17 +69,17 @@ unfolding allFollow addsEmpty
 takes-deleted p w y left c e ls = go (p .stage) (rowsFrom w 0 (p .count)) (rowsFrom y 0 left) e
   where
     go : (s : Stage) (rows rows′ : List Row) → rows′ ≡ without c rows → outcomeAt s rows′ ls ≡ outcomeAt s rows (deleted c ∷ ls)
-    go Checking rows rows′ q = ap (λ (rs : List Row). outcome (lineChecks rs ls)) q
+    go Checking rows rows′ q = ap (λ (rs : List Row). outcome (additionChecks rs ls)) q
     go Accepted rows rows′ q = refl
     go Failed rows rows′ q = refl
 
 -- ---- how far the proof has come
 
-module _ (l : Line) (p : Progress) (w : List ℕ) where
+module _ (l : ProofLine) (p : Progress) (w : List ℕ) where
   pub takes-checking : (q : Progress) (y : List ℕ) → p .stage ≡ Checking → Takes l (checking (p .count)) w q y → Takes l p w q y
   takes-checking q y e h ls = h ls ∙ ap (λ (s : Stage). outcomeAt s (rowsFrom w 0 (p .count)) (l ∷ ls)) (sym e)
 
-  kept : (s : Stage) → p .stage ≡ s → ((rows : List Row) (ls : List Line) → outcomeAt s rows ls ≡ outcomeAt s rows (l ∷ ls)) → Takes l p w p w
+  kept : (s : Stage) → p .stage ≡ s → ((rows : List Row) (ls : List ProofLine) → outcomeAt s rows ls ≡ outcomeAt s rows (l ∷ ls)) → Takes l p w p w
   kept s e h ls =
       ap (λ (s : Stage). outcomeAt s (rowsFrom w 0 (p .count)) ls) e
       ∙ h (rowsFrom w 0 (p .count)) ls

@@ -17,11 +17,11 @@ use Rattle.tables.specs.Tables.{Tables}
 use Rattle.tables.specs.Rows.{rowsOf}
 use Rattle.tables.specs.Acceptance.{tableChecks}
 use Rattle.truth.specs.Truth.{allTrue}
-use Rattle.drat.specs.Proofs.{Line, allFollow, addsEmpty, additions, lineChecks}
-use Rattle.drat.specs.Text.{linesOf, fewAdditions, proofOf, readChecks, proofChecks}
+use Rattle.drat.specs.Proofs.{ProofLine, allFollow, addsEmpty, additions, additionChecks}
+use Rattle.drat.specs.Text.{proofLines, fewAdditions, proofOf, proofTextChecks, proofChecks}
 use Rattle.drat.proofs.Soundness.{taken-none}
 
-read-none : (rows : List Row) (proof : Option (List Line)) → outcome (readChecks rows proof) ≡ Taken → (a : ℕ → Bool) → allTrue a rows ≡ false
+read-none : (rows : List Row) (proof : Option (List ProofLine)) → outcome (proofTextChecks rows proof) ≡ Taken → (a : ℕ → Bool) → allTrue a rows ≡ false
 read-none rows none h a = absurd (refused-taken h)
 read-none rows (some ls) h a = taken-none rows ls h a
 
@@ -29,15 +29,15 @@ module _ (d : Dimensions) (tables : Tables) (text : List ℕ) where
   -- an accepted proof: no assignment makes all rows of the tables true
   pub accepted-none : outcome (proofChecks d tables text) ≡ Taken → (a : ℕ → Bool) → allTrue a (rowsOf d tables) ≡ false
   accepted-none h a =
-      let taken = outcome-parts (tableChecks d tables) (readChecks (rowsOf d tables) (proofOf (d .n) text)) h .1 in
+      let taken = outcome-parts (tableChecks d tables) (proofTextChecks (rowsOf d tables) (proofOf (d .n) text)) h .1 in
       read-none (rowsOf d tables) (proofOf (d .n) text) taken a
 
   -- a text of at most 65,536 bytes whose lines are all well-formed, with at most 256 additions, is accepted if all that is added up to the empty clause follows
   -- and the empty clause is added
   pub all-accepted : outcome (tableChecks d tables) ≡ Taken → length text ≤ 65536
-      → (ls : List Line) → linesOf (d .n) (linesFrom text 0) ≡ some ls → additions ls ≤ 256
+      → (ls : List ProofLine) → proofLines (d .n) (linesFrom text 0) ≡ some ls → additions ls ≤ 256
       → allFollow (rowsOf d tables) ls ≡ true → addsEmpty ls ≡ true → outcome (proofChecks d tables text) ≡ Taken
   unfolding proofOf
   all-accepted taken short ls read few follow empty =
-      outcome-taken (tableChecks d tables) (readChecks (rowsOf d tables) (proofOf (d .n) text)) taken
+      outcome-taken (tableChecks d tables) (proofTextChecks (rowsOf d tables) (proofOf (d .n) text)) taken
       ∙ rw (le-ltb 65536 (length text) short) (rw read (rw (le-ltb 256 (additions ls) few) (rw (follow, empty) refl)))

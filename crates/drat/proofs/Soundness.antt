@@ -21,7 +21,7 @@ use Rattle.truth.specs.Truth.{rowTrue, allTrue}
 use Rattle.truth.proofs.TruthLaws.{literal}
 use Rattle.propagation.specs.Propagation.{follows}
 use Rattle.propagation.proofs.Soundness.{follows-true}
-use Rattle.drat.specs.Proofs.{Line, added, deleted, sameRow, isEmpty, without, allFollow, addsEmpty, lineChecks}
+use Rattle.drat.specs.Proofs.{ProofLine, added, deleted, sameRow, isEmpty, without, allFollow, addsEmpty, additionChecks}
 
 module _ (a : ℕ → Bool) where
   without-true : (c : Row) (rows : List Row) → allTrue a rows ≡ true → allTrue a (without c rows) ≡ true
@@ -47,7 +47,7 @@ module _ (a : ℕ → Bool) where
       let q = eqb-true _ 0 (and-r (eqb (c .positive) 0) _ h) in
       true≢false (sym (x .2) ∙ no-literals (c .positive) (c .negative) p q (x .0))
 
-  refuted : (ls : List Line) (rows : List Row) → allTrue a rows ≡ true → allFollow rows ls ≡ true → addsEmpty ls ≡ true → ⊥
+  refuted : (ls : List ProofLine) (rows : List Row) → allTrue a rows ≡ true → allFollow rows ls ≡ true → addsEmpty ls ≡ true → ⊥
   unfolding allFollow addsEmpty
   refuted [] rows e f h = false≢true h
   refuted (added c ∷ ls) rows e f h =
@@ -58,7 +58,7 @@ module _ (a : ℕ → Bool) where
   refuted (deleted c ∷ ls) rows e f h = refuted ls (without c rows) (without-true c rows e) f h
 
 -- a proof that is taken: no assignment makes all rows true
-pub taken-none : (rows : List Row) (ls : List Line) → outcome (lineChecks rows ls) ≡ Taken → (a : ℕ → Bool) → allTrue a rows ≡ false
+pub taken-none : (rows : List Row) (ls : List ProofLine) → outcome (additionChecks rows ls) ≡ Taken → (a : ℕ → Bool) → allTrue a rows ≡ false
 taken-none rows ls h a =
     let f = not-false _ (check-passed (not (allFollow rows ls)) NotFollowing _ h) in
     let e = not-false _ (check-passed (not (addsEmpty ls)) NoEmptyClause _ (checks-taken (not (allFollow rows ls)) NotFollowing _ h)) in

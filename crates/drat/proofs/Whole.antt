@@ -22,13 +22,13 @@ use Rattle.lexer.specs.Pieces.{cut, linesFrom}
 use Rattle.lexer.proofs.Cuts.{later, cut-first}
 use Rattle.lexer.proofs.Runs.{end-le}
 use Rattle.tables.specs.Rows.{rowsFrom}
-use Rattle.drat_line.specs.Lines.{lineOf}
+use Rattle.drat_line.specs.Lines.{lineSaid}
 use Rattle.drat.specs.declared.rup.Stage.{Stage}
 use Rattle.drat.specs.declared.rup.Stage.the-variants.{Checking, Accepted, Failed}
 use Rattle.drat.specs.declared.Checker.{Checker}
-use Rattle.drat.specs.Proofs.{Line, allFollow, addsEmpty, additions}
+use Rattle.drat.specs.Proofs.{ProofLine, allFollow, addsEmpty, additions}
 use Rattle.drat.specs.Progress.{outcomeAt}
-use Rattle.drat.specs.Text.{joined, linesOf, fewAdditions, readChecks}
+use Rattle.drat.specs.Text.{lineBefore, proofLines, fewAdditions, proofTextChecks}
 use Rattle.drat.specs.Checking.{ending, Reads, Room, Ends}
 
 abbrev pub inLine : ℕ → Bool
@@ -36,43 +36,43 @@ inLine b = not (isLineFeed b)
 
 module _ (n : ℕ) (text : List ℕ) where
   -- past the end there is an empty line, which says nothing
-  past : (i : ℕ) → length text < i → linesOf n (linesFrom text i) ≡ some []
-  unfolding linesOf lineOf cut runEnd run
+  past : (i : ℕ) → length text < i → proofLines n (linesFrom text i) ≡ some []
+  unfolding proofLines lineSaid cut runEnd run
   past i h = rw (drop-of-length-le text (let z : length text ≤ i = omega arith in z))
 
-  no-lines : linesOf n [] ≡ some []
-  unfolding linesOf
+  no-lines : proofLines n [] ≡ some []
+  unfolding proofLines
   no-lines = refl
 
-  behind-line : (i : ℕ) → linesOf n (later isLineFeed i (drop i text)) ≡ linesOf n (linesFrom text (i + 1))
+  behind-line : (i : ℕ) → proofLines n (later isLineFeed i (drop i text)) ≡ proofLines n (linesFrom text (i + 1))
   behind-line i =
       on (ltb i (length text))
       (λ e. rw (drop-cons text i 0 (ltb-true i (length text) e), add-one))
       (λ e. let h = ltb-false i (length text) e in
-      ap (λ (l : List ℕ). linesOf n (later isLineFeed i l)) (drop-of-length-le text h) ∙ no-lines ∙ sym (past (i + 1) (omega arith)))
+      ap (λ (l : List ℕ). proofLines n (later isLineFeed i l)) (drop-of-length-le text h) ∙ no-lines ∙ sym (past (i + 1) (omega arith)))
 
   first-line : (at k : ℕ) → k ≡ run inLine (drop at text)
-      → linesOf n (linesFrom text at) ≡ joined (lineOf n (take k (drop at text))) (linesOf n (later isLineFeed (at + k) (drop (at + k) text)))
-  unfolding linesOf
+      → proofLines n (linesFrom text at) ≡ lineBefore (lineSaid n (take k (drop at text))) (proofLines n (later isLineFeed (at + k) (drop (at + k) text)))
+  unfolding proofLines
   first-line at k e =
-      ap (linesOf n) (cut-first isLineFeed at (drop at text))
-      ∙ ap (λ (j : ℕ). joined (lineOf n (take j (drop at text))) (linesOf n (later isLineFeed (at + j) (drop j (drop at text))))) (sym e)
-      ∙ ap (λ (l : List ℕ). joined (lineOf n (take k (drop at text))) (linesOf n (later isLineFeed (at + k) l))) (drop-drop k at text)
+      ap (proofLines n) (cut-first isLineFeed at (drop at text))
+      ∙ ap (λ (j : ℕ). lineBefore (lineSaid n (take j (drop at text))) (proofLines n (later isLineFeed (at + j) (drop j (drop at text))))) (sym e)
+      ∙ ap (λ (l : List ℕ). lineBefore (lineSaid n (take k (drop at text))) (proofLines n (later isLineFeed (at + k) l))) (drop-drop k at text)
 
   -- a line, and the lines behind it
   line-step : (at end : ℕ) → end ≡ runEnd inLine text at
-      → linesOf n (linesFrom text at) ≡ joined (lineOf n (take (end - at) (drop at text))) (linesOf n (linesFrom text (end + 1)))
+      → proofLines n (linesFrom text at) ≡ lineBefore (lineSaid n (take (end - at) (drop at text))) (proofLines n (linesFrom text (end + 1)))
   unfolding runEnd
   line-step at end e =
       let z : at + (end - at) + 1 ≡ end + 1 = omega (arith, e) in
       first-line at (end - at) (omega (arith, e))
-      ∙ ap (joined (lineOf n (take (end - at) (drop at text)))) (behind-line (at + (end - at)) ∙ ap (λ (j : ℕ). linesOf n (linesFrom text j)) z)
+      ∙ ap (lineBefore (lineSaid n (take (end - at) (drop at text)))) (behind-line (at + (end - at)) ∙ ap (λ (j : ℕ). proofLines n (linesFrom text j)) z)
 
 -- ---- start and end
 
-start-is : (w : List ℕ) (count : ℕ) (x : Option (List Line))
+start-is : (w : List ℕ) (count : ℕ) (x : Option (List ProofLine))
     → ending (record { progress = record { count = count; stage = Checking }; additions = 0; malformed = false }) w x
-    ≡ outcome (readChecks (rowsFrom w 0 count) (fewAdditions x))
+    ≡ outcome (proofTextChecks (rowsFrom w 0 count) (fewAdditions x))
 start-is w count none = refl
 start-is w count (some ls) =
     let e : 0 + additions ls ≡ additions ls = omega arith in
@@ -111,12 +111,12 @@ module _ (checker : Checker) (few : checker .additions ≤ 256) (h : checker .ma
 -- ---- a line taken
 
 line-taken : (n : ℕ) (text : List ℕ) (at end : ℕ) (checker : Checker) (w : List ℕ) (checker′ : Checker) (y : List ℕ) → end ≡ runEnd inLine text at
-    → Reads (lineOf n (take (end - at) (drop at text))) checker w checker′ y
-    → ending checker′ y (linesOf n (linesFrom text (end + 1))) ≡ ending checker w (linesOf n (linesFrom text at))
-line-taken n text at end checker w checker′ y e h = h (linesOf n (linesFrom text (end + 1))) ∙ ap (ending checker w) (sym (line-step n text at end e))
+    → Reads (lineSaid n (take (end - at) (drop at text))) checker w checker′ y
+    → ending checker′ y (proofLines n (linesFrom text (end + 1))) ≡ ending checker w (proofLines n (linesFrom text at))
+line-taken n text at end checker w checker′ y e h = h (proofLines n (linesFrom text (end + 1))) ∙ ap (ending checker w) (sym (line-step n text at end e))
 
 all-taken : (n : ℕ) (text : List ℕ) (at : ℕ) (checker : Checker) (w : List ℕ) (r : Outcome) → length text < at → Ends checker r
-    → r ≡ ending checker w (linesOf n (linesFrom text at))
+    → r ≡ ending checker w (proofLines n (linesFrom text at))
 all-taken n text at checker w r h e = e w ∙ ap (ending checker w) (sym (past n text at h))
 
 -- ---- the loop
@@ -126,7 +126,8 @@ pub record Reading (n : ℕ) (text : List ℕ) (count : ℕ) (w₀ : List ℕ) (
   pub room : Room checker w
   pub same-length : length w ≡ length w₀
   pub within : at ≤ length text + 1
-  pub left : ending checker w (linesOf n (linesFrom text at)) ≡ outcome (readChecks (rowsFrom w₀ 0 count) (fewAdditions (linesOf n (linesFrom text 0))))
+  pub left : ending checker w (proofLines n (linesFrom text at))
+      ≡ outcome (proofTextChecks (rowsFrom w₀ 0 count) (fewAdditions (proofLines n (linesFrom text 0))))
 
 pub reading-start : (n : ℕ) (text : List ℕ) (count : ℕ) (w : List ℕ) → count ≤ 384 → 1280 ≤ length w
     → Reading n text count w (record { progress = record { count = count; stage = Checking }; additions = 0; malformed = false }) w 0
@@ -134,12 +135,12 @@ reading-start n text count w few space = record {
   room = record { few = omega arith; rows = omega arith; space = space };
   same-length = refl;
   within = omega arith;
-  left = start-is w count (linesOf n (linesFrom text 0));
+  left = start-is w count (proofLines n (linesFrom text 0));
 }
 
 module _ (n : ℕ) (text : List ℕ) (count : ℕ) (w₀ : List ℕ) (checker : Checker) (w : List ℕ) (at : ℕ) (R : Reading n text count w₀ checker w at) where
   pub reading-more : (end : ℕ) (checker′ : Checker) (y : List ℕ) → at ≤ length text → end ≡ runEnd inLine text at → length y ≡ length w → Room checker′ y
-      → Reads (lineOf n (take (end - at) (drop at text))) checker w checker′ y → Reading n text count w₀ checker′ y (end + 1)
+      → Reads (lineSaid n (take (end - at) (drop at text))) checker w checker′ y → Reading n text count w₀ checker′ y (end + 1)
   reading-more end checker′ y h e same room reads = record {
     room = room;
     same-length = same ∙ R .same-length;
@@ -148,5 +149,5 @@ module _ (n : ℕ) (text : List ℕ) (count : ℕ) (w₀ : List ℕ) (checker : 
   }
 
   pub reading-end : (r : Outcome) → length text < at → Ends checker r
-      → r ≡ outcome (readChecks (rowsFrom w₀ 0 count) (fewAdditions (linesOf n (linesFrom text 0))))
+      → r ≡ outcome (proofTextChecks (rowsFrom w₀ 0 count) (fewAdditions (proofLines n (linesFrom text 0))))
   reading-end r h e = all-taken n text at checker w r h e ∙ R .left

@@ -11,18 +11,18 @@ use Rattle.tables.specs.Rows.{rowsFrom}
 use Rattle.drat.specs.declared.rup.Stage.{Stage}
 use Rattle.drat.specs.declared.rup.Stage.the-variants.{Checking, Accepted, Failed}
 use Rattle.drat.specs.declared.rup.Progress.{Progress}
-use Rattle.drat.specs.Proofs.{Line, lineChecks}
+use Rattle.drat.specs.Proofs.{ProofLine, additionChecks}
 
 -- what the rows present and the lines left come to; once it is decided, no line changes it
-abbrev pub outcomeAt : Stage → List Row → List Line → Outcome
-outcomeAt Checking rows ls = outcome (lineChecks rows ls)
+abbrev pub outcomeAt : Stage → List Row → List ProofLine → Outcome
+outcomeAt Checking rows ls = outcome (additionChecks rows ls)
 outcomeAt Accepted rows ls = Taken
 outcomeAt Failed rows ls = Refused NotFollowing
 
 -- the same for rows in front of words
-abbrev pub outcomeWith : Progress → List ℕ → List Line → Outcome
+abbrev pub outcomeWith : Progress → List ℕ → List ProofLine → Outcome
 outcomeWith p words ls = outcomeAt (p .stage) (rowsFrom words 0 (p .count)) ls
 
 -- a line is taken: whatever lines follow, the outcome is the same
-abbrev pub Takes : Line → Progress → List ℕ → Progress → List ℕ → Type 0
-Takes l p words q words′ = (ls : List Line) → outcomeWith q words′ ls ≡ outcomeWith p words (l ∷ ls)
+abbrev pub Takes : ProofLine → Progress → List ℕ → Progress → List ℕ → Type 0
+Takes l p words q words′ = (ls : List ProofLine) → outcomeWith q words′ ls ≡ outcomeWith p words (l ∷ ls)

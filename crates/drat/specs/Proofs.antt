@@ -9,9 +9,9 @@ use Rattle.words.specs.declared.Row.{Row}
 use Rattle.propagation.specs.Propagation.{follows}
 
 -- a line: a clause added or deleted
-pub data Line : Type 0 where
-  added : Row → Line
-  deleted : Row → Line
+pub data ProofLine : Type 0 where
+  added : Row → ProofLine
+  deleted : Row → ProofLine
 
 -- no literals
 abbrev pub isEmpty : Row → Bool
@@ -27,23 +27,23 @@ without c [] = []
 without c (r ∷ rs) = cond (sameRow c r) rs (r ∷ without c rs)
 
 -- each addition, up to the empty clause, follows from the rows present then; an added clause is a row from then on
-unfoldable pub allFollow : List Row → List Line → Bool
+unfoldable pub allFollow : List Row → List ProofLine → Bool
 allFollow rows [] = true
 allFollow rows (added c ∷ ls) = follows rows c && (isEmpty c || allFollow (rows ++ (c ∷ [])) ls)
 allFollow rows (deleted c ∷ ls) = allFollow (without c rows) ls
 
 -- the empty clause is added
-unfoldable pub addsEmpty : List Line → Bool
+unfoldable pub addsEmpty : List ProofLine → Bool
 addsEmpty [] = false
 addsEmpty (added c ∷ ls) = isEmpty c || addsEmpty ls
 addsEmpty (deleted c ∷ ls) = addsEmpty ls
 
 -- how many clauses are added, the empty one and those behind it too
-unfoldable pub additions : List Line → ℕ
+unfoldable pub additions : List ProofLine → ℕ
 additions [] = 0
 additions (added c ∷ ls) = suc (additions ls)
 additions (deleted c ∷ ls) = additions ls
 
 -- 19: an addition that does not follow, up to the empty clause; 20: no empty clause added
-abbrev pub lineChecks : List Row → List Line → List Check
-lineChecks rows ls = check (not (allFollow rows ls)) NotFollowing ∷ check (not (addsEmpty ls)) NoEmptyClause ∷ []
+abbrev pub additionChecks : List Row → List ProofLine → List Check
+additionChecks rows ls = check (not (allFollow rows ls)) NotFollowing ∷ check (not (addsEmpty ls)) NoEmptyClause ∷ []

@@ -20,9 +20,9 @@ ghost use Rattle.lexer.specs.Pieces.{linesFrom};
 ghost use Rattle.tables.specs.Tables.{allTables};
 ghost use Rattle.tables.specs.Rows.{rowsFrom, rowsOf};
 ghost use Rattle.tables.specs.Acceptance.{tableChecks};
-ghost use Rattle.drat_line.specs.Lines.{lineOf};
+ghost use Rattle.drat_line.specs.Lines.{lineSaid};
 ghost use Rattle.drat_line.specs.declared.Said.the-variants.{Added, Deleted};
-ghost use Rattle.drat.specs.Text.{linesOf, fewAdditions, readChecks, proofChecks};
+ghost use Rattle.drat.specs.Text.{proofLines, fewAdditions, proofTextChecks, proofChecks};
 ghost use Rattle.drat.specs.Checking.{Reads, Room, Ends};
 
 // A text under way: how far the proof has come, how many additions were read, and whether a line was malformed or an addition too many.
@@ -75,7 +75,7 @@ fn take_deletion(words: &mut [u32], checker: Checker, clause: Row) -> Checker
 fn take_line(words: &mut [u32], checker: Checker, line: &[u8], n: u8) -> Checker
     requires { ⌜ n ≤ 32 ⌝ }
     requires { ⌜ Room checker (now words) ⌝ }
-    ensures { λ r. ⌜ Reads (lineOf n (now (line .entry))) checker (now (words .entry)) r (now (words .exit)) ⌝ }
+    ensures { λ r. ⌜ Reads (lineSaid n (now (line .entry))) checker (now (words .entry)) r (now (words .exit)) ⌝ }
     ensures { λ r. ⌜ Room r (now (words .exit)) ⌝ }
 {
     let said = drat_line::read_line(line, n);
@@ -117,7 +117,8 @@ fn check_lines(words: &mut [u32], count: usize, text: &[u8], n: u8) -> Outcome
     requires { ⌜ count ≤ 384 ⌝ }
     requires { ⌜ 1280 ≤ length (now words) ⌝ }
     ensures { λ r.
-        ⌜ r ≡ outcome (readChecks (rowsFrom (now (words .entry)) 0 count) (fewAdditions (linesOf n (linesFrom (now (text .entry)) 0)))) ⌝ }
+        ⌜ r ≡ outcome (proofTextChecks (rowsFrom (now (words .entry)) 0 count)
+        (fewAdditions (proofLines n (linesFrom (now (text .entry)) 0)))) ⌝ }
 {
     let progress = Progress {
         count,

@@ -11,14 +11,14 @@ use Rattle.numbers.specs.Numbers.{digitsAfter, decimalOf, numberRead}
 use Rattle.clauses.specs.Clauses.{clauses}
 use Rattle.drat_line.specs.declared.Said.{Said}
 use Rattle.drat_line.specs.declared.Said.the-variants.{Nothing, Added, Deleted, Malformed}
-use Rattle.drat_line.specs.Lines.{hasBreak, clauseOf, lineOf}
+use Rattle.drat_line.specs.Lines.{hasBreak, clauseIn, lineSaid}
 
 abbrev row : ℕ → ℕ → Row
 row p q = record { positive = p; negative = q }
 
 line : String → Said
-unfolding lineOf clauseOf hasBreak clauses partsFrom cut notEmpty run numberRead decimalOf digitsAfter put
-line s = lineOf 2 (bytes s)
+unfolding lineSaid clauseIn hasBreak clauses partsFrom cut notEmpty run numberRead decimalOf digitsAfter put
+line s = lineSaid 2 (bytes s)
 
 -- an addition, with spaces, tabs and a CR around it; a literal that is repeated counts once
 set-off : line " 1 \t-2  1 0 \r" ≡ Added (row 1 2)
@@ -66,9 +66,9 @@ d-and-tab : line "d\t1 0" ≡ Malformed
 unfolding line
 d-and-tab = refl
 
-d-joined : line "d1 0" ≡ Malformed
+d-lineBefore : line "d1 0" ≡ Malformed
 unfolding line
-d-joined = refl
+d-lineBefore = refl
 
 -- no 0, and more behind it
 no-zero : line "1 2" ≡ Malformed

@@ -26,7 +26,7 @@ use Rattle.drat_line.specs.declared.One.{One}
 use Rattle.drat_line.specs.declared.One.the-variants as one
 use Rattle.drat_line.specs.declared.Said.{Said}
 use Rattle.drat_line.specs.declared.Said.the-variants.{Nothing, Malformed}
-use Rattle.drat_line.specs.Lines.{isBreak, hasBreak, oneClause, clauseOf, addedBy, deletedBy, isDeletion, saidOf, closedAt, withoutBlanks, lineOf}
+use Rattle.drat_line.specs.Lines.{isBreak, hasBreak, oneClause, clauseIn, addedBy, deletedBy, isDeletion, saidOf, closedAt, withoutBlanks, lineSaid}
 use Rattle.drat_line.specs.Held.{isEnded, lineHeld}
 
 -- ---- a CR or an LF
@@ -76,16 +76,16 @@ unreadable-told unreadable h = refl
 -- ---- one clause
 
 module _ (n : ℕ) (bs : List ℕ) where
-  pub one-break : hasBreak bs ≡ true → one.Malformed ≡ clauseOf n bs
-  unfolding clauseOf
+  pub one-break : hasBreak bs ≡ true → one.Malformed ≡ clauseIn n bs
+  unfolding clauseIn
   one-break e = rw e
 
   module _ (sound : hasBreak bs ≡ false) where
-    by-reading : oneClause (clausesFrom n bs 0) ≡ clauseOf n bs
-    unfolding clauseOf
+    by-reading : oneClause (clausesFrom n bs 0) ≡ clauseIn n bs
+    unfolding clauseIn
     by-reading = rw sound (ap (λ (ts : List Piece). oneClause (clauses n ts)) (same-tokens bs sound))
 
-    pub one-end : first (clausesFrom n bs 0) ≡ End → one.Malformed ≡ clauseOf n bs
+    pub one-end : first (clausesFrom n bs 0) ≡ End → one.Malformed ≡ clauseIn n bs
     one-end f = go (clausesFrom n bs 0) f ∙ by-reading
       where
         go : (x : Reading) → first x ≡ End → one.Malformed ≡ oneClause x
@@ -93,7 +93,7 @@ module _ (n : ℕ) (bs : List ℕ) where
         go ended h = refl
         go unreadable h = refl
 
-    pub one-unreadable : first (clausesFrom n bs 0) ≡ Unreadable → one.Malformed ≡ clauseOf n bs
+    pub one-unreadable : first (clausesFrom n bs 0) ≡ Unreadable → one.Malformed ≡ clauseIn n bs
     one-unreadable f = go (clausesFrom n bs 0) f ∙ by-reading
       where
         go : (x : Reading) → first x ≡ Unreadable → one.Malformed ≡ oneClause x
@@ -102,7 +102,7 @@ module _ (n : ℕ) (bs : List ℕ) where
         go unreadable h = refl
 
     module _ (few : n ≤ 32) (r : Row) (s e : ℕ) (f : first (clausesFrom n bs 0) ≡ Read r s e) where
-      as-clause : oneClause (clause (read-is n bs few 0 r s e f .0) s e (clausesFrom n bs e)) ≡ clauseOf n bs
+      as-clause : oneClause (clause (read-is n bs few 0 r s e f .0) s e (clausesFrom n bs e)) ≡ clauseIn n bs
       as-clause = ap oneClause (sym (read-is n bs few 0 r s e f .1)) ∙ by-reading
 
       go-more : (ls : List Literal) (x : Reading) → isEnded x ≡ false → one.Malformed ≡ oneClause (clause ls s e x)
@@ -115,10 +115,10 @@ module _ (n : ℕ) (bs : List ℕ) where
       go-just ls ended h = refl
       go-just ls unreadable h = absurd (false≢true h)
 
-      pub one-more : (x : Bool) → x ≡ isEnded (clausesFrom n bs e) → x ≡ false → one.Malformed ≡ clauseOf n bs
+      pub one-more : (x : Bool) → x ≡ isEnded (clausesFrom n bs e) → x ≡ false → one.Malformed ≡ clauseIn n bs
       one-more x q z = go-more (read-is n bs few 0 r s e f .0) (clausesFrom n bs e) (sym q ∙ z) ∙ as-clause
 
-      pub one-just : (x : Bool) → x ≡ isEnded (clausesFrom n bs e) → x ≡ true → one.Of r ≡ clauseOf n bs
+      pub one-just : (x : Bool) → x ≡ isEnded (clausesFrom n bs e) → x ≡ true → one.Of r ≡ clauseIn n bs
       one-just x q z =
           ap one.Of (sym (read-is n bs few 0 r s e f .2))
           ∙ go-just (read-is n bs few 0 r s e f .0) (clausesFrom n bs e) (sym q ∙ z) ∙ as-clause
@@ -144,11 +144,11 @@ pub said-nothing : (n : ℕ) (bs : List ℕ) → length bs ≡ 0 → Nothing ≡
 said-nothing n [] h = refl
 said-nothing n (b ∷ bs) h = absurd (omega arith)
 
-pub said-deleted : (n : ℕ) (bs : List ℕ) → (length bs ≡ 0 → ⊥) → isDeletion bs ≡ true → deletedBy (clauseOf n (drop 2 bs)) ≡ saidOf n bs
+pub said-deleted : (n : ℕ) (bs : List ℕ) → (length bs ≡ 0 → ⊥) → isDeletion bs ≡ true → deletedBy (clauseIn n (drop 2 bs)) ≡ saidOf n bs
 said-deleted n [] z e = absurd (z refl)
 said-deleted n (b ∷ bs) z e = rw e
 
-pub said-added : (n : ℕ) (bs : List ℕ) → (length bs ≡ 0 → ⊥) → isDeletion bs ≡ false → addedBy (clauseOf n bs) ≡ saidOf n bs
+pub said-added : (n : ℕ) (bs : List ℕ) → (length bs ≡ 0 → ⊥) → isDeletion bs ≡ false → addedBy (clauseIn n bs) ≡ saidOf n bs
 said-added n [] z e = absurd (z refl)
 said-added n (b ∷ bs) z e = rw e
 
@@ -181,12 +181,12 @@ to-end i l = take-all (length l - i) (drop i l) (simp length-drop (omega arith))
 -- ---- a whole line
 
 -- of at most 32 variables a line says what its definition says
-pub held-line : (n : ℕ) (l : List ℕ) → n ≤ 32 → lineHeld n l ≡ lineOf n l
+pub held-line : (n : ℕ) (l : List ℕ) → n ≤ 32 → lineHeld n l ≡ lineSaid n l
 held-line n l h = rw (le-ltb 32 n h) refl
 
 pub line-held : (n : ℕ) (l : List ℕ) (end from : ℕ) → n ≤ 32 → end ≡ closedAt l → from ≡ runEnd isBlank (take end l) 0
     → saidOf n (drop from (take end l)) ≡ lineHeld n l
-unfolding lineOf runEnd
+unfolding lineSaid runEnd
 line-held n l end from few e f =
     let skipped : from ≡ run isBlank (take end l) = omega (arith, f) in
     ap (λ (i : ℕ). saidOf n (drop i (take end l))) skipped

@@ -6,7 +6,7 @@ use lib.Dec.{ltb}
 use Rattle.clauses.specs.Clauses.{Reading, clause, ended, unreadable}
 use Rattle.drat_line.specs.declared.Said.{Said}
 use Rattle.drat_line.specs.declared.Said.the-variants.{Malformed}
-use Rattle.drat_line.specs.Lines.{lineOf}
+use Rattle.drat_line.specs.Lines.{lineSaid}
 
 -- whether no clause is left
 abbrev pub isEnded : Reading → Bool
@@ -16,4 +16,4 @@ isEnded unreadable = false
 
 -- what a line says; malformed where n is above 32
 abbrev pub lineHeld : ℕ → List ℕ → Said
-lineHeld n line = cond (ltb 32 n) Malformed (lineOf n line)
+lineHeld n line = cond (ltb 32 n) Malformed (lineSaid n line)

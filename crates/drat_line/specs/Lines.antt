@@ -34,9 +34,9 @@ oneClause ended = one.Malformed
 oneClause unreadable = one.Malformed
 
 -- exactly one clause, of literals from 1 to n, closed by 0 and set off by spaces and tabs: a CR that does not close the line is malformed
-unfoldable pub clauseOf : ℕ → List ℕ → One
+unfoldable pub clauseIn : ℕ → List ℕ → One
 unfolding clauses
-clauseOf n bytes = cond (hasBreak bytes) one.Malformed (oneClause (clauses n (tokensFrom bytes 0)))
+clauseIn n bytes = cond (hasBreak bytes) one.Malformed (oneClause (clauses n (tokensFrom bytes 0)))
 
 -- ---- a line
 
@@ -57,7 +57,7 @@ isDeletion line = eqb (getD line 0 0) 100 && eqb (getD line 1 0) 32
 -- a line from its first byte on that is no space or tab
 abbrev pub saidOf : ℕ → List ℕ → Said
 saidOf n [] = Nothing
-saidOf n (b ∷ bs) = cond (isDeletion (b ∷ bs)) (deletedBy (clauseOf n (drop 2 (b ∷ bs)))) (addedBy (clauseOf n (b ∷ bs)))
+saidOf n (b ∷ bs) = cond (isDeletion (b ∷ bs)) (deletedBy (clauseIn n (drop 2 (b ∷ bs)))) (addedBy (clauseIn n (b ∷ bs)))
 
 -- how long a line is without a CR that closes it
 abbrev pub closedAt : List ℕ → ℕ
@@ -68,6 +68,6 @@ abbrev pub withoutBlanks : List ℕ → List ℕ
 withoutBlanks line = drop (run isBlank line) line
 
 -- a line of the text, without its LF
-unfoldable pub lineOf : ℕ → List ℕ → Said
-unfolding clauseOf
-lineOf n line = saidOf n (withoutBlanks (take (closedAt line) line))
+unfoldable pub lineSaid : ℕ → List ℕ → Said
+unfolding clauseIn
+lineSaid n line = saidOf n (withoutBlanks (take (closedAt line) line))

@@ -6,7 +6,7 @@ use words::Row;
 ghost use mathlib.Core.Path.{_≡_};
 ghost use Prim.Native.Nat.{_≤_};
 ghost use Rattle.clauses.specs.First.{clausesFrom};
-ghost use Rattle.drat_line.specs.Lines.{closedAt, isDeletion, hasBreak, clauseOf, addedBy, deletedBy, saidOf};
+ghost use Rattle.drat_line.specs.Lines.{closedAt, isDeletion, hasBreak, clauseIn, addedBy, deletedBy, saidOf};
 ghost use Rattle.drat_line.specs.Held.{isEnded, lineHeld};
 
 // What a line says: nothing, a clause added or deleted; or it is malformed.
@@ -52,7 +52,7 @@ fn is_ended(part: &[u8], at: usize, n: u8) -> bool
 // The one clause of a part of a line.
 fn read_one(part: &[u8], n: u8) -> One
     requires { ⌜ n ≤ 32 ⌝ }
-    ensures { λ r. ⌜ r ≡ clauseOf n (now (part .entry)) ⌝ }
+    ensures { λ r. ⌜ r ≡ clauseIn n (now (part .entry)) ⌝ }
 {
     if has_break(part) {
         return One::Malformed;

@@ -2,7 +2,7 @@
 use mathlib.Core.Path.{_≡_, sym, _∙_}
 use borrow.Author.Needs.{needs}
 use Rattle.drat_line.specs.declared.Said.{Said}
-use Rattle.drat_line.specs.Lines.{lineOf}
+use Rattle.drat_line.specs.Lines.{lineSaid}
 use Rattle.drat_line.proofs.Reading.{held-line}
 use Rattle.drat.proofs.LinesRead.{reads-nothing, reads-malformed, reads-as, room-malformed}
 use Rattle.drat.proofs.take_line.Statement.{statement}
@@ -14,7 +14,7 @@ start c = c .before .before .before
 
 -- what the line says
 abbrev said : tie.After-read-line → Said
-said c = let a = start c .args in lineOf (a .n) (a .line .now)
+said c = let a = start c .args in lineSaid (a .n) (a .line .now)
 
 is-said : (c : tie.After-read-line) (s : Said) → c .read-line .result ≡ s → said c ≡ s
 is-said c s e =

@@ -1,7 +1,7 @@
 -- `read_said` meets its contract: nothing, a deletion or an addition.
 use mathlib.Core.Path.{sym, ap, _∙_}
 use borrow.Author.Needs.{needs}
-use Rattle.drat_line.specs.Lines.{clauseOf, addedBy, deletedBy}
+use Rattle.drat_line.specs.Lines.{clauseIn, addedBy, deletedBy}
 use Rattle.drat_line.proofs.Reading.{to-end, deletion-long, said-nothing, said-deleted, said-added}
 use Rattle.drat_line.proofs.read_said.Statement.{statement}
 use Rattle.drat_line.proofs.read_said.Tie as tie
@@ -36,7 +36,7 @@ returns-2 c =
     let tested = c .before .before .before in
     let d = tested .before in
     let a = start d .args in
-    c .deleted-by .ensures ∙ ap deletedBy (c .before .read-one .ensures ∙ ap (clauseOf (a .n)) (to-end 2 (a .part .now)))
+    c .deleted-by .ensures ∙ ap deletedBy (c .before .read-one .ensures ∙ ap (clauseIn (a .n)) (to-end 2 (a .part .now)))
     ∙ said-deleted (a .n) (a .part .now) (d .before .if1 .left) (sym (d .is-deletion .ensures) ∙ tested .if2 .taken)
 
 read-one-requires-2 : tie.Need-read-one-requires-2
