@@ -32,8 +32,8 @@ run: target/static/pair
 # declared in include/forkhemit.h
 lib: target/lib/libforkhemit.a
 
-# what the library has, in ten crates
-HOSTS := host_runs host_indexed host_solve host_late host_explained host_circuits host_repeats host_texts host_excerpts host_lines
+# what the library has, in eleven crates
+HOSTS := host_runs host_indexed host_solve host_late host_explained host_circuits host_repeats host_texts host_excerpts host_lines host_proofs
 
 # One after the other: two calls of `rt staticlib` at once spoil each other's notes on the crates that both use. In the crates' object files
 # all names are local but those of the functions that hosts call, so the files stand side by side in one archive.
@@ -99,13 +99,17 @@ target/examples/desk: examples/desk/desk.c examples/host/texts.h include/forkhem
 	mkdir -p target/examples
 	cc -std=c11 -O2 -Wall -Wextra -Wpedantic -Werror -Iinclude -o $@ $< -Ltarget/lib -lforkhemit
 
+target/examples/proof-c: examples/host/proof.c examples/host/texts.h include/forkhemit.h target/lib/libforkhemit.a
+	mkdir -p target/examples
+	cc -std=c11 -O2 -Wall -Wextra -Wpedantic -Werror -Iinclude -o $@ $< -Ltarget/lib -lforkhemit
+
 target/examples/host-rust: examples/host/host.rs target/lib/libforkhemit.a
 	mkdir -p target/examples
 	rustc --edition 2021 -O -D warnings -o $@ $< -L native=target/lib
 
 # The two hosts answer as the pair program; the third is told of a late condition, in each of the stories of examples/harbour/late; the fourth lists
-# a run step by step.
-examples: target/examples/host-c target/examples/host-rust target/examples/late-c target/examples/desk
+# a run step by step; the fifth checks a proof of cadical's, of examples/harbour/unsatisfiable.
+examples: target/examples/host-c target/examples/host-rust target/examples/late-c target/examples/desk target/examples/proof-c
 	cd examples/harbour && for host in host-c host-rust; do \
 	  echo "$$host left.cnf right.cnf public.cnf $$(cat budget)"; \
 	  ../../target/examples/$$host left.cnf right.cnf public.cnf $$(cat budget) | tee ../../target/examples/$$host.out && cmp ../../target/examples/$$host.out answer || exit 1; \
@@ -115,6 +119,7 @@ examples: target/examples/host-c target/examples/host-rust target/examples/late-
 	  ../../target/examples/late-c left.cnf late/right.cnf public.cnf $$(cat late/$$story) | tee ../../target/examples/late-$$story.out && cmp ../../target/examples/late-$$story.out late/$$story.answer || exit 1; \
 	done
 	cd examples/harbour && ../../target/examples/desk left.cnf right.cnf public.cnf $$(cat budget) | tee ../../target/examples/desk.out && cmp ../../target/examples/desk.out ../desk/listing
+	cd examples/harbour/unsatisfiable && ../../../target/examples/proof-c ../left.cnf right.cnf ../public.cnf proof.drat | tee ../../../target/examples/proof.out && cmp ../../../target/examples/proof.out answer
 
 bench: target/static/pair target/lib/libforkhemit.a
 	cargo build --quiet --release --bins --offline --locked --manifest-path tests/Cargo.toml
@@ -122,6 +127,7 @@ bench: target/static/pair target/lib/libforkhemit.a
 	tests/target/release/bench target/static/pair
 	tests/target/release/bench-tables target/static/pair
 	tests/target/release/bench-library
+	tests/target/release/bench-proofs
 	rustc -O --edition 2021 tests/bench/evaluator.rs -L native=target/lib -l static=forkhemit -o target/bench-evaluator
 	target/bench-evaluator
 

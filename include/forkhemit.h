@@ -1,7 +1,7 @@
 /*
  * Forkhemit for hosts in C and C++: two stations' clause tables and the public one, the giant step, its circuit and the texts.
  * Every function is proved to meet its contract, which stands in crates/host_runs, host_indexed, host_solve, host_late, host_explained,
- * host_circuits, host_repeats, host_texts, host_excerpts and host_lines.
+ * host_circuits, host_repeats, host_texts, host_excerpts, host_lines and host_proofs.
  * `make lib` writes the archive to link, target/lib/libforkhemit.a, for x86-64 Linux; it needs C's memcpy and memset and nothing else. docs/GUIDE.md
  * has the calls in the order in which a host makes them, examples/host hosts in C, in Rust and in Python.
  *
@@ -36,12 +36,13 @@
 /* The version, as CHANGES.md numbers it. While the first number is 0, parameters and buffers may change with the second: read there what
  * did, and compile the host anew. With the third they never change. The shared library's soname has the first two. */
 #define FORKHEMIT_VERSION_MAJOR 0
-#define FORKHEMIT_VERSION_MINOR 7
-#define FORKHEMIT_VERSION_PATCH 1
-/* The same as one number that grows, for #if: 0.7.1 is 701. */
+#define FORKHEMIT_VERSION_MINOR 8
+#define FORKHEMIT_VERSION_PATCH 0
+/* The same as one number that grows, for #if: 0.8.0 is 800. */
 #define FORKHEMIT_VERSION (FORKHEMIT_VERSION_MAJOR * 10000 + FORKHEMIT_VERSION_MINOR * 100 + FORKHEMIT_VERSION_PATCH)
 
-/* The most bytes that a DIMACS text may have, remarks included: one byte more of a file is all that a host need read. */
+/* The most bytes that a DIMACS text may have, remarks included, and that a proof may have: one byte more of a file is all that a host need
+ * read. */
 #define FORKHEMIT_TEXT_BYTES 65536
 /* The words of a table of 128 rows, which are enough for any table. */
 #define FORKHEMIT_TABLE_WORDS 256
@@ -75,7 +76,10 @@ enum forkhemit_refusal_number {
     FORKHEMIT_NO_MODEL = 14,        /* model wanted while open or refuted */
     FORKHEMIT_NOT_PADDING = 15,     /* the row to be replaced is no padding row of that station */
     FORKHEMIT_CLOSED = 16,          /* a row was to be replaced in a closed run */
-    FORKHEMIT_NO_CLAUSE = 17        /* row of neither station, or a text whose n or row count is not its table's */
+    FORKHEMIT_NO_CLAUSE = 17,       /* row of neither station, or a text whose n or row count is not its table's */
+    FORKHEMIT_PROOF_TEXT = 18,      /* malformed or overlong proof, or more than 256 additions in it */
+    FORKHEMIT_NOT_FOLLOWING = 19,   /* an addition that does not follow, up to the empty clause */
+    FORKHEMIT_NO_EMPTY_CLAUSE = 20  /* no empty clause added */
 };
 
 /*
@@ -275,6 +279,25 @@ uint8_t forkhemit_excerpt(uint64_t n, uint64_t left_rows, uint64_t right_rows, u
                           const uint32_t *public_table, size_t public_length, const uint8_t *left_text, size_t left_text_length,
                           const uint8_t *right_text, size_t right_text_length, uint64_t row,
                           uint8_t *bytes, size_t bytes_length, uint64_t length[1]);
+
+/* ---- proofs from other solvers */
+
+/*
+ * A public solver that says unsatisfiable writes why as a DRAT text, which is checked here against the tables. 0 says that no assignment
+ * makes all their rows true, whoever wrote the text; nothing is written, and the solver need not be trusted. Only the text form is read, as
+ * `cadical --no-binary` writes it: a line is literals closed by 0, with `d` and a space in front where a clause is deleted. Spaces and
+ * tabs set the numbers off and may begin or end a line, a CR may close it, and a line with nothing else is skipped.
+ * A clause is added only if it follows from the rows present, the tables' and those added before: it holds a variable in both signs, or its
+ * negation and what rows then force, literal by literal, leave some row without a literal (RUP). The wider rule of the format (RAT) is not
+ * taken. A deletion takes away one row of the same literals, a table's or an added one, or nothing where there is none; unit clauses too.
+ */
+
+/* 0 where every clause that is added up to the empty one follows, and the empty one is added; lines behind it are read for form only.
+ * 1, 2, 4, 3, 18 (malformed anywhere, as a literal above n; above FORKHEMIT_TEXT_BYTES; more than 256 additions), 19 (an addition that does
+ * not follow), 20 (no empty clause). */
+uint8_t forkhemit_check_proof(uint64_t n, uint64_t left_rows, uint64_t right_rows, uint64_t public_rows,
+                              const uint32_t *left, size_t left_length, const uint32_t *right, size_t right_length,
+                              const uint32_t *public_table, size_t public_length, const uint8_t *text, size_t text_length);
 
 /* ---- the circuit */
 

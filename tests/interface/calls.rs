@@ -51,6 +51,8 @@ mod library {
             left_text_length: usize, right_text: *const u8, right_text_length: usize, row: u64, bytes: *mut u8, bytes_length: usize,
             length: *mut u64) -> u8;
         pub fn forkhemit_model(run: *const u32, model: *mut u64) -> u8;
+        pub fn forkhemit_check_proof(n: u64, left_rows: u64, right_rows: u64, public_rows: u64, left: *const u32, left_length: usize,
+            right: *const u32, right_length: usize, public_table: *const u32, public_length: usize, text: *const u8, text_length: usize) -> u8;
         pub fn forkhemit_generate(n: u64, left_rows: u64, right_rows: u64, public_rows: u64, gates: *mut u32, gates_length: usize,
             count: *mut u64) -> u8;
         pub fn forkhemit_pack(n: u64, left_rows: u64, right_rows: u64, public_rows: u64, left: *const u32, left_length: usize,
@@ -101,6 +103,7 @@ pub enum Function {
     Clause,
     Excerpt,
     Model,
+    CheckProof,
     Generate,
     Pack,
     Evaluate,
@@ -112,7 +115,7 @@ pub enum Function {
     Answer,
 }
 
-pub const ALL: [Function; 28] = [
+pub const ALL: [Function; 29] = [
     Function::Sizes,
     Function::ReadTables,
     Function::Accept,
@@ -132,6 +135,7 @@ pub const ALL: [Function; 28] = [
     Function::Clause,
     Function::Excerpt,
     Function::Model,
+    Function::CheckProof,
     Function::Generate,
     Function::Pack,
     Function::Evaluate,
@@ -339,6 +343,7 @@ impl Call {
                 Function::Excerpt => forkhemit_excerpt(x(0), x(1), x(2), x(3), w(0), l(0), w(1), l(1), w(2), l(2), b(3), l(3), b(4), l(4),
                     x(4), b(5), l(5), n(6)),
                 Function::Model => forkhemit_model(w(0), n(1)),
+                Function::CheckProof => forkhemit_check_proof(x(0), x(1), x(2), x(3), w(0), l(0), w(1), l(1), w(2), l(2), b(3), l(3)),
                 Function::Generate => forkhemit_generate(x(0), x(1), x(2), x(3), w(0), l(0), n(1)),
                 Function::Pack => forkhemit_pack(x(0), x(1), x(2), x(3), w(0), l(0), w(1), l(1), w(2), l(2), w(3), b(4), l(4)),
                 Function::Evaluate => forkhemit_evaluate(w(0), l(0), b(1), l(1), b(2), l(2)),

@@ -5,7 +5,7 @@ use crate::circuits::Circuits;
 use forkhemit_tests::memory::{self, INDEX_WORDS, RUN_WORDS};
 use forkhemit_tests::model::{self, Row, Size, TEXT_LIMIT};
 use forkhemit_tests::random::Random;
-use forkhemit_tests::{damage, layout, states, tables, wires};
+use forkhemit_tests::{damage, layout, proofs, states, tables, wires};
 
 /// Numbers at the limits, and numbers that look like others when they are cut to fewer bits.
 const ODD: [u64; 18] = [
@@ -432,6 +432,27 @@ fn continuing(size: Size, random: &mut Random) -> (u64, Vec<Lent>) {
     (one(&[0, 1, 2, 3, random.below(20) as u64, most, most], random), lent)
 }
 
+/// Tables that are most often unsatisfiable, and a proof by cases, in which now and then a deletion stands or a line is damaged.
+fn proved(size: Size, random: &mut Random) -> Vec<Lent> {
+    let n = size.n;
+    let widest = one(&[1, 2, 2, 3], random).min(n);
+    let few = random.between(1, n.min(7));
+    let rows: Vec<Row> = (0..size.rows()).map(|_| tables::strict(few, random.between(1, widest), random)).collect();
+    let mut lines = proofs::by_cases(few, &rows, 300);
+    for _ in 0..one(&[0, 0, 1, 3], random) {
+        let gone = if random.once_in(2) { one(&[random.pick(&rows)], random).clone() } else { clause(n, random) };
+        lines.insert(random.below(lines.len() + 1), proofs::Line::Deleted(gone));
+    }
+    let mut text = proofs::text(&lines);
+    for _ in 0..one(&[0, 0, 0, 1, 2], random) {
+        text = proofs::damaged(&text, n, random).1;
+    }
+    if random.once_in(2) {
+        text = proofs::spaced(&text, random);
+    }
+    [lent_tables(size, &rows, random), vec![Lent::Bytes(text)]].concat()
+}
+
 /// A call that is right, but for what texts, line numbers and answers bring along.
 fn right(function: Function, circuits: &Circuits, random: &mut Random) -> Result<Call, String> {
     let size = match function {
@@ -486,6 +507,7 @@ pub fn of_size(function: Function, size: Size, circuits: &Circuits, random: &mut
             lent.extend([room, numbers_for(1, random)]);
             call([numbers(size), vec![number]].concat(), lent)
         }
+        Function::CheckProof => call(numbers(size), proved(size, random)),
         Function::Model => {
             let run = memory::run_words(&states::random(size.n, random));
             call(vec![], vec![Lent::Run(run), numbers_for(1, random)])

@@ -5,6 +5,7 @@ use crate::circuits::Circuits;
 use forkhemit_tests::bristol::Gate;
 use forkhemit_tests::memory;
 use forkhemit_tests::model::{self, Condition, Row, Run, Size, Ties};
+use forkhemit_tests::proofs;
 use forkhemit_tests::wires;
 use std::ops::Range;
 
@@ -94,6 +95,7 @@ impl Call {
             Function::Clause => self.clause(),
             Function::Excerpt => self.excerpt(),
             Function::Model => self.model(),
+            Function::CheckProof => self.check_proof(),
             Function::Generate => match self.size().and_then(|size| self.room_for_gates(size, 0)) {
                 Ok(size) => {
                     let words = circuits.words(size)?;
@@ -330,6 +332,13 @@ impl Call {
         }
         let truth = run.values.iter().enumerate().filter(|(_, &value)| value == Some(true));
         Ok(vec![(1, Lent::Numbers(vec![truth.fold(0, |word, (v, _)| word | 1 << v)]))])
+    }
+
+    /// Nothing is written: 4, 3, 18, 19, 20.
+    fn check_proof(&self) -> Result<Writes, u8> {
+        let size = self.size()?;
+        let rows = memory::accepted(size, self.tables())?;
+        proofs::check(size.n, &rows, self.bytes(3)).map(|()| vec![])
     }
 
     /// A size for whose circuit buffer k has room: 7.

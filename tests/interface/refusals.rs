@@ -73,6 +73,11 @@ const CLAUSE_TABLES: [&[u32]; 3] = [&[0b11, 0, 0b01, 0b01], &[0, 0b01, 0, 0, 0b1
 const CLAUSE_TEXTS: [&[u8]; 2] =
     [b"c left\np cnf 2 2\n1 2 0\nc padding\n1 -1 0\n", b"p cnf 2 3\n-1 0 0\n2\nc inside\n-1 0"];
 
+/// Tables that are unsatisfiable without the public one, for proofs: (1 2) and (1 −2) on the left, (−1 2) and (−1 −2) on the right.
+const PROOF_SIZE: Size = Size { n: 2, left: 2, right: 2, public: 1 };
+const PROOF_TABLES: [&[u32]; 3] = [&[0b11, 0, 0b01, 0b10], &[0b10, 0b01, 0, 0b11], &[0b11, 0b01]];
+const PROOF: &[u8] = b"1 0\nd 1 2 0\n0\n";
+
 /// A call of the function that is taken.
 fn base(function: Function, circuits: &Circuits) -> Result<Call, String> {
     let d = numbers(SIZE);
@@ -82,6 +87,7 @@ fn base(function: Function, circuits: &Circuits) -> Result<Call, String> {
     let late_tables = || LATE_TABLES.map(|table| Lent::Words(table.to_vec())).to_vec();
     let late = || [numbers(LATE_SIZE), vec![1, 4, 0, 0b10]].concat();
     let clause_numbers = [numbers(CLAUSE_SIZE), vec![5]].concat();
+    let proof_numbers = numbers(PROOF_SIZE);
     let bytes = |count: usize| Lent::Bytes(vec![7; count]);
     let words = |count: usize| Lent::Words(vec![7; count]);
     let numbers = |count: usize| Lent::Numbers(vec![7; count]);
@@ -126,6 +132,10 @@ fn base(function: Function, circuits: &Circuits) -> Result<Call, String> {
             (clause_numbers, [tables, texts, room].concat())
         }
         Function::Model => (vec![], vec![Lent::Run(satisfied), numbers(1)]),
+        Function::CheckProof => {
+            let tables = PROOF_TABLES.map(|table| Lent::Words(table.to_vec())).to_vec();
+            (proof_numbers, [tables, vec![Lent::Bytes(PROOF.to_vec())]].concat())
+        }
         Function::Generate => (d, vec![words(3 * SIZE.ceiling()), numbers(1)]),
         Function::Pack => (d, [tables(), vec![Lent::Run(run()), bytes(inputs)]].concat()),
         Function::Evaluate => (vec![], vec![Lent::Words(gates), Lent::Bytes(packed), bytes(wires)]),
@@ -556,6 +566,109 @@ fn without_public_row() -> Change {
     both(entry(3, 6, 0b001), entry(3, 192, 0b010))
 }
 
+/// 18, 19 and 20, and two or three of them at once.
+fn check_proof(list: &mut Changes) {
+    let additions = |count: usize, end: &str| ["1 2 0\n".repeat(count), end.into()].concat();
+    let long = |length: usize| [PROOF, &vec![b'\n'; length - PROOF.len()]].concat();
+    for (number, line) in [
+        (18, "x"),
+        (18, "c 1 0"),
+        (18, "1 0 0"),
+        (18, "1 0 2 0"),
+        (18, "1"),
+        (18, "d"),
+        (18, "d "),
+        (18, "d1 0"),
+        (18, "d\t1 0"),
+        (18, "D 1 0"),
+        (18, "dd 1 0"),
+        (18, "d d 1 0"),
+        (18, "d 1"),
+        (18, "1 d 0"),
+        (18, "3 0"),
+        (18, "-3 0"),
+        (18, "d 3 0"),
+        (18, "33 0"),
+        (18, "4294967297 0"),
+        (18, "18446744073709551617 0"),
+        (18, "-0"),
+        (18, "00"),
+        (18, "01 0"),
+        (18, "1 00"),
+        (18, "+1 0"),
+        (18, "--1 0"),
+        (18, "1\r0"),
+        (18, "1 \r 0"),
+        (18, "1 0\r\r"),
+        (18, "1 0\r "),
+        (18, "\r1 0"),
+        (18, "\r\r"),
+        (18, "\x0b"),
+        (18, "1\x0b0"),
+        (18, "1,0"),
+        (18, "\0"),
+        (18, "\u{a0}"),
+        (18, "p cnf 2 5"),
+        (19, "0"),
+        (19, "2 0\nd 2 0\nd 2 -1 0\nd 1 2 0\n2 0"),
+        (19, "d 1 2 0\n1 0"),
+        (19, "d 2 1 0\n1 0"),
+        (19, "d 1 -2 0\n1 0"),
+        (19, "d -2 1 0\n1 0\n0"),
+    ] {
+        for (place, around) in [("first", ["", "\n"]), ("last", ["1 2 -2 0\n", ""])] {
+            let to = format!("{}{line}{}", around[0], around[1]);
+            add(list, &format!("the line {line:?} {place}"), number, text(3, to.into_bytes()));
+        }
+    }
+    for (what, to) in [
+        ("behind the empty clause", "1 0\n0\nx".into()),
+        ("behind what does not follow", "0\nx".into()),
+        ("behind 20 lines", additions(20, "-1 -2 0 0")),
+        ("before what does not follow", "x\n0".into()),
+        ("without an empty clause", "1 0\n1 x 0\n".into()),
+    ] {
+        add(list, &format!("a malformed line {what}"), 18, text(3, to.into_bytes()));
+    }
+    add(list, "257 additions", 18, text(3, additions(257, "").into()));
+    add(list, "257 additions, the last empty", 18, text(3, additions(255, "1 0\n0\n").into()));
+    add(
+        list,
+        "257 additions, most behind the empty clause",
+        18,
+        text(3, format!("1 0\n0\n{}", additions(255, "")).into()),
+    );
+    add(list, "257 additions of padding", 18, text(3, "1 -1 0\n".repeat(257).into()));
+    add(
+        list,
+        "257 additions, the first of which does not follow",
+        18,
+        text(3, format!("0\n{}", additions(256, "")).into()),
+    );
+    add(list, "65,537 bytes", 18, text(3, long(TEXT_LIMIT + 1)));
+    add(list, "65,537 bytes of nothing", 18, text(3, vec![b'\n'; TEXT_LIMIT + 1]));
+    for (what, to) in [
+        ("no empty clause behind it", "d 1 2 0\n1 0\n"),
+        ("the empty clause behind it", "d 1 2 0\n1 0\n0\n"),
+        ("a deleted row wanted by the empty clause", "1 0\nd 1 0\n0\n"),
+        ("both unit clauses deleted", "1 0\n-1 0\nd 1 0\nd -1 0\n0\n"),
+    ] {
+        add(list, &format!("an addition that does not follow, {what}"), 19, text(3, to.into()));
+    }
+    for (what, to) in [
+        ("nothing", String::new()),
+        ("an LF", "\n".into()),
+        ("blanks", " \t\r\n \n".into()),
+        ("one addition", "1 0\n".into()),
+        ("a deletion", "d 1 2 0".into()),
+        ("the empty clause deleted", "d 0\n1 0\nd 0".into()),
+        ("256 additions", additions(256, "")),
+        ("padding", "1 -1 0\n".into()),
+    ] {
+        add(list, &format!("no empty clause: {what}"), 20, text(3, to.into_bytes()));
+    }
+}
+
 /// 14, and a run's 12.
 fn model_wanted(list: &mut Changes) {
     add(list, "an open run", 14, word(0, 1, 0));
@@ -644,6 +757,7 @@ fn changes(function: Function) -> Changes {
         Function::Clause => &[sizes, tables, clause],
         Function::Excerpt => &[sizes, tables, excerpt],
         Function::Model => &[model_wanted],
+        Function::CheckProof => &[sizes, tables, check_proof],
         Function::Generate => &[sizes, generate],
         Function::Pack => &[sizes, tables, pack],
         Function::Evaluate => &[evaluate],
@@ -756,6 +870,34 @@ fn harmless(function: Function) -> Vec<(String, Change)> {
                 ("another row's words, and no bytes", both(word(1, 4, 0b11), cut(5, 0))),
             ]);
             list
+        }
+        Function::CheckProof => {
+            let proof = |bytes: &str| text(3, bytes.as_bytes().to_vec());
+            let additions = |count: usize| "1 2 0\n".repeat(count);
+            let long = |bytes: &[u8]| text(3, [bytes, &vec![b'\n'; TEXT_LIMIT - bytes.len()]].concat());
+            vec![
+                ("no public rows, and words of some", number(3, 0)),
+                ("no public rows, and words that would be refused", both(number(3, 0), word(2, 1, u32::MAX))),
+                ("no public rows and no words", both(number(3, 0), cut(2, 0))),
+                ("no last LF", proof("1 0\n0")),
+                ("blanks, tabs, CRs and empty lines", proof("\r\n \t1 \t 0\t \r\n\n \t\n d \t1\t2 0 \r\n\t0\r")),
+                ("a literal twice", proof("1 1 0\nd 2 1 2 0\n0\n")),
+                ("another literal first", proof("-2 0\n0\n")),
+                ("padding added and deleted", proof("2 -2 0\nd -2 2 0\n1 0\n0\n")),
+                ("a row that is not there deleted", proof("d 1 0\nd 1 -1 2 -2 0\nd 0\n1 0\n0\n")),
+                ("a row added twice and deleted once", proof("1 0\n1 0\nd 1 0\n0\n")),
+                ("a row deleted and added again", proof("1 0\nd 1 2 0\n1 2 0\n0\n")),
+                ("one word of a row deleted", proof("d 1 0\nd -2 0\nd 2 0\n1 0\n0\n")),
+                ("lines behind the empty clause", proof("1 0\n0\n2 0\n-2 0\nd 1 0\n0\n")),
+                ("256 additions, the last one empty", proof(&["1 0\n", &additions(254), "0\n"].concat())),
+                ("256 additions, most behind the empty clause", proof(&["1 0\n0\n", &additions(254)].concat())),
+                (
+                    "256 additions and 2,000 deletions",
+                    proof(&["1 0\n", &additions(254), &"d 2 0\n".repeat(2_000), "0"].concat()),
+                ),
+                ("65,536 bytes", long(PROOF)),
+                ("65,536 bytes of a line", text(3, [&vec![b' '; TEXT_LIMIT - 5][..], b"1 0\n0"].concat())),
+            ]
         }
         Function::ReadTables => vec![
             ("no public rows", none()),

@@ -22,6 +22,7 @@ pub mod netlists;
 pub mod page;
 pub mod pictures;
 pub mod process;
+pub mod proofs;
 pub mod published;
 pub mod random;
 pub mod report;

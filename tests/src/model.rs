@@ -107,7 +107,7 @@ fn line(text: &[u8]) -> (&[u8], &[u8]) {
 
 /// A number: an optional minus, digits without leading zeros, not −0. One of more than nine digits is as good as any
 /// other beyond every limit.
-fn number(word: &[u8]) -> Option<i64> {
+pub fn number(word: &[u8]) -> Option<i64> {
     let (sign, digits) = match word.strip_prefix(b"-") {
         Some(digits) => (-1, digits),
         None => (1, word),
