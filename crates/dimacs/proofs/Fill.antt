@@ -69,6 +69,7 @@ drop-zeros n zero = let q : n ≡ n - 0 = omega arith in ap zeros q
 drop-zeros zero (suc k) = let q : 0 ≡ 0 - suc k = omega arith in ap zeros q
 drop-zeros (suc n) (suc k) = let q : n - k ≡ suc n - suc k = omega arith in drop-zeros n k ∙ ap zeros q
 
+-- rows have two words each
 pub words-length : (rs : List Row) → length (rowWords rs) ≡ 2 * length rs
 words-length [] = refl
 words-length (r ∷ rs) = omega (arith, words-length rs)

@@ -1,5 +1,6 @@
 // Reads DIMACS texts, those of the two stations and that of the public rest rules, into tables of row words.
 use clauses::Clause;
+use dimensions::Dimensions;
 use header::Sizes;
 use refusals::Outcome;
 use refusals::Refusal;
@@ -10,6 +11,7 @@ ghost use Prim.Native.Nat.{_≤_};
 ghost use Rattle.dimensions.specs.Sizes.{mostVariables, mostRows};
 ghost use Rattle.clauses.specs.First.{clausesFrom};
 ghost use Rattle.dimacs.specs.Text.{tableOf, bodyOf, refused};
+ghost use Rattle.dimacs.specs.Body.{bodyWithin};
 ghost use Rattle.dimacs.specs.ThreeTexts.{refusedTexts, acceptedTexts, together, textTables, textsOutcome};
 
 // A text's table: n, its row count and its row words, positive before negative; the words past the rows are zero. A refused text has none.
@@ -72,6 +74,17 @@ fn read_rows(text: &[u8], start: usize, n: u8, m: u8) -> Table
         rows: m,
         words,
     }
+}
+
+// The same for any n and m: beyond their limits nothing is read.
+pub fn read_body(text: &[u8], start: usize, n: u8, m: u8) -> Table
+    ensures { λ r. ⌜ r ≡ bodyWithin n m (clausesFrom n (now (text .entry)) start) ⌝ }
+    ensures { λ r. ⌜ codeOf (r .outcome) ∷ [] ≡ said (bodyWithin n m (clausesFrom n (now (text .entry)) start) .outcome) [] ⌝ }
+{
+    if (Dimensions::VARIABLES < n as u64) | (Dimensions::ROWS < m as u64) {
+        return refuse(Refusal::Text);
+    }
+    read_rows(text, start, n, m)
 }
 
 // The table of a text whose header has `least` rows or more, or 1, 2 or 5.

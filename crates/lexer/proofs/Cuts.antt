@@ -58,6 +58,7 @@ skip-run p at (b ∷ bs) =
     (λ e. rw (e, notEmpty) (skip-run p (suc at) bs ∙ rw (add-suc, suc-add)))
     (λ e. rw (e, add-zero at, e))
 
+-- bytes whose first is not cut at: a piece, and the pieces of the rest
 pub one-piece : (p : ℕ → Bool) (at b : ℕ) (bs : List ℕ) → p b ≡ false
     → notEmpty (cut p at (b ∷ bs))
     ≡ record { at = at; bytes = take (run (λ b. not (p b)) (b ∷ bs)) (b ∷ bs) }
@@ -83,6 +84,7 @@ module _ (p : ℕ → Bool) (text : List ℕ) (at : ℕ) where
   unfolding notEmpty cut partsFrom
   none-left h = skipped ∙ rw (drop-of-length-le text h)
 
+  -- where a run ends within the text, a byte stands that does not pass
   pub stops : runEnd p text at < length text → p (getD text (runEnd p text at) 0) ≡ false
   unfolding runEnd
   stops h =

@@ -122,23 +122,27 @@ bytesOf [] = []
 bytesOf (q ∷ qs) = q .bytes ∷ bytesOf qs
 
 -- bytes cut at separators: the first word, which may be empty, and the later ones that are not
-record Words : Type 0 where
-  word : List ℕ
-  later : List (List ℕ)
+pub record Words : Type 0 where
+  pub word : List ℕ
+  pub later : List (List ℕ)
 
-abbrev filledWords : List ℕ → List (List ℕ) → List (List ℕ)
+-- a word in front of others, if it is not empty
+abbrev pub filledWords : List ℕ → List (List ℕ) → List (List ℕ)
 filledWords [] ws = ws
 filledWords (b ∷ bs) ws = (b ∷ bs) ∷ ws
 
-abbrev all : Words → List (List ℕ)
+-- all words that are not empty
+abbrev pub all : Words → List (List ℕ)
 all w = filledWords (w .word) (w .later)
 
-abbrev withByte : Bool → ℕ → Words → Words
+-- a byte in front: a separator ends an empty word, another joins the first
+abbrev pub withByte : Bool → ℕ → Words → Words
 withByte true b w = record { word = []; later = all w }
 withByte false b w = record { word = b ∷ w .word; later = w .later }
 
 module _ (p : ℕ → Bool) where
-  unfoldable words : List ℕ → Words
+  -- the words of bytes
+  unfoldable pub words : List ℕ → Words
   words [] = record { word = []; later = [] }
   words (b ∷ bs) = withByte (p b) b (words bs)
 
@@ -182,7 +186,8 @@ module _ (p : ℕ → Bool) where
       (λ e. (record { at = at; bytes = [] }, q ∷ qs, rw (e, c), rw e, rw e (filled-bytes q qs ∙ ap₂ filledWords w m)))
       (λ e. (record { at = at; bytes = b ∷ q .bytes }, qs, rw (e, c), rw e (more b w), rw e m))
 
-  pieces-words : (at : ℕ) (bs : List ℕ) → bytesOf (notEmpty (cut p at bs)) ≡ all (words bs)
+  -- the pieces that are not empty, their places aside, are the words
+  pub pieces-words : (at : ℕ) (bs : List ℕ) → bytesOf (notEmpty (cut p at bs)) ≡ all (words bs)
   pieces-words at bs =
       let (q, qs, c, w, m) = cut-words at bs in
       ap (λ (x : List Piece). bytesOf (notEmpty x)) c ∙ filled-bytes q qs ∙ ap₂ filledWords w m

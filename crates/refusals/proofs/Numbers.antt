@@ -9,12 +9,13 @@ use Rattle.refusals.specs.Numbers.{numberOf}
 use Rattle.refusals.specs.declared.Refusal.{Refusal}
 use Rattle.refusals.specs.declared.Refusal.the-variants.{Variables, RowCount, RowBit, RowBuffer, Text, TextsDiffer, GateBuffer, NumberLine, Gates, Wires}
 use Rattle.refusals.specs.declared.Refusal.the-variants.{LineBuffer, State, OtherVariables, NoModel, NotPadding, Closed, NoClause, ProofText}
-use Rattle.refusals.specs.declared.Refusal.the-variants.{NotFollowing, NoEmptyClause}
+use Rattle.refusals.specs.declared.Refusal.the-variants.{NotFollowing, NoEmptyClause, GameVariables, LineVariables}
 
 -- the refusal of a number; no refusal has 0
 refusalOf : ℕ → Refusal
-refusalOf k = getD (NoEmptyClause ∷ Variables ∷ RowCount ∷ RowBit ∷ RowBuffer ∷ Text ∷ TextsDiffer ∷ GateBuffer ∷ NumberLine ∷ Gates ∷ Wires ∷ LineBuffer
-    ∷ State ∷ OtherVariables ∷ NoModel ∷ NotPadding ∷ Closed ∷ NoClause ∷ ProofText ∷ NotFollowing ∷ []) k NoEmptyClause
+refusalOf k = getD (LineVariables ∷ Variables ∷ RowCount ∷ RowBit ∷ RowBuffer ∷ Text ∷ TextsDiffer ∷ GateBuffer ∷ NumberLine ∷ Gates ∷ Wires ∷ LineBuffer
+    ∷ State ∷ OtherVariables ∷ NoModel ∷ NotPadding ∷ Closed ∷ NoClause ∷ ProofText ∷ NotFollowing ∷ NoEmptyClause
+    ∷ GameVariables ∷ []) k LineVariables
 
 refusal-back : (r : Refusal) → refusalOf (numberOf r) ≡ r
 unfolding refusalOf
@@ -38,13 +39,15 @@ refusal-back NoClause = refl
 refusal-back ProofText = refl
 refusal-back NotFollowing = refl
 refusal-back NoEmptyClause = refl
+refusal-back GameVariables = refl
+refusal-back LineVariables = refl
 
 -- two refusals with one number are one refusal
 pub number-injective : (q r : Refusal) → numberOf q ≡ numberOf r → q ≡ r
 number-injective q r e = sym (refusal-back q) ∙ ap refusalOf e ∙ refusal-back r
 
--- no refusal's number is above 20
-pub number-lt : (r : Refusal) → numberOf r < 21
+-- no refusal's number is above 22
+pub number-lt : (r : Refusal) → numberOf r < 23
 number-lt Variables = lit< tt
 number-lt RowCount = lit< tt
 number-lt RowBit = lit< tt
@@ -65,8 +68,10 @@ number-lt NoClause = lit< tt
 number-lt ProofText = lit< tt
 number-lt NotFollowing = lit< tt
 number-lt NoEmptyClause = lit< tt
+number-lt GameVariables = lit< tt
+number-lt LineVariables = lit< tt
 
 -- no refusal has the number 0
 pub number-positive : (r : Refusal) → numberOf r ≡ 0 → ⊥
 unfolding refusalOf
-number-positive r e = let q : 20 ≡ numberOf r = ap numberOf (sym (ap refusalOf e) ∙ refusal-back r) in omega arith
+number-positive r e = let q : 22 ≡ numberOf r = ap numberOf (sym (ap refusalOf e) ∙ refusal-back r) in omega arith

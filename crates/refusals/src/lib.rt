@@ -3,7 +3,7 @@ ghost use mathlib.Core.Path.{_≡_};
 ghost use Rattle.refusals.specs.Numbers.{numberOf};
 
 // Why a call is turned back: 1 to 11 because of the input, 12 to 14 because of the state, 15 and 16 because of a late condition, 17 because
-// of texts that are not the tables', 18 to 20 because of a proof from another solver.
+// of texts that are not the tables', 18 to 20 because of a proof from another solver, 21 and 22 because of a game's variables.
 pub enum Refusal {
     // 1: n outside 1 to 32.
     Variables,
@@ -45,6 +45,10 @@ pub enum Refusal {
     NotFollowing,
     // 20: a proof that does not add the empty clause.
     NoEmptyClause,
+    // 21: a game's n above 12.
+    GameVariables,
+    // 22: a variable on a game's lines twice or outside 1 to n.
+    LineVariables,
 }
 
 // What a call gives that has no other result.
@@ -78,5 +82,7 @@ pub fn number(refusal: Refusal) -> u8
         Refusal::ProofText => 18,
         Refusal::NotFollowing => 19,
         Refusal::NoEmptyClause => 20,
+        Refusal::GameVariables => 21,
+        Refusal::LineVariables => 22,
     }
 }

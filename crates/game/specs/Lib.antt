@@ -1,0 +1,3 @@
+pub mod Game
+pub mod Strategies
+pub mod Cuts

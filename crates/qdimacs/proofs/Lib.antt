@@ -1,0 +1,9 @@
+pub mod Turns
+pub mod Digits
+pub mod Bindings
+pub mod OneLine
+pub mod Lines
+pub mod Prefixes
+pub mod Games
+pub mod Fine
+pub mod Examples
