@@ -8,7 +8,7 @@ use Rattle.words.specs.declared.Row.{Row}
 use Rattle.words.proofs.Truth.{on}
 use Rattle.truth.specs.Truth.{allTrue}
 use Rattle.qdimacs.specs.Text.{GameTurn, GameText, game, noGame, gameText}
-use Rattle.qdimacs.proofs.Fine.{Played, Fine, text-fine}
+use Rattle.qdimacs.proofs.Fine.{Played, fine-game}
 use Rattle.game.specs.Game.{fixed, decided, forced, unfixed, winner, winnerOf, winnerNumbers, gameAnswer, gameCode, gameNumbers, wonSaid, gameSaid}
 use Rattle.game.specs.Strategies.{ExistentialForces, UniversalForces, Holds}
 use Rattle.game.specs.declared.GameAnswer.{GameAnswer}
@@ -21,7 +21,7 @@ module _ (rows : List Row) where
   pub one-side : (ks : List GameTurn) (a : ℕ → Bool) → ExistentialForces rows ks a → UniversalForces rows ks a → ⊥
   one-side ks a e u = true≢false (sym (e .1 (u .0)) ∙ u .1 (e .0))
 
-  pub answer-holds : (k : GameTurn) (ks : List GameTurn) → Holds rows k ks (winnerOf rows (k ∷ ks))
+  pub answer-holds : (k : GameTurn) (ks : List GameTurn) → Holds rows (k ∷ ks) (winnerOf rows (k ∷ ks))
   unfolding forced
   answer-holds k ks = go (k .universal) (forced rows ks (fixed unfixed v true)) (forced rows ks (fixed unfixed v false)) refl refl refl
     where
@@ -33,7 +33,7 @@ module _ (rows : List Row) where
       whole u x y eu ex ey = rw (eu, ex, ey) refl
 
       go : (u x y : Bool) → k .universal ≡ u → forced rows ks (fixed unfixed (k .variable) true) ≡ x → forced rows ks (fixed unfixed (k .variable) false) ≡ y
-          → Holds rows k ks (winner (k .variable) u x y)
+          → Holds rows (k ∷ ks) (winner (k .variable) u x y)
       go true true true eu ex ey = (eu, forces rows (k ∷ ks) unfixed .existential (whole true true true eu ex ey))
       go true true false eu ex ey = (
         eu,
@@ -51,17 +51,13 @@ module _ (rows : List Row) where
       )
       go false false false eu ex ey = (eu, forces rows (k ∷ ks) unfixed .universal (whole false false false eu ex ey))
 
--- a text's game has a first turn, and what its answer says holds
-pub text-holds : (text : List ℕ) (rows : List Row) (turns : List GameTurn) → gameText text ≡ game rows turns
-    → (k : GameTurn) × (ks : List GameTurn) × (turns ≡ k ∷ ks) × Holds rows k ks (winnerOf rows turns)
-text-holds text rows turns e = go turns (subst-fine (text-fine text))
+-- what the answer to a text's game says holds
+pub text-holds : (text : List ℕ) (rows : List Row) (turns : List GameTurn) → gameText text ≡ game rows turns → Holds rows turns (winnerOf rows turns)
+text-holds text rows turns e = go turns (fine-game text rows turns e)
   where
-    subst-fine : Fine (gameText text) → Played rows turns
-    subst-fine f = rw e at f
-
-    go : (ts : List GameTurn) → Played rows ts → (k : GameTurn) × (ks : List GameTurn) × (ts ≡ k ∷ ks) × Holds rows k ks (winnerOf rows ts)
+    go : (ts : List GameTurn) → Played rows ts → Holds rows ts (winnerOf rows ts)
     go [] p = absurd (omega (arith, p .some-turn))
-    go (k ∷ ks) p = (k, ks, refl, answer-holds rows k ks)
+    go (k ∷ ks) p = answer-holds rows k ks
 
 -- ---- its numbers
 

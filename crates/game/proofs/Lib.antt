@@ -5,3 +5,4 @@ pub mod Satisfiability
 pub mod Reading
 pub mod Answers
 pub mod Examples
+pub mod Consequences

@@ -47,17 +47,18 @@ pub record CanForce (rows : List Row) (ks : List GameTurn) (a : ℕ → Bool) : 
   pub existential : forced rows ks a ≡ true → ExistentialForces rows ks a
   pub universal : forced rows ks a ≡ false → UniversalForces rows ks a
 
--- what an answer says of a game whose first turn is k: its winner can force its aim; where the winner moves first, still with the value
+-- what an answer says of a game, which has a first turn: its winner can force its aim; where the winner moves first, still with the value
 -- given, and false is given only where true does not serve
-abbrev pub Holds : List Row → GameTurn → List GameTurn → Winner → Type 0
-Holds rows k ks (Existential (Fixes v b)) =
+abbrev pub Holds : List Row → List GameTurn → Winner → Type 0
+Holds rows [] w = ⊥
+Holds rows (k ∷ ks) (Existential (Fixes v b)) =
     (k .universal ≡ false) × (v ≡ k .variable) × ExistentialForces rows ks (fixed unfixed v b)
     × (b ≡ false → ExistentialForces rows ks (fixed unfixed v true) → ⊥)
-Holds rows k ks (Existential Nothing) = (k .universal ≡ true) × ExistentialForces rows (k ∷ ks) unfixed
-Holds rows k ks (Universal (Fixes v b)) =
+Holds rows (k ∷ ks) (Existential Nothing) = (k .universal ≡ true) × ExistentialForces rows (k ∷ ks) unfixed
+Holds rows (k ∷ ks) (Universal (Fixes v b)) =
     (k .universal ≡ true) × (v ≡ k .variable) × UniversalForces rows ks (fixed unfixed v b)
     × (b ≡ false → UniversalForces rows ks (fixed unfixed v true) → ⊥)
-Holds rows k ks (Universal Nothing) = (k .universal ≡ false) × UniversalForces rows (k ∷ ks) unfixed
+Holds rows (k ∷ ks) (Universal Nothing) = (k .universal ≡ false) × UniversalForces rows (k ∷ ks) unfixed
 
 -- ---- quantifiers
 
