@@ -1,7 +1,7 @@
 /*
  * Forkhemit for hosts in C and C++: two stations' clause tables and the public one, the giant step, its circuit and the texts.
  * Every function is proved to meet its contract, which stands in crates/host_runs, host_indexed, host_solve, host_late, host_explained,
- * host_circuits, host_repeats, host_texts, host_excerpts, host_lines and host_proofs.
+ * host_circuits, host_repeats, host_texts, host_excerpts, host_lines, host_proofs and host_game.
  * `make lib` writes the archive to link, target/lib/libforkhemit.a, for x86-64 Linux; it needs C's memcpy and memset and nothing else. docs/GUIDE.md
  * has the calls in the order in which a host makes them, examples/host hosts in C, in Rust and in Python.
  *
@@ -36,9 +36,9 @@
 /* The version, as CHANGES.md numbers it. While the first number is 0, parameters and buffers may change with the second: read there what
  * did, and compile the host anew. With the third they never change. The shared library's soname has the first two. */
 #define FORKHEMIT_VERSION_MAJOR 0
-#define FORKHEMIT_VERSION_MINOR 8
+#define FORKHEMIT_VERSION_MINOR 9
 #define FORKHEMIT_VERSION_PATCH 0
-/* The same as one number that grows, for #if: 0.8.0 is 800. */
+/* The same as one number that grows, for #if: 0.9.0 is 900. */
 #define FORKHEMIT_VERSION (FORKHEMIT_VERSION_MAJOR * 10000 + FORKHEMIT_VERSION_MINOR * 100 + FORKHEMIT_VERSION_PATCH)
 
 /* The most bytes that a DIMACS text may have, remarks included, and that a proof may have: one byte more of a file is all that a host need
@@ -57,7 +57,8 @@ extern "C" {
 
 /* Why a call was turned back. The lowest that applies is returned, except that 4 comes before 3, and the 3 of a new row last; of three texts
  * whatever refuses the left one, then the right one, then the public one. In a text, a header's 1 or 2 comes before 5, and an overlong text is
- * 5 before all else. forkhemit_clause and forkhemit_excerpt judge overlong texts first, then the tables, then the texts. */
+ * 5 before all else. forkhemit_clause and forkhemit_excerpt judge overlong texts first, then the tables, then the texts.
+ * In a game's text 21 comes right behind the header's 1 and 2 and before 5, and 22 last. */
 enum forkhemit_refusal_number {
     FORKHEMIT_TAKEN = 0,            /* not turned back */
     FORKHEMIT_VARIABLES = 1,        /* n outside 1 to 32 */
@@ -79,7 +80,9 @@ enum forkhemit_refusal_number {
     FORKHEMIT_NO_CLAUSE = 17,       /* row of neither station, or a text whose n or row count is not its table's */
     FORKHEMIT_PROOF_TEXT = 18,      /* malformed or overlong proof, or more than 256 additions in it */
     FORKHEMIT_NOT_FOLLOWING = 19,   /* an addition that does not follow, up to the empty clause */
-    FORKHEMIT_NO_EMPTY_CLAUSE = 20  /* no empty clause added */
+    FORKHEMIT_NO_EMPTY_CLAUSE = 20, /* no empty clause added */
+    FORKHEMIT_GAME_VARIABLES = 21,  /* a game of more than 12 variables */
+    FORKHEMIT_LINE_VARIABLES = 22   /* a variable on the lines of a game's text twice or outside 1 to n */
 };
 
 /*
@@ -103,6 +106,12 @@ enum forkhemit_verdict {
     FORKHEMIT_UNKNOWN = 0,
     FORKHEMIT_SATISFIABLE = 1,
     FORKHEMIT_UNSATISFIABLE = 2
+};
+
+/* The sides of a game: for all rows true, and against it. */
+enum forkhemit_side {
+    FORKHEMIT_EXISTENTIAL = 1,
+    FORKHEMIT_UNIVERSAL = 2
 };
 
 /* ---- tables */
@@ -298,6 +307,17 @@ uint8_t forkhemit_excerpt(uint64_t n, uint64_t left_rows, uint64_t right_rows, u
 uint8_t forkhemit_check_proof(uint64_t n, uint64_t left_rows, uint64_t right_rows, uint64_t public_rows,
                               const uint32_t *left, size_t left_length, const uint32_t *right, size_t right_length,
                               const uint32_t *public_table, size_t public_length, const uint8_t *text, size_t text_length);
+
+/* ---- who can force the roster */
+
+/* Two sides fix the variables of one QDIMACS text in turn, the existential side for all rows true, the universal side against it: who can
+ * force its aim, whatever the other does? The text is a DIMACS text of 1 to 128 rows and at most 12 variables with lines between header and
+ * clauses, as `e 1 2 0` or `a 3 0`: the letter is the line's first byte and says whose variables follow, at least one, closed by 0. In the
+ * order of the lines they are fixed. Variables on no line are the existential side's and come first, by number. Remark lines may stand
+ * anywhere, lines of separators alone before any line.
+ * answer: the winner, one of forkhemit_side; the first variable in that order, from 1, where the winner fixes it, else 0; a value with which
+ * the winner still wins, 1 if both serve, 0 where there is no variable. 5 for an overlong text, then 1, 2, 21, 5, 22. */
+uint8_t forkhemit_game(const uint8_t *text, size_t text_length, uint64_t answer[3]);
 
 /* ---- the circuit */
 
