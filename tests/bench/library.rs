@@ -1,5 +1,5 @@
-//! Times the library as a host calls it: the giant step, runs in one call and in many, free literals counted, the reader and the writer
-//! beside plain Rust, and the making of circuits.
+//! Times the library as a host calls it: the giant step, runs in one call and in many, free literals counted, the reader, the game and the
+//! writer beside plain Rust, and the making of circuits.
 //! All times are the processor's. Linked with the archive that `make lib` writes.
 
 mod plain;
@@ -38,6 +38,7 @@ extern "C" {
     fn forkhemit_continue(n: u64, left_rows: u64, right_rows: u64, public_rows: u64, left: *const u32, left_length: usize,
         right: *const u32, right_length: usize, public_table: *const u32, public_length: usize, times: u64, run: &mut [u32; 101],
         continued: &mut [u64; 2]) -> u8;
+    fn forkhemit_game(text: *const u8, text_length: usize, answer: &mut [u64; 3]) -> u8;
     fn forkhemit_generate(n: u64, left_rows: u64, right_rows: u64, public_rows: u64, gates: *mut u32, gates_length: usize,
         count: &mut [u64; 1]) -> u8;
     fn forkhemit_write_lines(n: u64, left_rows: u64, right_rows: u64, public_rows: u64, gates: *const u32, gates_length: usize,
@@ -364,6 +365,48 @@ fn reader(what: &str, make: fn(&mut Random) -> Vec<u8>) {
     println!("reader, {what}: {a:.0} MB/s, plain Rust {b:.0} MB/s, ratio {:.2}", b / a);
 }
 
+// ---- The game
+
+/// Every clause over the last seven variables: of any values the last fixed of them leaves exactly one row false, so that nothing is known
+/// before.
+fn last_seven() -> Vec<Row> {
+    (0..128).map(|signs: i64| (0..7).map(|k| if signs >> k & 1 == 1 { -6 - k } else { 6 + k }).collect()).collect()
+}
+
+/// The same but for those with 12 as it is: whatever is fixed before, 12 false makes all true.
+fn last_answer() -> Vec<Row> {
+    (0..128)
+        .map(|signs: i64| {
+            [5, 6, 7, 8, 9, 10, 11]
+                .iter()
+                .enumerate()
+                .map(|(k, v)| if signs >> k & 1 == 1 { -v } else { *v })
+                .chain([-12])
+                .collect()
+        })
+        .collect()
+}
+
+/// Times the game of 12 variables and 128 rows beside plain Rust.
+fn game(what: &str, lines: &str, rows: &[Row]) {
+    let plain = layout::plain(12, rows);
+    let end = plain.iter().position(|&byte| byte == b'\n').expect("the header is a line") + 1;
+    let text = [&plain[..end], lines.as_bytes(), &plain[end..]].concat();
+    let (mut buffer, mut words) = (vec![], vec![]);
+    let (mut proved, mut others) = (vec![], vec![]);
+    let mut answer = [0; 3];
+    for _ in 0..RUNS {
+        // The text and the three numbers are lent for the call.
+        let (number, time) = clock::of(|| unsafe { forkhemit_game(text.as_ptr(), text.len(), &mut answer) });
+        let (other, took) = clock::of(|| plain::game(&text, &mut buffer, &mut words));
+        assert_eq!((number, Ok(answer)), (0, other), "both give the same answer");
+        proved.push(time);
+        others.push(took);
+    }
+    let (a, b) = (median(proved), median(others));
+    println!("game, n = 12, m = 128, {what}: {a:.0} us, plain Rust {b:.0} us, ratio {:.2} (answer {answer:?})", a / b);
+}
+
 // ---- Circuits
 
 /// Makes the circuit of a size into words that have room for it; how many gates.
@@ -469,6 +512,14 @@ fn main() {
     reader("mostly separators", spaced);
     reader("a long remark", remarked);
     reader("a remark before every clause", amid);
+    let all = "1 2 3 4 5 6 7 8 9 10 11";
+    game("no line, every value tried", "", &last_seven());
+    game("12 behind eleven universal ones", &format!("a {all} 0\ne 12 0\n"), &last_answer());
+    game(
+        "the sides by turns",
+        "e 1 0\na 2 0\ne 3 0\na 4 0\ne 5 0\na 6 0\ne 7 0\na 8 0\ne 9 0\na 10 0\ne 11 0\na 12 0\n",
+        &last_seven(),
+    );
     circuit_heading();
     for (n, m) in [(1, 2), (2, 4), (4, 12), (8, 32), (16, 64), (20, 91), (32, 256), (32, 384)] {
         circuit(n, m);

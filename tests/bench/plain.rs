@@ -296,3 +296,93 @@ fn header(line: &[u8]) -> Option<(i64, i64)> {
     let sizes = (whole()?, whole()?);
     parts.next().is_none().then_some(sizes)
 }
+
+/// The variables of the lines between header and clauses, in order: each bit with 1 for the universal side; and the text without these
+/// lines. None where a line is malformed.
+fn prefix(text: &[u8], plain: &mut Vec<u8>) -> Option<Vec<(i64, bool)>> {
+    plain.clear();
+    let (mut turns, mut rest, mut headed) = (vec![], text, false);
+    while !rest.is_empty() {
+        let end = rest.iter().position(|&byte| byte == b'\n').map_or(rest.len(), |end| end + 1);
+        let line = &rest[..end];
+        match line[0] {
+            b'a' | b'e' if headed => {
+                let mut at = 1;
+                loop {
+                    let start = at;
+                    while at < end && matches!(line[at], b' ' | b'\t') {
+                        at += 1;
+                    }
+                    let (variable, behind) = number(line, at).filter(|_| at > start)?;
+                    at = behind;
+                    if variable == 0 {
+                        break;
+                    }
+                    turns.push((variable, line[0] == b'a'));
+                }
+                line[at..].iter().all(|byte| matches!(byte, b' ' | b'\t' | b'\r' | b'\n')).then_some(())?;
+            }
+            b' ' | b'\t' | b'\r' | b'\n' if headed => plain.extend(line),
+            b'c' => plain.extend(line),
+            _ if !headed => {
+                plain.extend(line);
+                headed = true;
+            }
+            _ => break,
+        }
+        rest = &rest[end..];
+    }
+    plain.extend(rest);
+    Some(turns)
+}
+
+/// Whether the existential side can force that all rows are true: rows and turns, T and F.
+fn forces(rows: &[u32], turns: &[(u32, bool)], t: u32, f: u32) -> bool {
+    let (mut satisfied, unset) = (true, !(t | f));
+    for row in rows.chunks_exact(2) {
+        if row[0] & row[1] | row[0] & t | row[1] & f == 0 {
+            if (row[0] | row[1]) & unset == 0 {
+                return false;
+            }
+            satisfied = false;
+        }
+    }
+    let Some((&(bit, universal), later)) = turns.split_first().filter(|_| !satisfied) else {
+        return satisfied;
+    };
+    match forces(rows, later, t | bit, f) {
+        first if first == universal => forces(rows, later, t, f | bit),
+        first => first,
+    }
+}
+
+/// Who can force the roster of a QDIMACS text: the winner, the first variable where the winner moves first, and its value.
+pub fn game(text: &[u8], plain: &mut Vec<u8>, words: &mut Vec<u32>) -> Result<[u64; 3], u8> {
+    if text.len() > 65_536 {
+        return Err(5);
+    }
+    let listed = prefix(text, plain);
+    let (n, _, _) = sizes(plain)?;
+    if n > 12 {
+        return Err(21);
+    }
+    let listed = listed.ok_or(5)?;
+    read(plain, words)?;
+    let mut seen = 0u32;
+    let mut later = vec![];
+    for &(variable, universal) in &listed {
+        if !(1..=n).contains(&variable) || seen >> (variable - 1) & 1 == 1 {
+            return Err(22);
+        }
+        seen |= 1 << (variable - 1);
+        later.push((1 << (variable - 1), universal));
+    }
+    let unlisted = (0..n).map(|k| (1u32 << k, false)).filter(|(bit, _)| seen & bit == 0);
+    let turns: Vec<(u32, bool)> = unlisted.chain(later).collect();
+    let (bit, universal) = turns[0];
+    let [yes, no] = [forces(words, &turns[1..], bit, 0), forces(words, &turns[1..], 0, bit)];
+    let wins = if universal { !(yes && no) } else { yes || no };
+    let side = 1 + u64::from(wins == universal);
+    let variable = u64::from(bit.trailing_zeros() + 1);
+    Ok(if wins { [side, variable, u64::from(yes != universal)] } else { [side, 0, 0] })
+}

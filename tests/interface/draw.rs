@@ -5,7 +5,7 @@ use crate::circuits::Circuits;
 use forkhemit_tests::memory::{self, INDEX_WORDS, RUN_WORDS};
 use forkhemit_tests::model::{self, Row, Size, TEXT_LIMIT};
 use forkhemit_tests::random::Random;
-use forkhemit_tests::{damage, layout, proofs, states, tables, wires};
+use forkhemit_tests::{damage, game, layout, proofs, states, tables, wires};
 
 /// Numbers at the limits, and numbers that look like others when they are cut to fewer bits.
 const ODD: [u64; 18] = [
@@ -216,6 +216,23 @@ fn texts(random: &mut Random) -> Vec<Lent> {
     lent.extend(counts.into_iter().map(|count| words_for(2 * count, random)));
     lent.push(numbers_for(4, random));
     lent
+}
+
+/// A game's text: of the size's variables where there are few, else mostly of less; now and then damaged.
+fn game_text(size: Size, random: &mut Random) -> Lent {
+    let most = one(&[2, 3, 4, 6, 6, 8], random);
+    let n = match random.below(40) {
+        0 => size.n.min(13),
+        1 => 12,
+        _ => size.n.min(most),
+    };
+    let m = random.between(1, size.left);
+    let (rows, listed) = game::drawn(n as i64, m, random);
+    let mut text = game::spaced(n as i64, &rows, &listed, random);
+    for _ in 0..one(&[0, 0, 0, 1, 1, 2], random) {
+        damage::strike(&mut text, random);
+    }
+    Lent::Bytes(text)
 }
 
 /// Rows to be solved, and a budget in which the model comes to an end.
@@ -508,6 +525,7 @@ pub fn of_size(function: Function, size: Size, circuits: &Circuits, random: &mut
             call([numbers(size), vec![number]].concat(), lent)
         }
         Function::CheckProof => call(numbers(size), proved(size, random)),
+        Function::Game => call(vec![], vec![game_text(size, random), numbers_for(3, random)]),
         Function::Model => {
             let run = memory::run_words(&states::random(size.n, random));
             call(vec![], vec![Lent::Run(run), numbers_for(1, random)])

@@ -3,6 +3,7 @@
 use crate::calls::{Call, Function, Given, Lent};
 use crate::circuits::Circuits;
 use forkhemit_tests::bristol::Gate;
+use forkhemit_tests::game;
 use forkhemit_tests::memory;
 use forkhemit_tests::model::{self, Condition, Row, Run, Size, Ties};
 use forkhemit_tests::proofs;
@@ -94,6 +95,7 @@ impl Call {
             Function::StepExplained => self.step_explained(),
             Function::Clause => self.clause(),
             Function::Excerpt => self.excerpt(),
+            Function::Game => self.game(),
             Function::Model => self.model(),
             Function::CheckProof => self.check_proof(),
             Function::Generate => match self.size().and_then(|size| self.room_for_gates(size, 0)) {
@@ -144,6 +146,12 @@ impl Call {
         let [left, right, public] = words.map(Lent::Words);
         let sizes = Lent::Numbers(sizes.map(|number| number as u64).to_vec());
         Ok(vec![(3, left), (4, right), (5, public), (6, sizes)])
+    }
+
+    /// Who wins the game of a text, and the first variable's value.
+    fn game(&self) -> Result<Writes, u8> {
+        let game = game::read(self.bytes(0))?;
+        Ok(vec![(1, Lent::Numbers(game::answer(&game).to_vec()))])
     }
 
     /// A row judged, its numbers cut to words; never refused.

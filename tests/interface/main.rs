@@ -2,9 +2,10 @@
 //! Every refusal as it was written by hand, alone and two at once, then calls at the limits of size, then rows of every shape judged and
 //! counted, then runs with index and number beside the plain ones, then runs continued in slices, then runs whose steps tell their rules,
 //! then clauses by their own bytes, then steps where several literals are forced, then runs in which rows are replaced, whose verdicts are
-//! held to another solver's, then proofs that other solvers wrote, as they are and damaged, then random calls over all functions: each
-//! result and every lent buffer is held to the model. With `exact` each buffer has an allocation of its own of exactly its length, for a
-//! memory checker; else it stands between guards. The last line is `N passed, M failed`, and the status 0 where M is 0.
+//! held to another solver's, then proofs that other solvers wrote, as they are and damaged, then games of two sides, held to all their
+//! plans and to another solver's verdicts, then random calls over all functions: each result and every lent buffer is held to the model.
+//! With `exact` each buffer has an allocation of its own of exactly its length, for a memory checker; else it stands between guards. The
+//! last line is `N passed, M failed`, and the status 0 where M is 0.
 
 mod calls;
 mod circuits;
@@ -14,6 +15,7 @@ mod draw;
 mod expected;
 mod explained;
 mod extremes;
+mod game;
 mod indexed;
 mod judged;
 mod late;
@@ -72,7 +74,7 @@ fn refused(circuits: &Circuits, guard: usize) -> Tally {
                 ledger.kind(&format!("refused {}", case.number), 1);
                 ledger.test(failure.map(|failure| format!("{}: {failure}\n  {}", case.what, shown(&case.call))));
             }
-            let missing = (0..=20).find(|&number| !cases.iter().any(|case| case.number == number));
+            let missing = (0..=22).find(|&number| !cases.iter().any(|case| case.number == number));
             ledger.test(missing.map(|number| format!("no case is refused with {number}")));
         }
     }
@@ -159,6 +161,10 @@ fn main() -> ExitCode {
     total.add(proofs::stored(&circuits, guard));
     total.add(proofs::made(&circuits, guard));
     total.add(proofs::fullest(&circuits, guard));
+    total.add(game::all(&circuits, guard));
+    total.add(game::drawn(&circuits, guard));
+    total.add(game::refused(&circuits, guard));
+    total.add(game::damaged(&circuits, guard));
     if guard > 0 {
         total.add(circuits.known());
     }

@@ -78,6 +78,9 @@ const PROOF_SIZE: Size = Size { n: 2, left: 2, right: 2, public: 1 };
 const PROOF_TABLES: [&[u32]; 3] = [&[0b11, 0, 0b01, 0b10], &[0b10, 0b01, 0, 0b11], &[0b11, 0b01]];
 const PROOF: &[u8] = b"1 0\nd 1 2 0\n0\n";
 
+/// A game's text.
+const GAME_TEXT: &[u8] = b"p cnf 2 2\na 1 0\ne 2 0\n1 -2 0\n-1 2 0\n";
+
 /// A call of the function that is taken.
 fn base(function: Function, circuits: &Circuits) -> Result<Call, String> {
     let d = numbers(SIZE);
@@ -131,6 +134,8 @@ fn base(function: Function, circuits: &Circuits) -> Result<Call, String> {
             let room = if function == Function::Clause { vec![numbers(3)] } else { vec![bytes(15), numbers(1)] };
             (clause_numbers, [tables, texts, room].concat())
         }
+        // the universal side fixes 1, then the existential one 2
+        Function::Game => (vec![], vec![Lent::Bytes(GAME_TEXT.to_vec()), numbers(3)]),
         Function::Model => (vec![], vec![Lent::Run(satisfied), numbers(1)]),
         Function::CheckProof => {
             let tables = PROOF_TABLES.map(|table| Lent::Words(table.to_vec())).to_vec();
@@ -741,6 +746,21 @@ fn read_budget(list: &mut Changes) {
     add(list, "no LF in 101 bytes", 8, text(0, b"0".repeat(101)));
 }
 
+/// 1, 2, 5, 21 and 22 of a game's text; `game.rs` tries them in each order.
+fn game(list: &mut Changes) {
+    let overlong = [GAME_TEXT, &vec![b'\n'; TEXT_LIMIT + 1 - GAME_TEXT.len()]].concat();
+    for (what, number, to) in [
+        ("overlong", 5, overlong),
+        ("of n 33", 1, b"p cnf 33 1\na 34 0\n1 0\n".to_vec()),
+        ("without rows", 2, b"p cnf 13 0\n".to_vec()),
+        ("of n 13", 21, b"p cnf 13 1\nx".to_vec()),
+        ("with a line without a variable", 5, b"p cnf 2 1\na 0\n1 0\n".to_vec()),
+        ("with a variable twice", 22, b"p cnf 2 1\na 1 0\ne 1 0\n1 0\n".to_vec()),
+    ] {
+        add(list, &format!("a text {what}"), number, text(0, to));
+    }
+}
+
 /// The changes of a function, with the number that each leads to.
 fn changes(function: Function) -> Changes {
     let groups: &[fn(&mut Changes)] = match function {
@@ -756,6 +776,7 @@ fn changes(function: Function) -> Changes {
         Function::ReplaceIndexed => &[sizes, tables, replace_indexed],
         Function::Clause => &[sizes, tables, clause],
         Function::Excerpt => &[sizes, tables, excerpt],
+        Function::Game => &[game],
         Function::Model => &[model_wanted],
         Function::CheckProof => &[sizes, tables, check_proof],
         Function::Generate => &[sizes, generate],

@@ -14,6 +14,7 @@ pub mod contracts;
 pub mod counts;
 pub mod damage;
 pub mod edits;
+pub mod game;
 pub mod hosts;
 pub mod layout;
 pub mod memory;

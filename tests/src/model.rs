@@ -88,17 +88,17 @@ pub struct Answer {
 // ---- Texts
 
 /// A space or a tab.
-fn blank(byte: u8) -> bool {
+pub fn blank(byte: u8) -> bool {
     byte == b' ' || byte == b'\t'
 }
 
 /// A byte that stands between tokens.
-fn separator(byte: u8) -> bool {
+pub fn separator(byte: u8) -> bool {
     blank(byte) || byte == b'\r' || byte == b'\n'
 }
 
 /// The first line without its LF, and what follows it.
-fn line(text: &[u8]) -> (&[u8], &[u8]) {
+pub fn line(text: &[u8]) -> (&[u8], &[u8]) {
     match text.iter().position(|&b| b == b'\n') {
         Some(at) => (&text[..at], &text[at + 1..]),
         None => (text, &[]),
@@ -140,7 +140,7 @@ fn header(line: &[u8]) -> Option<(i64, i64)> {
 }
 
 /// The rows of the text after the header, or None where it is malformed.
-fn rows(body: &[u8], n: i64, m: i64) -> Option<Vec<Row>> {
+pub fn rows(body: &[u8], n: i64, m: i64) -> Option<Vec<Row>> {
     let mut rows = vec![];
     let mut row = vec![];
     let mut unclosed = false;
@@ -163,8 +163,9 @@ pub fn without_remarks(text: &[u8]) -> Vec<u8> {
     text.split_inclusive(|&b| b == b'\n').filter(|line| line[0] != b'c').flatten().copied().collect()
 }
 
-/// A text whose row count may be one of these: its table, or the number of the refusal.
-pub fn read(text: &[u8], counts: RangeInclusive<u64>) -> Result<Table, u8> {
+/// n, the row count and all that follows the header of a text without its remarks. An overlong text is 5, and so is a malformed header;
+/// then come 1 and 2.
+pub fn headed(text: &[u8], counts: RangeInclusive<u64>) -> Result<(i64, i64, Vec<u8>), u8> {
     if text.len() > TEXT_LIMIT {
         return Err(5);
     }
@@ -179,7 +180,13 @@ pub fn read(text: &[u8], counts: RangeInclusive<u64>) -> Result<Table, u8> {
     if !within(m, counts) {
         return Err(2);
     }
-    let rows = rows(body, n, m).ok_or(5)?;
+    Ok((n, m, body.to_vec()))
+}
+
+/// A text whose row count may be one of these: its table, or the number of the refusal.
+pub fn read(text: &[u8], counts: RangeInclusive<u64>) -> Result<Table, u8> {
+    let (n, m, body) = headed(text, counts)?;
+    let rows = rows(&body, n, m).ok_or(5)?;
     Ok(Table { n: n as usize, rows })
 }
 

@@ -245,12 +245,16 @@ impl Drop for Room {
 /// Solvers of Debian's packages whose verdicts are asked for.
 const SOLVERS: [&str; 2] = ["cadical", "picosat"];
 
+/// Whether a solver is installed.
+pub fn installed(solver: &str) -> bool {
+    let mut asked = Command::new(solver);
+    asked.arg("--version").stdin(Stdio::null()).stdout(Stdio::null()).stderr(Stdio::null()).status().is_ok()
+}
+
 /// The first of them that is installed.
 pub fn solver() -> std::io::Result<&'static str> {
-    let quiet =
-        |solver: &&str| Command::new(solver).arg("--version").stdout(Stdio::null()).stderr(Stdio::null()).status();
     let missing = || std::io::Error::new(std::io::ErrorKind::NotFound, format!("none of {SOLVERS:?} is installed"));
-    SOLVERS.into_iter().find(|solver| quiet(solver).is_ok()).ok_or_else(missing)
+    SOLVERS.into_iter().find(|solver| installed(solver)).ok_or_else(missing)
 }
 
 /// Asks a solver, which reads the text on its standard input: whether it is satisfiable.
