@@ -34,7 +34,7 @@ unfoldable pub forced : List Row → List GameTurn → (ℕ → Bool) → Bool
 forced rows [] a = allTrue a rows
 forced rows (k ∷ ks) a = decided (k .universal) (forced rows ks (fixed a (k .variable) true)) (forced rows ks (fixed a (k .variable) false))
 
--- before any turn; what stands in it is without effect where each variable of the rows has a turn
+-- before any turn; what stands in it is without effect, since each variable of the rows has a turn (`text-unfixed`, proofs/Satisfiability)
 abbrev pub unfixed : ℕ → Bool
 unfixed i = false
 

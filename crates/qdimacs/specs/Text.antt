@@ -23,7 +23,7 @@ mostGameVariables = 12
 
 -- ---- "22, a variable on the lines twice or outside 1 to n"
 
--- the value stands on the lines among these
+-- whether a value is that of one of some numbers of the lines
 abbrev pub onLine : ℕ → List Bound → Bool
 onLine v [] = false
 onLine v (b ∷ bs) = eqb (b .value) v || onLine v bs
