@@ -158,7 +158,8 @@ pub fn check(d: Dimensions, left: &[u32], right: &[u32], public: &[u32], text: &
         ⌜ r ≡ outcome (proofChecks d (allTables (now (left .entry)) (now (right .entry)) (now (public .entry))) (now (text .entry))) ⌝ }
     ensures { λ r.
         ⌜ codeOf r ∷ []
-        ≡ said (outcome (proofChecks d (allTables (now (left .entry)) (now (right .entry)) (now (public .entry))) (now (text .entry)))) [] ⌝ }
+        ≡ said (outcome (proofChecks d (allTables (now (left .entry)) (now (right .entry)) (now (public .entry)))
+        (now (text .entry)))) [] ⌝ }
 {
     let accepted = tables::accept(d, left, right, public);
     if let Outcome::Refused(refusal) = accepted {
