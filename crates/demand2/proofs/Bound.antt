@@ -16,15 +16,14 @@ use Rattle.scan.specs.declared.Rule.{Rule}
 use Rattle.scan.specs.declared.Rule.the-variants.{AllSatisfied, Conflict, Unit, Choice}
 use Rattle.state.specs.declared.Standing.{Standing}
 use Rattle.state.specs.declared.Standing.the-variants.{Open, Satisfied, Refuted}
-use Rattle.scan.specs.Rules.{rule}
 use Rattle.state.specs.State.{State, fresh, ifOpen}
-use Rattle.solver.specs.Step.{back, assign, follow, later, step, after}
+use Rattle.solver.specs.Step.{back, assign, follow, Ruling, stepWith, later, afterWith}
 use Rattle.truth.specs.Truth.{occurs, occurring}
 use Rattle.state.specs.WellFormed.{chain}
-use Rattle.truth.proofs.RuleLaws.{Ruled, ruled, Settable, unit-settable, choice-settable}
+use Rattle.truth.proofs.RuleLaws.{Ruled, Applies, Settable, unit-settable, choice-settable}
 use Rattle.state.proofs.WellFormedLaws.{Formed, chain-head}
 use Rattle.truth.proofs.FreeVariables.{freeAmong, free-le, free-less-t, free-less-f}
-use Rattle.solver.proofs.StepLaws.{step-formed, fresh-formed}
+use Rattle.solver.proofs.StepLaws.{step-formed-with, fresh-formed}
 
 -- each level's variable passes
 abbrev allChosen : (ℕ → Bool) → List Level → Bool
@@ -78,12 +77,12 @@ module _ (n : ℕ) (p : ℕ → Bool) (rows : List Row) (may : (v : ℕ) → occ
   follow-chosen s (Unit v false) w c = c
   follow-chosen s (Choice v) w c = and-i (may v (choice-settable n rows (s .t) (s .f) w .occurring)) c
 
-  step-kept : (s : State) → Kept n p s → Kept n p (step n rows s)
-  unfolding step
-  step-kept s o = (step-formed n rows s (o .0), go (s .standing))
+  step-kept : (ruling : Ruling) → Applies ruling → (s : State) → Kept n p s → Kept n p (stepWith ruling n rows s)
+  unfolding stepWith
+  step-kept ruling applies s o = (step-formed-with ruling applies n rows s (o .0), go (s .standing))
     where
-      go : (st : Standing) → allChosen p (ifOpen st (follow s (rule n rows (s .t) (s .f))) s .levels) ≡ true
-      go Open = follow-chosen s (rule n rows (s .t) (s .f)) (ruled n rows (s .t) (s .f)) (o .1)
+      go : (st : Standing) → allChosen p (ifOpen st (follow s (ruling n rows (s .t) (s .f))) s .levels) ≡ true
+      go Open = follow-chosen s (ruling n rows (s .t) (s .f)) (applies n rows (s .t) (s .f)) (o .1)
       go Satisfied = o .1
       go Refuted = o .1
 
@@ -116,41 +115,41 @@ module _ (n : ℕ) (p : ℕ → Bool) (rows : List Row) (may : (v : ℕ) → occ
   follow-falls s (Unit v positive) w o = assign-falls s v positive (unit-settable n rows (s .t) (s .f) w)
   follow-falls s (Choice v) w o = choice-falls s v (choice-settable n rows (s .t) (s .f) w)
 
-  step-falls : (s : State) → Kept n p s → (k : ℕ) → potential n p s ≤ suc k → potential n p (step n rows s) ≤ k
-  unfolding step
-  step-falls s o k = go (s .standing) refl
+  step-falls : (ruling : Ruling) → Applies ruling → (s : State) → Kept n p s → (k : ℕ) → potential n p s ≤ suc k → potential n p (stepWith ruling n rows s) ≤ k
+  unfolding stepWith
+  step-falls ruling applies s o k = go (s .standing) refl
     where
-      go : (st : Standing) → s .standing ≡ st → potentialAt p n s st ≤ suc k → potential n p (ifOpen st (follow s (rule n rows (s .t) (s .f))) s) ≤ k
-      go Open e h = omega (arith, follow-falls s (rule n rows (s .t) (s .f)) (ruled n rows (s .t) (s .f)) o)
+      go : (st : Standing) → s .standing ≡ st → potentialAt p n s st ≤ suc k → potential n p (ifOpen st (follow s (ruling n rows (s .t) (s .f))) s) ≤ k
+      go Open e h = omega (arith, follow-falls s (ruling n rows (s .t) (s .f)) (applies n rows (s .t) (s .f)) o)
       go Satisfied e h = rw e (omega arith)
       go Refuted e h = rw e (omega arith)
 
 -- ---- so it reaches 0, and no open state has potential 0
 
-module _ (n : ℕ) (p : ℕ → Bool) where
-  closes : (k : ℕ) (rows : ℕ → List Row) → ((i : ℕ) → i < k → (v : ℕ) → occurs n (rows i) v ≡ true → p v ≡ true)
-      → (s : State) → Kept n p s → potential n p s ≤ k → after n rows k s .standing ≡ Open → ⊥
-  unfolding after
-  closes zero rows may s o h = go (s .standing) h
+module _ (ruling : Ruling) (applies : Applies ruling) where
+  closes : (n : ℕ) (p : ℕ → Bool) (k : ℕ) (rows : ℕ → List Row) → ((i : ℕ) → i < k → (v : ℕ) → occurs n (rows i) v ≡ true → p v ≡ true)
+      → (s : State) → Kept n p s → potential n p s ≤ k → afterWith ruling n rows k s .standing ≡ Open → ⊥
+  unfolding afterWith
+  closes n p zero rows may s o h = go (s .standing) h
     where
       go : (st : Standing) → potentialAt p n s st ≤ 0 → st ≡ Open → ⊥
       go Open h e = omega (arith, pow-suc 2 (among n p (s .t) (s .f)), pow-pos (among n p (s .t) (s .f)))
       go Satisfied h e = let z : _≡_ {A = ℕ} 0 1 = cc in omega arith
       go Refuted h e = let z : _≡_ {A = ℕ} 0 1 = cc in omega arith
-  closes (suc k) rows may s o h =
-      closes k (later rows) (λ i b. may (suc i) (suc-le-suc b)) (step n (rows 0) s)
-      (step-kept n p (rows 0) (may 0 (omega arith)) s o) (step-falls n p (rows 0) (may 0 (omega arith)) s o k h)
+  closes n p (suc k) rows may s o h =
+      closes n p k (later rows) (λ i b. may (suc i) (suc-le-suc b)) (stepWith ruling n (rows 0) s)
+      (step-kept n p (rows 0) (may 0 (omega arith)) ruling applies s o) (step-falls n p (rows 0) (may 0 (omega arith)) ruling applies s o k h)
 
-module _ (n : ℕ) (last : List Row) where
   -- what occurs at any step still occurs in the last rows
-  pub after-closes : (k : ℕ) (rows : ℕ → List Row) → ((i : ℕ) → i < k → (v : ℕ) → occurs n (rows i) v ≡ true → occurs n last v ≡ true)
-      → 2 ^ suc (occurring n last) - 1 ≤ k → after n rows k fresh .standing ≡ Open → ⊥
+  pub after-closes : (n : ℕ) (last : List Row) (k : ℕ) (rows : ℕ → List Row)
+      → ((i : ℕ) → i < k → (v : ℕ) → occurs n (rows i) v ≡ true → occurs n last v ≡ true)
+      → 2 ^ suc (occurring n last) - 1 ≤ k → afterWith ruling n rows k fresh .standing ≡ Open → ⊥
   unfolding leftOver occurring
-  after-closes k rows may h =
+  after-closes n last k rows may h =
       let p : 2 ^ suc (among n (occurs n last) 0 0) ≤ 2 ^ suc (occurring n last) = pow-mono (omega (arith, free-le (occurs n last) n 0 0)) in
       closes n (occurs n last) k rows may fresh (fresh-formed n, refl) (omega arith)
 
-  -- and there are at most n such variables
-  pub occurring-le : occurring n last ≤ n
-  unfolding occurring
-  occurring-le = count-le (occurs n last) n
+-- and there are at most n such variables
+pub occurring-le : (n : ℕ) (last : List Row) → occurring n last ≤ n
+unfolding occurring
+occurring-le n last = count-le (occurs n last) n

@@ -17,25 +17,25 @@ use Rattle.tables.specs.Rows.{rowAt, rowsFrom, rowsOf}
 use Rattle.tables.specs.Acceptance.{tableChecks}
 use Rattle.state.specs.declared.Standing.{Standing}
 use Rattle.state.specs.declared.Standing.the-variants.{Open, Satisfied, Refuted}
-use Rattle.state.specs.State.{State, fresh}
+use Rattle.state.specs.State.{State}
 use Rattle.verdicts.specs.declared.Verdict.{Verdict}
 use Rattle.verdicts.specs.declared.Verdict.the-variants.{Satisfiable, Unsatisfiable, Unknown}
 use Rattle.scan.specs.Rules.{allRows}
 use Rattle.scan.proofs.RowLaws.{In, not-all-rows}
 use Rattle.solver.specs.declared.Answer.{Answer}
-use Rattle.solver.specs.Step.{always, after}
+use Rattle.solver.specs.Step.{always}
 use Rattle.truth.specs.Truth.{rowTrue, allTrue, occurring}
 use Rattle.solver.specs.Entries.{answerOf}
-use Rattle.verdicts.specs.Verdicts.{verdictOf}
-use Rattle.demand2.specs.Demand2.{atEnd, stateAtEnd, Demand2}
+use Rattle.verdicts.specs.Verdicts.{verdictOf, verdictNumber}
+use Rattle.demand2.specs.Demand2.{atEnd, stateAtEnd, Demand2Of}
 use Rattle.demand2.proofs.Demand2.{verdict-satisfied, verdict-refuted, demand2}
 
 -- ---- any answer of which demand 2 holds
 
-module _ (n : ℕ) (rows : ℕ → List Row) (budget : ℕ) (answer : Answer) (holds : Demand2 n rows budget answer) where
+module _ (n : ℕ) (rows : ℕ → List Row) {states : ℕ → State} (budget : ℕ) (answer : Answer) (holds : Demand2Of n rows states budget answer) where
   -- no other number is the least number of steps, at most the budget, that closes the run, or else the budget
-  pub count-only : (k : ℕ) → k ≤ budget → ((j : ℕ) → j < k → after n rows j fresh .standing ≡ Open)
-      → (after n rows k fresh .standing ≡ Open → k ≡ budget) → answer .count ≡ k
+  pub count-only : (k : ℕ) → k ≤ budget → ((j : ℕ) → j < k → states j .standing ≡ Open)
+      → (states k .standing ≡ Open → k ≡ budget) → answer .count ≡ k
   count-only k most least closes =
       let c = answer .count in
       on (ltb c k)
@@ -46,25 +46,25 @@ module _ (n : ℕ) (rows : ℕ → List Row) (budget : ℕ) (answer : Answer) (h
       (λ h′. omega (arith, ltb-false c k h, ltb-false k c h′)))
 
   -- a run that the budget's steps close is decided, and unknown has spent the whole budget
-  pub closed-decided : (after n rows budget fresh .standing ≡ Open → ⊥) → answer .verdict ≡ Unknown → ⊥
+  pub closed-decided : (states budget .standing ≡ Open → ⊥) → answer .verdict ≡ Unknown → ⊥
   closed-decided closed e = closed (holds .unknown e .1)
 
   pub unknown-spent : answer .verdict ≡ Unknown → answer .count ≡ budget
   unknown-spent e = holds .unknown e .0
 
   -- a satisfied run is satisfiable by its T, a refuted one unsatisfiable, and no other is
-  pub satisfied-model-given : stateAtEnd n rows answer .standing ≡ Satisfied → answer .verdict ≡ Satisfiable (stateAtEnd n rows answer .t)
-  satisfied-model-given e = holds .by-standing ∙ ap (λ (st : Standing). verdictOf st (stateAtEnd n rows answer .t)) e
+  pub satisfied-model-given : stateAtEnd states answer .standing ≡ Satisfied → answer .verdict ≡ Satisfiable (stateAtEnd states answer .t)
+  satisfied-model-given e = holds .by-standing ∙ ap (λ (st : Standing). verdictOf st (stateAtEnd states answer .t)) e
 
-  pub refuted-said : stateAtEnd n rows answer .standing ≡ Refuted → answer .verdict ≡ Unsatisfiable
-  refuted-said e = holds .by-standing ∙ ap (λ (st : Standing). verdictOf st (stateAtEnd n rows answer .t)) e
+  pub refuted-said : stateAtEnd states answer .standing ≡ Refuted → answer .verdict ≡ Unsatisfiable
+  refuted-said e = holds .by-standing ∙ ap (λ (st : Standing). verdictOf st (stateAtEnd states answer .t)) e
 
   pub model-is-t : (model : ℕ) → answer .verdict ≡ Satisfiable model
-      → (stateAtEnd n rows answer .standing ≡ Satisfied) × (stateAtEnd n rows answer .t ≡ model)
-  model-is-t model e = verdict-satisfied (stateAtEnd n rows answer .standing) (stateAtEnd n rows answer .t) model (sym (holds .by-standing) ∙ e)
+      → (stateAtEnd states answer .standing ≡ Satisfied) × (stateAtEnd states answer .t ≡ model)
+  model-is-t model e = verdict-satisfied (stateAtEnd states answer .standing) (stateAtEnd states answer .t) model (sym (holds .by-standing) ∙ e)
 
-  pub unsatisfiable-refuted : answer .verdict ≡ Unsatisfiable → stateAtEnd n rows answer .standing ≡ Refuted
-  unsatisfiable-refuted e = verdict-refuted (stateAtEnd n rows answer .standing) (stateAtEnd n rows answer .t) (sym (holds .by-standing) ∙ e)
+  pub unsatisfiable-refuted : answer .verdict ≡ Unsatisfiable → stateAtEnd states answer .standing ≡ Refuted
+  unsatisfiable-refuted e = verdict-refuted (stateAtEnd states answer .standing) (stateAtEnd states answer .t) (sym (holds .by-standing) ∙ e)
 
   -- a decided answer tells whether some assignment makes every row true
   found : (answer .verdict ≡ Unknown → ⊥) → (a : ℕ → Bool) → allTrue a (atEnd rows answer) ≡ true
@@ -100,15 +100,32 @@ module _ (n : ℕ) (rows : ℕ → List Row) (budget : ℕ) (answer : Answer) (h
       (omega (arith, one, holds .bound-count), holds .bound (omega (arith, one)))
 
 -- demand 2 leaves one answer: count, verdict and model
-pub one-answer : (n : ℕ) (rows : ℕ → List Row) (budget : ℕ) (answer answer′ : Answer) → Demand2 n rows budget answer → Demand2 n rows budget answer′
-    → answer ≡ answer′
-one-answer n rows budget answer answer′ holds holds′ =
+pub one-answer : (n : ℕ) (rows : ℕ → List Row) {states : ℕ → State} (budget : ℕ) (answer answer′ : Answer) → Demand2Of n rows states budget answer
+    → Demand2Of n rows states budget answer′ → answer ≡ answer′
+one-answer n rows {states} budget answer answer′ holds holds′ =
     let same : answer .count ≡ answer′ .count =
     count-only n rows budget answer holds (answer′ .count) (holds′ .count-most) (holds′ .count-least) (holds′ .count-closes) in
     ap₂ (λ (k : ℕ) (v : Verdict). record { count = k; verdict = v }) same
     (holds .by-standing
-    ∙ ap (λ (k : ℕ). let s = after n rows k fresh in verdictOf (s .standing) (s .t)) same
+    ∙ ap (λ (k : ℕ). let s = states k in verdictOf (s .standing) (s .t)) same
     ∙ sym (holds′ .by-standing))
+
+-- ---- two runs over the same rows throughout, each by its own steps and under its own budget
+
+module _ (n : ℕ) (rows : List Row) {states states′ : ℕ → State} (budget budget′ : ℕ) (answer answer′ : Answer)
+    (holds : Demand2Of n (always rows) states budget answer) (holds′ : Demand2Of n (always rows) states′ budget′ answer′) where
+  -- where neither is unknown, the verdicts are the same: both satisfiable or both unsatisfiable
+  pub same-verdict : (answer .verdict ≡ Unknown → ⊥) → (answer′ .verdict ≡ Unknown → ⊥) → verdictNumber (answer .verdict) ≡ verdictNumber (answer′ .verdict)
+  same-verdict decided decided′ = go (answer .verdict) (answer′ .verdict) refl refl
+    where
+      go : (v v′ : Verdict) → answer .verdict ≡ v → answer′ .verdict ≡ v′ → verdictNumber v ≡ verdictNumber v′
+      go Unknown v′ e e′ = absurd (decided e)
+      go (Satisfiable model) Unknown e e′ = absurd (decided′ e′)
+      go Unsatisfiable Unknown e e′ = absurd (decided′ e′)
+      go (Satisfiable model) (Satisfiable model′) e e′ = refl
+      go Unsatisfiable Unsatisfiable e e′ = refl
+      go (Satisfiable model) Unsatisfiable e e′ = absurd (true≢false (sym (holds .satisfiable model e) ∙ holds′ .unsatisfiable e′ (bit model)))
+      go Unsatisfiable (Satisfiable model) e e′ = absurd (true≢false (sym (holds′ .satisfiable model e′) ∙ holds .unsatisfiable e (bit model)))
 
 -- ---- the answer for accepted tables, row by row
 

@@ -15,12 +15,12 @@ use Rattle.scan.specs.declared.Rule.{Rule}
 use Rattle.scan.specs.declared.Rule.the-variants.{AllSatisfied, Conflict, Unit, Choice}
 use Rattle.state.specs.declared.Standing.{Standing}
 use Rattle.state.specs.declared.Standing.the-variants.{Open, Satisfied, Refuted}
-use Rattle.scan.specs.Rules.{allRows, rule}
+use Rattle.scan.specs.Rules.{allRows}
 use Rattle.state.specs.State.{State, fresh, ifOpen}
-use Rattle.solver.specs.Step.{back, assign, follow, step, after}
+use Rattle.solver.specs.Step.{back, assign, follow, Ruling, stepWith, afterWith}
 use Rattle.truth.specs.Truth.{allTrue}
 use Rattle.scan.proofs.RowLaws.{In}
-use Rattle.truth.proofs.RuleLaws.{Ruled, ruled}
+use Rattle.truth.proofs.RuleLaws.{Ruled, Applies}
 use Rattle.solver.proofs.StepLaws.{after-keeps}
 use Rattle.tables.specs.Acceptance.{lowRow}
 use Rattle.truth.proofs.TruthLaws.{literal, all-true-e}
@@ -68,19 +68,19 @@ module _ (n : ℕ) (rows : List Row) (a : ℕ → Bool) (true-in : (r : Row) →
       on (a v) (λ e. inl (agrees-t n a (s .t) (s .f) g v e)) (λ e. inr (inl (agrees-f n a (s .t) (s .f) g v e)))
   follow-covers s (Choice v) w (inr p) = inr (inr p)
 
-  step-covers : (s : State) → Covered n a s → Covered n a (step n rows s)
-  unfolding step
-  step-covers s c = go (s .standing) refl
+  step-covers : (ruling : Ruling) → Applies ruling → (s : State) → Covered n a s → Covered n a (stepWith ruling n rows s)
+  unfolding stepWith
+  step-covers ruling applies s c = go (s .standing) refl
     where
-      go : (st : Standing) → s .standing ≡ st → Covered n a (ifOpen st (follow s (rule n rows (s .t) (s .f))) s)
-      go Open e = follow-covers s (rule n rows (s .t) (s .f)) (ruled n rows (s .t) (s .f)) (rw e at c)
+      go : (st : Standing) → s .standing ≡ st → Covered n a (ifOpen st (follow s (ruling n rows (s .t) (s .f))) s)
+      go Open e = follow-covers s (ruling n rows (s .t) (s .f)) (applies n rows (s .t) (s .f)) (rw e at c)
       go Satisfied e = c
       go Refuted e = c
 
 -- no assignment makes the rows of every step true
-pub refuted-none : (n : ℕ) (rows : ℕ → List Row) → n ≤ 32 → ((i : ℕ) → allRows (lowRow n) (rows i) ≡ true) → (k : ℕ)
-    → after n rows k fresh .standing ≡ Refuted → (a : ℕ → Bool) → ((i : ℕ) → i < k → allTrue a (rows i) ≡ true) → ⊥
-refuted-none n rows few low k e a h =
-    rw e at (after-keeps n rows (Covered n a) k
-    (λ i b. step-covers n (rows i) a (all-true-e n few a (rows i) (low i) (h i b)))
+pub refuted-none : (ruling : Ruling) → Applies ruling → (n : ℕ) (rows : ℕ → List Row) → n ≤ 32 → ((i : ℕ) → allRows (lowRow n) (rows i) ≡ true) → (k : ℕ)
+    → afterWith ruling n rows k fresh .standing ≡ Refuted → (a : ℕ → Bool) → ((i : ℕ) → i < k → allTrue a (rows i) ≡ true) → ⊥
+refuted-none ruling applies n rows few low k e a h =
+    rw e at (after-keeps ruling n rows (Covered n a) k
+    (λ i b. step-covers n (rows i) a (all-true-e n few a (rows i) (low i) (h i b)) ruling applies)
     fresh (inl (λ i b. rw bit-zero refl)))

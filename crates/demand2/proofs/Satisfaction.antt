@@ -16,14 +16,14 @@ use Rattle.scan.specs.declared.Rule.{Rule}
 use Rattle.scan.specs.declared.Rule.the-variants.{AllSatisfied, Conflict, Unit, Choice}
 use Rattle.state.specs.declared.Standing.{Standing}
 use Rattle.state.specs.declared.Standing.the-variants.{Open, Satisfied, Refuted}
-use Rattle.scan.specs.Rules.{allRows, rule}
+use Rattle.scan.specs.Rules.{allRows}
 use Rattle.state.specs.State.{State, ifOpen}
-use Rattle.solver.specs.Step.{back, follow, step}
+use Rattle.solver.specs.Step.{back, follow, Ruling, stepWith}
 use Rattle.truth.specs.Truth.{rowTrue, allTrue}
 use Rattle.scan.proofs.RowLaws.{all-rows-mono}
-use Rattle.truth.proofs.RuleLaws.{Ruled, ruled}
+use Rattle.truth.proofs.RuleLaws.{Ruled, Applies}
 use Rattle.state.proofs.WellFormedLaws.{Sets, Formed}
-use Rattle.solver.proofs.StepLaws.{step-formed}
+use Rattle.solver.proofs.StepLaws.{step-formed-with}
 use Rattle.tables.specs.Acceptance.{lowRow}
 use Rattle.truth.proofs.TruthLaws.{literal, row-true}
 
@@ -53,11 +53,11 @@ module _ (n : ℕ) (rows : List Row) where
   follow-met s (Choice v) w e = absurd (unmet-open e)
 
   -- a step that closes an open run as satisfied has satisfied every row that it read
-  pub step-met : (s : State) → s .standing ≡ Open → Met (step n rows s)
-  unfolding step
-  step-met s o =
-      subst⁻¹ (λ (st : Standing). Met (ifOpen st (follow s (rule n rows (s .t) (s .f))) s)) o
-      (follow-met s (rule n rows (s .t) (s .f)) (ruled n rows (s .t) (s .f)))
+  pub step-met : (ruling : Ruling) → Applies ruling → (s : State) → s .standing ≡ Open → Met (stepWith ruling n rows s)
+  unfolding stepWith
+  step-met ruling applies s o =
+      subst⁻¹ (λ (st : Standing). Met (ifOpen st (follow s (ruling n rows (s .t) (s .f))) s)) o
+      (follow-met s (ruling n rows (s .t) (s .f)) (applies n rows (s .t) (s .f)))
 
 -- a satisfied row is true where T is true and the rest false
 satisfied-true : (n t f : ℕ) → Sets n t f → (r : Row) → satisfied n r t f ≡ true → any (λ i. literal (bit t) r i) n ≡ true
@@ -70,11 +70,11 @@ satisfied-true n t f d r e =
     (rw (satisfied-any n r t f) at e)
 
 -- from an open state of disjoint sets
-pub satisfied-model : (n : ℕ) (rows : List Row) → n ≤ 32 → allRows (lowRow n) rows ≡ true → (s : State) → Formed n s → s .standing ≡ Open
-    → step n rows s .standing ≡ Satisfied → allTrue (bit (step n rows s .t)) rows ≡ true
+pub satisfied-model : (ruling : Ruling) → Applies ruling → (n : ℕ) (rows : List Row) → n ≤ 32 → allRows (lowRow n) rows ≡ true → (s : State) → Formed n s
+    → s .standing ≡ Open → stepWith ruling n rows s .standing ≡ Satisfied → allTrue (bit (stepWith ruling n rows s .t)) rows ≡ true
 unfolding allTrue
-satisfied-model n rows few low s o p e =
-    let x : State = step n rows s in
+satisfied-model ruling applies n rows few low s o p e =
+    let x : State = stepWith ruling n rows s in
     all-rows-mono (λ r. satisfied n r (x .t) (x .f)) (λ r. rowTrue (bit (x .t)) r) rows
-    (λ r m h. rw (row-true n few (bit (x .t)) r (m (lowRow n) low)) (satisfied-true n (x .t) (x .f) (step-formed n rows s o .own) r h))
-    (step-met n rows s p e)
+    (λ r m h. rw (row-true n few (bit (x .t)) r (m (lowRow n) low)) (satisfied-true n (x .t) (x .f) (step-formed-with ruling applies n rows s o .own) r h))
+    (step-met n rows ruling applies s p e)

@@ -20,7 +20,9 @@ use Rattle.state.specs.State.{fresh, runOf}
 use Rattle.state.specs.WellFormed.{stateChecks}
 use Rattle.free_counts.specs.Counts.{countChecks, countsAfter}
 use Rattle.solver.specs.declared.Stepped.{Stepped}
-use Rattle.solver.specs.Entries.{stepped}
+use Rattle.scan.specs.Rules.{rule}
+use Rattle.solver.specs.Step.{Ruling}
+use Rattle.solver.specs.Entries.{steppedWith, stepped}
 use Rattle.stored.specs.Words.{runIn}
 use Rattle.lent.specs.Lent.{storedIf}
 use Rattle.codes.specs.Codes.{variableChecks}
@@ -41,9 +43,9 @@ module _ (tables : Tables) (d : Dimensions) (q : Refusal) (h : outcome (sizeChec
     unfolding countsAfter
     counts-refused counts = rw (check-refused (length counts))
 
-  step-refused : (run : Run) → stepped d tables run ≡ record { outcome = Refused q; run = run }
-  unfolding stepped
-  step-refused run = rw (outcome-refused (tableChecks d tables) (stateChecks d run) q accept-refused)
+  step-refused : (ruling : Ruling) (run : Run) → steppedWith ruling d tables run ≡ record { outcome = Refused q; run = run }
+  unfolding steppedWith
+  step-refused ruling run = rw (outcome-refused (tableChecks d tables) (stateChecks d run) q accept-refused)
 
 -- ---- any n
 
@@ -68,7 +70,15 @@ module _ (asked d : Dimensions) (e : d ≡ asBytes asked) (tables : Tables) wher
         on-numbers asked (λ x. countsAfter x tables run counts) (λ q. counts) (λ x q h. counts-refused tables x q h run counts) d e after r
         ∙ ap (λ (x : Run). countsAfter asked tables x counts) held
 
+  -- the step by any ruling of the run in the words
+  pub step-is-with : (ruling : Ruling) (words : List ℕ) (run : Run) → run ≡ runIn words
+      → (s : Stepped) → s ≡ steppedWith ruling d tables run → s ≡ steppedWith ruling asked tables (runIn words)
+  step-is-with ruling words run held s r =
+      on-numbers asked (λ x. steppedWith ruling x tables run) (λ q. record { outcome = Refused q; run = run })
+      (λ x q h. step-refused tables x q h ruling run) d e
+      s r
+      ∙ ap (λ (x : Run). steppedWith ruling asked tables x) held
+
   pub step-is : (words : List ℕ) (run : Run) → run ≡ runIn words → (s : Stepped) → s ≡ stepped d tables run → s ≡ stepIn asked tables words
-  step-is words run held s r =
-      on-numbers asked (λ x. stepped x tables run) (λ q. record { outcome = Refused q; run = run }) (λ x q h. step-refused tables x q h run) d e s r
-      ∙ ap (λ (x : Run). stepped asked tables x) held
+  unfolding stepped
+  step-is = step-is-with rule

@@ -16,25 +16,29 @@ use Rattle.state.specs.declared.Standing.{Standing}
 use Rattle.state.specs.declared.Standing.the-variants.{Open, Satisfied, Refuted}
 use Rattle.scan.specs.Rules.{rule}
 use Rattle.state.specs.State.{State, fresh, ifOpen}
-use Rattle.solver.specs.Step.{back, assign, follow, later, step, after}
+use Rattle.solver.specs.Step.{back, assign, follow, Ruling, stepWith, step, later, afterWith, after}
 use Rattle.state.specs.WellFormed.{chain, wellFormedState}
-use Rattle.truth.proofs.RuleLaws.{Ruled, ruled, Settable, unit-settable, choice-settable, rule-choice}
+use Rattle.truth.proofs.RuleLaws.{Ruled, Applies, ruled, Settable, unit-settable, choice-settable, rule-choice}
 use Rattle.state.proofs.WellFormedLaws.{Sets, Formed, formed-e, formed-i, chain-head, chain-tail, chain-cons}
 use Rattle.truth.proofs.FreeVariables.{free-less-t}
 use Rattle.solver.proofs.SettingLaws.{sets-t, sets-f, chain-mono, depth-free}
 
--- what each step keeps, any number of steps keeps
-pub after-keeps : (n : ℕ) (rows : ℕ → List Row) (P : State → Type 0) (k : ℕ) → ((i : ℕ) → i < k → (s : State) → P s → P (step n (rows i) s))
-    → (s : State) → P s → P (after n rows k s)
-unfolding after
-after-keeps n rows P zero h s p = p
-after-keeps n rows P (suc k) h s p = after-keeps n (later rows) P k (λ i b. h (suc i) (suc-le-suc b)) (step n (rows 0) s) (h 0 (omega arith) s p)
+-- ---- by any ruling
 
--- the last of some steps
-pub after-last : (n : ℕ) (rows : ℕ → List Row) (k : ℕ) (s : State) → after n rows (suc k) s ≡ step n (rows k) (after n rows k s)
-unfolding after
-after-last n rows zero s = refl
-after-last n rows (suc k) s = after-last n (later rows) k (step n (rows 0) s)
+module _ (ruling : Ruling) where
+  -- what each step keeps, any number of steps keeps
+  pub after-keeps : (n : ℕ) (rows : ℕ → List Row) (P : State → Type 0) (k : ℕ) → ((i : ℕ) → i < k → (s : State) → P s → P (stepWith ruling n (rows i) s))
+      → (s : State) → P s → P (afterWith ruling n rows k s)
+  unfolding afterWith
+  after-keeps n rows P zero h s p = p
+  after-keeps n rows P (suc k) h s p = after-keeps n (later rows) P k (λ i b. h (suc i) (suc-le-suc b)) (stepWith ruling n (rows 0) s) (h 0 (omega arith) s p)
+
+  -- the last of some steps
+  pub after-last : (n : ℕ) (rows : ℕ → List Row) (k : ℕ) (s : State) → afterWith ruling n rows (suc k) s
+      ≡ stepWith ruling n (rows k) (afterWith ruling n rows k s)
+  unfolding afterWith
+  after-last n rows zero s = refl
+  after-last n rows (suc k) s = after-last n (later rows) k (stepWith ruling n (rows 0) s)
 
 -- the fresh state has what makes a state well-formed, for every n
 pub fresh-formed : (n : ℕ) → Formed n fresh
@@ -102,32 +106,50 @@ module _ (n : ℕ) (rows : List Row) where
   follow-formed s (Unit v positive) w o = assign-formed s v positive (unit-settable n rows (s .t) (s .f) w) o
   follow-formed s (Choice v) w o = choice-formed s v (choice-settable n rows (s .t) (s .f) w) o
 
-  -- ---- steps
+-- ---- by a ruling whose rule applies
 
-  -- a step keeps what makes a state well-formed
+module _ (ruling : Ruling) (applies : Applies ruling) where
+  module _ (n : ℕ) (rows : List Row) where
+    -- a step keeps what makes a state well-formed
+    pub step-formed-with : (s : State) → Formed n s → Formed n (stepWith ruling n rows s)
+    unfolding stepWith
+    step-formed-with s o = go (s .standing)
+      where
+        go : (st : Standing) → Formed n (ifOpen st (follow s (ruling n rows (s .t) (s .f))) s)
+        go Open = follow-formed n rows s (ruling n rows (s .t) (s .f)) (applies n rows (s .t) (s .f)) o
+        go Satisfied = o
+        go Refuted = o
+
+    -- a step keeps a state well-formed
+    pub step-well-formed-with : (s : State) → wellFormedState n s ≡ true → wellFormedState n (stepWith ruling n rows s) ≡ true
+    step-well-formed-with s e = formed-i n (stepWith ruling n rows s) (step-formed-with s (formed-e n s e))
+
+  -- any number of steps keeps what makes a state well-formed
+  pub after-formed-with : (n : ℕ) (rows : ℕ → List Row) (k : ℕ) (s : State) → Formed n s → Formed n (afterWith ruling n rows k s)
+  after-formed-with n rows k = after-keeps ruling n rows (Formed n) k (λ i b. step-formed-with n (rows i))
+
+-- ---- by giant steps
+
+module _ (n : ℕ) (rows : List Row) where
+  -- a giant step keeps what makes a state well-formed
   pub step-formed : (s : State) → Formed n s → Formed n (step n rows s)
   unfolding step
-  step-formed s o = go (s .standing)
-    where
-      go : (st : Standing) → Formed n (ifOpen st (follow s (rule n rows (s .t) (s .f))) s)
-      go Open = follow-formed s (rule n rows (s .t) (s .f)) (ruled n rows (s .t) (s .f)) o
-      go Satisfied = o
-      go Refuted = o
+  step-formed = step-formed-with rule ruled n rows
 
-  -- a step keeps a state well-formed
+  -- a giant step keeps a state well-formed
   pub step-well-formed : (s : State) → wellFormedState n s ≡ true → wellFormedState n (step n rows s) ≡ true
-  step-well-formed s e = formed-i n (step n rows s) (step-formed s (formed-e n s e))
+  unfolding step
+  step-well-formed = step-well-formed-with rule ruled n rows
 
   -- at depth n no variable is chosen
   pub choice-depth : (s : State) (v : ℕ) → wellFormedState n s ≡ true → rule n rows (s .t) (s .f) ≡ Choice v → length (s .levels) < n
-  choice-depth s v e c = settable-depth s v (formed-e n s e) (rule-choice n rows (s .t) (s .f) v c)
-
--- ---- any number of steps
+  choice-depth s v e c = settable-depth n rows s v (formed-e n s e) (rule-choice n rows (s .t) (s .f) v c)
 
 module _ (n : ℕ) (rows : ℕ → List Row) where
-  -- any number of steps keeps what makes a state well-formed
+  -- any number of giant steps keeps what makes a state well-formed
   pub after-formed : (k : ℕ) (s : State) → Formed n s → Formed n (after n rows k s)
-  after-formed k = after-keeps n rows (Formed n) k (λ i b. step-formed n (rows i))
+  unfolding after
+  after-formed = after-formed-with rule ruled n rows
 
   pub after-well-formed : (k : ℕ) (s : State) → wellFormedState n s ≡ true → wellFormedState n (after n rows k s) ≡ true
   after-well-formed k s e = formed-i n (after n rows k s) (after-formed k s (formed-e n s e))

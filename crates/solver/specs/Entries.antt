@@ -18,7 +18,8 @@ use Rattle.state.specs.declared.Standing.the-variants.{Open, Satisfied, Refuted
 use Rattle.solver.specs.declared.Stepped.{Stepped}
 use Rattle.state.specs.State.{State, fresh, stateOf, runOf}
 use Rattle.verdicts.specs.Verdicts.{verdictOf, verdictNumber, modelWord}
-use Rattle.solver.specs.Step.{always, later, step}
+use Rattle.scan.specs.Rules.{rule}
+use Rattle.solver.specs.Step.{Ruling, always, later, stepWith, step}
 use Rattle.state.specs.WellFormed.{wellFormed, stateChecks}
 
 -- ---- the budgeted run
@@ -29,38 +30,59 @@ pub record Ran : Type 0 where
   pub final : State
 
 -- steps through the one that closes the run, at most the budget, each over the rows as they stand when it begins
-unfoldable pub runFrom : ℕ → (ℕ → List Row) → ℕ → State → Ran
-unfolding step
-runFrom n rows zero s = record { steps = 0; final = s }
-runFrom n rows (suc budget) s =
+unfoldable pub runWith : Ruling → ℕ → (ℕ → List Row) → ℕ → State → Ran
+unfolding stepWith
+runWith ruling n rows zero s = record { steps = 0; final = s }
+runWith ruling n rows (suc budget) s =
     elim (s .standing) [
-      | Open ↦ let r = runFrom n (later rows) budget (step n (rows 0) s) in record { steps = suc (r .steps); final = r .final }
+      | Open ↦ let r = runWith ruling n (later rows) budget (stepWith ruling n (rows 0) s) in
+          record { steps = suc (r .steps); final = r .final }
       | Satisfied ↦ record { steps = 0; final = s }
       | Refuted ↦ record { steps = 0; final = s }
     ]
 
+-- by giant steps
+unfoldable pub runFrom : ℕ → (ℕ → List Row) → ℕ → State → Ran
+unfolding runWith step
+runFrom = runWith rule
+
 -- the answer of the fresh run: its count and its verdict
-unfoldable pub answerOf : ℕ → (ℕ → List Row) → ℕ → Answer
-unfolding runFrom
-answerOf n rows budget =
-    let r = runFrom n rows budget fresh in
+unfoldable pub answerWith : Ruling → ℕ → (ℕ → List Row) → ℕ → Answer
+unfolding runWith
+answerWith ruling n rows budget =
+    let r = runWith ruling n rows budget fresh in
     record { count = r .steps; verdict = verdictOf (r .final .standing) (r .final .t) }
+
+-- by giant steps
+unfoldable pub answerOf : ℕ → (ℕ → List Row) → ℕ → Answer
+unfolding answerWith runFrom
+answerOf = answerWith rule
 
 -- ---- the entries
 
 -- the step's entry: 1, 2, 4, 3, 12, 13, and then the run is as it was
-unfoldable pub stepped : Dimensions → Tables → Run → Stepped
-unfolding step runOf wellFormed
-stepped d tables run =
+unfoldable pub steppedWith : Ruling → Dimensions → Tables → Run → Stepped
+unfolding stepWith runOf wellFormed
+steppedWith ruling d tables run =
     given (outcome (tableChecks d tables ++ stateChecks d run))
-    (record { outcome = Taken; run = runOf (d .n) (step (d .n) (rowsOf d tables) (stateOf run)) })
+    (record { outcome = Taken; run = runOf (d .n) (stepWith ruling (d .n) (rowsOf d tables) (stateOf run)) })
     (λ r. record { outcome = outcomes.Refused r; run = run })
 
+-- that of the giant step
+unfoldable pub stepped : Dimensions → Tables → Run → Stepped
+unfolding steppedWith step
+stepped = steppedWith rule
+
 -- the budgeted run's entry: 1, 2, 4, 3
+unfoldable pub solvedWith : Ruling → Dimensions → Tables → ℕ → Solved
+unfolding answerWith
+solvedWith ruling d tables budget = given (outcome (tableChecks d tables))
+    (solved′.Of (answerWith ruling (d .n) (always (rowsOf d tables)) budget)) solved′.Refused
+
+-- by giant steps
 unfoldable pub solved : Dimensions → Tables → ℕ → Solved
-unfolding answerOf
-solved d tables budget = given (outcome (tableChecks d tables))
-    (solved′.Of (answerOf (d .n) (always (rowsOf d tables)) budget)) solved′.Refused
+unfolding solvedWith answerOf
+solved = solvedWith rule
 
 -- what the budgeted run returns: 0, or 1, 2, 3 or 4 of "Turned back because of the input"
 abbrev pub solvedCode : Solved → ℕ

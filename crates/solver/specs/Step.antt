@@ -33,10 +33,18 @@ follow s (Choice v) = record {
   levels = record { t = s .t; f = s .f; chosen = v } ∷ s .levels;
 }
 
--- one giant step; a closed state stays as it is
+-- which rule applies, of n, rows, T and F: document 01's `rule`, or one with another choice in the place of rule 4's
+abbrev pub Ruling : Type 0
+Ruling = ℕ → List Row → ℕ → ℕ → Rule
+
+-- one giant step by a ruling; a closed state stays as it is
+unfoldable pub stepWith : Ruling → ℕ → List Row → State → State
+stepWith ruling n rows s = ifOpen (s .standing) (follow s (ruling n rows (s .t) (s .f))) s
+
+-- one giant step
 unfoldable pub step : ℕ → List Row → State → State
-unfolding rule
-step n rows s = ifOpen (s .standing) (follow s (rule n rows (s .t) (s .f))) s
+unfolding stepWith rule
+step = stepWith rule
 
 -- the same rows at every step
 abbrev pub always : List Row → ℕ → List Row
@@ -47,7 +55,12 @@ abbrev pub later : (ℕ → List Row) → ℕ → List Row
 later rows = λ i. rows (suc i)
 
 -- the state after k steps, each over the rows as they stand when it begins: rows i for the step that i others precede
+unfoldable pub afterWith : Ruling → ℕ → (ℕ → List Row) → ℕ → State → State
+unfolding stepWith
+afterWith ruling n rows zero s = s
+afterWith ruling n rows (suc k) s = afterWith ruling n (later rows) k (stepWith ruling n (rows 0) s)
+
+-- after k giant steps
 unfoldable pub after : ℕ → (ℕ → List Row) → ℕ → State → State
-unfolding step
-after n rows zero s = s
-after n rows (suc k) s = after n (later rows) k (step n (rows 0) s)
+unfolding afterWith step
+after = afterWith rule

@@ -50,6 +50,10 @@ Ruled n rows t f Conflict = Conflicts n rows t f
 Ruled n rows t f (Unit v positive) = Forces n rows t f v positive
 Ruled n rows t f (Choice v) = Chooses n rows t f v
 
+-- the rule that the ruling gives applies, whatever the rows, T and F: what demand 2 asks of a ruling
+abbrev pub Applies : (ℕ → List Row → ℕ → ℕ → Rule) → Type 0
+Applies ruling = (n : ℕ) (rows : List Row) (t f : ℕ) → Ruled n rows t f (ruling n rows t f)
+
 -- a variable that a rule may set: below n, free, and in a row that is no padding
 pub record Settable (n : ℕ) (rows : List Row) (t f v : ℕ) : Type 0 where
   pub low : v < n

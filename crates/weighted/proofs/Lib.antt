@@ -1,0 +1,10 @@
+pub mod Exact
+pub mod Patterns
+pub mod Greatest
+pub mod Raising
+pub mod Weighing
+pub mod Choosing
+pub mod Applying
+pub mod Verdicts
+pub mod Examples
+pub mod Consequences

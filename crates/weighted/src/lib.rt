@@ -1,0 +1,120 @@
+// The giant step and the budgeted run with the two-sided Jeroslow-Wang choice in the place of rule 4's (document 02, "Weighing the short
+// rows"): other steps, the same verdicts.
+mod weights;
+
+use dimensions::Dimensions;
+use refusals::Outcome;
+use solver::Answer;
+use solver::Solved;
+use solver::Stepped;
+use state::Run;
+use state::Standing;
+ghost use mathlib.Core.Path.{_≡_};
+ghost use mathlib.Core.Bool.{true};
+ghost use mathlib.Core.List.{[], _∷_, _++_};
+ghost use Rattle.refusals.specs.Checks.{outcome};
+ghost use Rattle.refusals.specs.Numbers.{said, codeOf};
+ghost use Rattle.refusals.specs.declared.Outcome.the-variants.{Taken};
+ghost use Rattle.tables.specs.Tables.{allTables};
+ghost use Rattle.tables.specs.Acceptance.{tableChecks};
+ghost use Rattle.tables.specs.Rows.{rowsOf};
+ghost use Rattle.state.specs.State.{stateOf, runOf};
+ghost use Rattle.state.specs.WellFormed.{wellFormed, stateChecks};
+ghost use Rattle.solver.specs.Step.{stepWith, always};
+ghost use Rattle.solver.specs.Entries.{answerWith, answerNumbers, steppedWith, solvedWith, solvedCode, solvedNumbers};
+ghost use Rattle.weighted.specs.Weights.{weightedRule};
+
+// One step of a well-formed run over accepted tables of its n; a closed run stays as it is.
+fn advance(d: Dimensions, left: &[u32], right: &[u32], public: &[u32], run: Run) -> Run
+    requires { ⌜ outcome (tableChecks d (allTables (now left) (now right) (now public))) ≡ Taken ⌝ }
+    requires { ⌜ wellFormed run ≡ true ⌝ }
+    requires { ⌜ run .n ≡ d .n ⌝ }
+    ensures { λ r.
+        ⌜ r ≡ runOf (d .n) (stepWith weightedRule (d .n)
+        (rowsOf d (allTables (now (left .entry)) (now (right .entry)) (now (public .entry)))) (stateOf run)) ⌝ }
+{
+    let standing = run.standing;
+    match standing {
+        Standing::Open => {}
+        Standing::Satisfied => return run,
+        Standing::Refuted => return run,
+    }
+    let left_words = 2 * (d.left as usize);
+    let right_words = 2 * (d.right as usize);
+    let public_words = 2 * (d.public as usize);
+    let rule = weights::find_rule(
+        &left[..left_words],
+        &right[..right_words],
+        &public[..public_words],
+        run.t,
+        run.f,
+    );
+    rules::follow(run, rule)
+}
+
+// The run after one step with the weighted choice; as it was where the call is turned back: 1, 2, 4, 3, 12, 13.
+pub fn step_weighted(
+    d: Dimensions,
+    left: &[u32],
+    right: &[u32],
+    public: &[u32],
+    run: Run,
+) -> Stepped
+    ensures { λ r. ⌜ r ≡ steppedWith weightedRule d (allTables (now (left .entry)) (now (right .entry)) (now (public .entry))) run ⌝ }
+    ensures { λ r.
+        ⌜ codeOf (r .outcome) ∷ []
+        ≡ said (outcome (tableChecks d (allTables (now (left .entry)) (now (right .entry)) (now (public .entry)))
+        ++ stateChecks d run)) [] ⌝ }
+{
+    let outcome = solver::check_all(d, left, right, public, run);
+    match outcome {
+        Outcome::Taken => {}
+        Outcome::Refused(_) => return Stepped { outcome, run },
+    }
+    Stepped {
+        outcome,
+        run: advance(d, left, right, public, run),
+    }
+}
+
+// The answer of a fresh run over accepted tables.
+fn run_to_close(d: Dimensions, left: &[u32], right: &[u32], public: &[u32], budget: u64) -> Answer
+    requires { ⌜ outcome (tableChecks d (allTables (now left) (now right) (now public))) ≡ Taken ⌝ }
+    ensures { λ r.
+        ⌜ r ≡ answerWith weightedRule (d .n)
+        (always (rowsOf d (allTables (now (left .entry)) (now (right .entry)) (now (public .entry))))) budget ⌝ }
+{
+    let mut run = Run::fresh(d.n);
+    let mut count = 0;
+    while verdicts::goes_on(run, count, budget) {
+        run = advance(d, left, right, public, run);
+        count += 1;
+    }
+    Answer {
+        count,
+        verdict: verdicts::verdict_of(run),
+    }
+}
+
+// The answer of a fresh run with the weighted choice, which stops when it is closed or the budget is spent; 1, 2, 4 or 3 if the tables are
+// not accepted.
+pub fn solve_weighted(
+    d: Dimensions,
+    left: &[u32],
+    right: &[u32],
+    public: &[u32],
+    budget: u64,
+) -> Solved
+    ensures { λ r. ⌜ r ≡ solvedWith weightedRule d (allTables (now (left .entry)) (now (right .entry)) (now (public .entry))) budget ⌝ }
+    ensures { λ r.
+        ⌜ solvedCode r ∷ solvedNumbers r
+        ≡ said (outcome (tableChecks d (allTables (now (left .entry)) (now (right .entry)) (now (public .entry)))))
+        (answerNumbers (answerWith weightedRule (d .n)
+        (always (rowsOf d (allTables (now (left .entry)) (now (right .entry)) (now (public .entry))))) budget)) ⌝ }
+{
+    let checked = tables::accept(d, left, right, public);
+    match checked {
+        Outcome::Refused(refusal) => Solved::Refused(refusal),
+        Outcome::Taken => Solved::Of(run_to_close(d, left, right, public, budget)),
+    }
+}
