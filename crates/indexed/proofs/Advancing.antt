@@ -18,9 +18,9 @@ use Rattle.solver.proofs.HeldRules.{held as kept}
 use Rattle.solver.proofs.HeldStep.{fits, open-step, satisfied-stays, refuted-stays}
 use Rattle.tally.specs.declared.Tally.{Tally}
 use Rattle.tally.specs.Tallies.{tallyOf}
-use Rattle.tally.specs.Ruling.{ruleBy}
+use Rattle.tally.specs.Ruling.{ruleBy, tallyBy}
 use Rattle.indexed.specs.declared.beside.Held.{Held}
-use Rattle.indexed.specs.Held.{Indexed, Exact, heldOf, tallyBy}
+use Rattle.indexed.specs.Held.{Indexed, Exact, heldOf}
 use Rattle.indexed.proofs.TallyAfter.{rule-read, tally-is}
 
 -- the run of a state, with exactly the tally of its T and F

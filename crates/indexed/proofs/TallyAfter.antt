@@ -21,11 +21,11 @@ use Rattle.tables.proofs.Numbering.{table-length}
 use Rattle.tally.specs.declared.Tally.{Tally}
 use Rattle.tally.specs.Tallies.{tallyOf}
 use Rattle.tally.specs.Surveys.{surveyed}
-use Rattle.tally.specs.Ruling.{ruleBy}
+use Rattle.tally.specs.Ruling.{ruleBy, tallyBy}
 use Rattle.tally.proofs.AfterRule.{after-rule}
 use Rattle.tally.proofs.AfterSurvey.{after-survey}
 use Rattle.tally.proofs.AfterSetting.{Ready, after-setting}
-use Rattle.indexed.specs.Held.{Indexed, tallyBy}
+use Rattle.indexed.specs.Held.{Indexed}
 use Rattle.indexed.proofs.RuleTests.{unit-calm, choice-calm}
 
 module _ (n : ℕ) (words : List ℕ) (m : ℕ) (index : List ℕ) (x : Indexed n words m index) where
@@ -33,7 +33,7 @@ module _ (n : ℕ) (words : List ℕ) (m : ℕ) (index : List ℕ) (x : Indexed 
   rows = rowsFrom words 0 m
 
   -- the rule at 32 variables
-  wide : (t f : ℕ) → rule 32 rows t f ≡ rule n rows t f
+  pub wide : (t f : ℕ) → rule 32 rows t f ≡ rule n rows t f
   wide t f = rule-width n 32 (x .most) t f rows (x .low)
 
   pub survey-exact : (t f : ℕ) → t < 2 ^ 32 → f < 2 ^ 32 → surveyed words index m t f ≡ tallyOf rows t f
@@ -53,7 +53,8 @@ module _ (n : ℕ) (words : List ℕ) (m : ℕ) (index : List ℕ) (x : Indexed 
     pub rule-read : ruleBy index (s .t) (s .f) tally ≡ rule n rows (s .t) (s .f)
     rule-read = after-rule rows (s .t) (s .f) (omega (arith, table-length words 0 m, x .few)) t-low f-low index tally (x .indexed) exact ∙ wide (s .t) (s .f)
 
-    ready : (v : ℕ) → Settable n rows (s .t) (s .f) v → anyRow (unsatisfiedWith 0 32 (s .t) (s .f)) rows ≡ false → Ready words m index (s .t) (s .f) v tally
+    -- a variable that may be set, where no row is in conflict, is one that the tally can be followed by
+    pub ready : (v : ℕ) → Settable n rows (s .t) (s .f) v → anyRow (unsatisfiedWith 0 32 (s .t) (s .f)) rows ≡ false → Ready words m index (s .t) (s .f) v tally
     ready v w calm = record {
       few = x .few;
       indexed = x .indexed;
@@ -72,6 +73,7 @@ module _ (n : ℕ) (words : List ℕ) (m : ℕ) (index : List ℕ) (x : Indexed 
     choice-ready : (v : ℕ) → rule n rows (s .t) (s .f) ≡ Choice v → Ready words m index (s .t) (s .f) v tally
     choice-ready v e = ready v (rule-choice n rows (s .t) (s .f) v e) (choice-calm 32 rows (s .t) (s .f) v (wide (s .t) (s .f) ∙ e))
 
+    -- the tally after the giant step's rule is exactly that of T and F then
     pub tally-is : (k : Rule) → rule n rows (s .t) (s .f) ≡ k
         → tallyBy words m index (s .t) (s .f) (follow s k .t) (follow s k .f) k tally ≡ tallyOf rows (follow s k .t) (follow s k .f)
     tally-is AllSatisfied e = exact

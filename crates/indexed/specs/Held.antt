@@ -1,5 +1,5 @@
 -- A run with its tally, and when they are exact; only the crate's own functions cite this.
-use Prim.Native.Nat.{ℕ, _%_, _^_, _≤_}
+use Prim.Native.Nat.{ℕ, _^_, _≤_}
 use mathlib.Core.Path.{_≡_}
 use mathlib.Core.Bool.{Bool, true, not, _&&_}
 use mathlib.Core.List.{List, [], _∷_}
@@ -9,18 +9,13 @@ use Rattle.refusals.specs.declared.Refusal.the-variants.{OtherVariables}
 use Rattle.refusals.specs.declared.Refusal.the-variants as refusal
 use Rattle.words.specs.declared.Row.{Row}
 use Rattle.tables.specs.Rows.{rowsFrom}
-use Rattle.scan.specs.declared.Rule.{Rule}
-use Rattle.scan.specs.declared.Rule.the-variants.{AllSatisfied, Conflict, Unit, Choice}
 use Rattle.scan.specs.Rules.{allRows}
 use Rattle.state.specs.declared.Run.{Run}
 use Rattle.state.specs.State.{State, runOf}
 use Rattle.state.specs.WellFormed.{wellFormed}
 use Rattle.solver.specs.Entries.{Ran}
 use Rattle.occurrences.specs.Index.{indexOf}
-use Rattle.tally.specs.declared.Tally.{Tally}
 use Rattle.tally.specs.Tallies.{tallyOf}
-use Rattle.tally.specs.Words.{tallyAfter}
-use Rattle.tally.specs.Surveys.{surveyed}
 use Rattle.indexed.specs.declared.SteppedIndexed.{SteppedIndexed}
 use Rattle.indexed.specs.declared.beside.Held.{Held}
 use Rattle.indexed.specs.declared.beside.Reached.{Reached}
@@ -46,13 +41,6 @@ heldOf n rows s = record { run = runOf n s; tally = tallyOf rows (s .t) (s .f) }
 -- the run that some steps reach, and how many they are
 abbrev pub reachedBy : ℕ → Ran → Reached
 reachedBy n r = record { run = runOf n (r .final); steps = r .steps }
-
--- what code makes of a tally after a rule: of T and F as they were, t and f, and as they are then
-abbrev pub tallyBy : List ℕ → ℕ → List ℕ → ℕ → ℕ → ℕ → ℕ → Rule → Tally → Tally
-tallyBy words m index t f t′ f′ AllSatisfied tally = tally
-tallyBy words m index t f t′ f′ Conflict tally = surveyed words index m t′ f′
-tallyBy words m index t f t′ f′ (Unit v positive) tally = tallyAfter words index t f (v % 32) positive tally
-tallyBy words m index t f t′ f′ (Choice v) tally = tallyAfter words index t f (v % 32) true tally
 
 -- the checks of a run, an index that is exact or not, and a number that is right or not: 12, 13
 abbrev pub keptChecks : ℕ → Run → Bool → Bool → List Check

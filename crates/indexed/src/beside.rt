@@ -1,5 +1,4 @@
 // A run with its tally beside it: the giant step by the index, and the run to its close.
-use scan::Rule;
 use state::Run;
 use state::Standing;
 use tally::Tally;
@@ -10,7 +9,7 @@ ghost use Rattle.state.specs.State.{stateOf};
 ghost use Rattle.state.specs.WellFormed.{wellFormed};
 ghost use Rattle.solver.specs.Step.{always, step};
 ghost use Rattle.solver.specs.Entries.{runFrom};
-ghost use Rattle.indexed.specs.Held.{heldOf, Indexed, Exact, tallyBy, reachedBy};
+ghost use Rattle.indexed.specs.Held.{heldOf, Indexed, Exact, reachedBy};
 
 // A run and its tally.
 pub(crate) struct Held {
@@ -22,30 +21,6 @@ pub(crate) struct Held {
 pub(crate) struct Reached {
     pub(crate) run: Run,
     pub(crate) steps: u64,
-}
-
-// The tally after a rule, from T and F as they were and as they are then.
-fn tally_after(
-    words: &[u32; 768],
-    rows: usize,
-    index: &[u64; 384],
-    t: u32,
-    f: u32,
-    next_t: u32,
-    next_f: u32,
-    rule: Rule,
-    tally: Tally,
-) -> Tally
-    ensures { λ r. ⌜ r ≡ tallyBy (now (words .entry)) rows (now (index .entry)) t f «next_t» «next_f» rule tally ⌝ }
-{
-    match rule {
-        Rule::AllSatisfied => tally,
-        Rule::Conflict => tally::survey(words, index, rows, next_t, next_f),
-        Rule::Unit(variable, positive) => {
-            tally::set_literal(words, index, t, f, variable, positive, tally)
-        }
-        Rule::Choice(variable) => tally::set_literal(words, index, t, f, variable, true, tally),
-    }
 }
 
 // One giant step: the rule is read off the tally, and a newly set variable leads to its own rows only. After a removed level all sets are
@@ -66,7 +41,7 @@ pub(crate) fn advance(words: &[u32; 768], rows: usize, index: &[u64; 384], held:
             let next = rules::follow(run, rule);
             Held {
                 run: next,
-                tally: tally_after(
+                tally: tally::after_rule(
                     words,
                     rows,
                     index,

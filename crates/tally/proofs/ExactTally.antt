@@ -78,7 +78,8 @@ module _ (words : List ℕ) (m : ℕ) (few : m ≤ 384) where
   -- ---- T, F and the variables free then
 
   module _ (t f unset : ℕ) (unset-bit : (v : ℕ) → v < 32 → bit unset v ≡ free t f v) where
-    variables-bit : (i v : ℕ) → v < 32 → bit (variablesOf words unset i) v ≡ freeIn (rowAt words i) t f v
+    -- a row's variables of the free ones
+    pub variables-bit : (i v : ℕ) → v < 32 → bit (variablesOf words unset i) v ≡ freeIn (rowAt words i) t f v
     variables-bit i v b =
         let p = rowAt words i .positive in
         let q = rowAt words i .negative in

@@ -26,15 +26,19 @@ module _ (left : ℕ) (low : left < 2 ^ 64) (z : left ≡ 0 → ⊥) (j : ℕ) (
   abbrev less : ℕ
   less = bitAnd left (left - 1)
 
+  -- it is one of the 64
   pub row-low : j < 64
   row-low = omega (arith, q, lowest-in 64 left low z .0)
 
-  has-row : bit left j ≡ true
+  -- it is in the set
+  pub has-row : bit left j ≡ true
   has-row = ap (bit left) q ∙ lowest-in 64 left low z .1
 
-  less-bit : (i : ℕ) → bit less i ≡ bit left i && not (eqb i j)
+  -- and it alone is taken away
+  pub less-bit : (i : ℕ) → bit less i ≡ bit left i && not (eqb i j)
   less-bit i = and-pred 64 left low z i ∙ ap (λ (x : ℕ). bit left i && not (eqb i x)) (sym q)
 
+  -- so that one row fewer is left
   pub fewer-left : count (bit less) 64 < count (bit left) 64
   fewer-left =
       count-lt (bit less) (bit left) 64 j row-low (less-bit j ∙ rw (has-row, eq-eqb j j refl)) has-row

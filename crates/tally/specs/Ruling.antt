@@ -1,6 +1,6 @@
--- The rule read off a tally: what code makes of the words. No entry's contract rests on this file.
-use Prim.Native.Nat.{ℕ, _+_, _-_, _*_}
-use mathlib.Core.Bool.{Bool, _&&_, _||_, cond}
+-- The rule read off a tally, and the tally after a rule: what code makes of the words. No entry's contract rests on this file.
+use Prim.Native.Nat.{ℕ, _+_, _-_, _*_, _%_}
+use mathlib.Core.Bool.{Bool, true, _&&_, _||_, cond}
 use mathlib.Core.List.{List}
 use lib.Dec.{eqb}
 use lib.Bits.{bitOr}
@@ -9,6 +9,8 @@ use Rattle.words.specs.Sets.{bit, any, lowest}
 use Rattle.scan.specs.declared.Rule.{Rule}
 use Rattle.scan.specs.declared.Rule.the-variants.{AllSatisfied, Conflict, Unit, Choice}
 use Rattle.tally.specs.declared.Tally.{Tally}
+use Rattle.tally.specs.Words.{tallyAfter}
+use Rattle.tally.specs.Surveys.{surveyed}
 
 -- the variable stands in a row of part w of a set
 abbrev pub touches : List ℕ → ℕ → ℕ → ℕ → Bool
@@ -31,3 +33,10 @@ ruleBy index t f tally =
     (cond (tally .conflict) Conflict
     (cond (eqb forced 0) (Choice (chosenBy index (4294967295 - bitOr t f) (tally .unsatisfied)))
     (let v = lowest (bit forced) 32 in Unit v (bit (tally .positive) v))))
+
+-- what code makes of a tally after a rule: of T and F as they were, t and f, and as they are then
+abbrev pub tallyBy : List ℕ → ℕ → List ℕ → ℕ → ℕ → ℕ → ℕ → Rule → Tally → Tally
+tallyBy words m index t f t′ f′ AllSatisfied tally = tally
+tallyBy words m index t f t′ f′ Conflict tally = surveyed words index m t′ f′
+tallyBy words m index t f t′ f′ (Unit v positive) tally = tallyAfter words index t f (v % 32) positive tally
+tallyBy words m index t f t′ f′ (Choice v) tally = tallyAfter words index t f (v % 32) true tally

@@ -10,7 +10,7 @@ ghost use mathlib.Core.Path.{_≡_};
 ghost use Prim.Native.Nat.{_%_};
 ghost use Rattle.tally.specs.Words.{tallyAfter};
 ghost use Rattle.tally.specs.Surveys.{surveyed};
-ghost use Rattle.tally.specs.Ruling.{ruleBy};
+ghost use Rattle.tally.specs.Ruling.{ruleBy, tallyBy};
 
 // How many rows are unsatisfied, whether one of them has no free literal, the set of them, and the variables of the forced literals,
 // positive and negative. Row r is bit r mod 64 of word r / 64.
@@ -72,4 +72,29 @@ pub fn rule(index: &[u64; 384], t: u32, f: u32, tally: Tally) -> Rule
         return Rule::Unit(variable, words::bit(tally.positive, variable));
     }
     Rule::Choice(ruling::chosen(index, !(t | f), unsatisfied))
+}
+
+// The tally after a rule, from T and F as they were and as they are then: a set variable leads to its own rows only, and after a removed
+// level all sets are made again.
+pub fn after_rule(
+    words: &[u32; 768],
+    rows: usize,
+    index: &[u64; 384],
+    t: u32,
+    f: u32,
+    next_t: u32,
+    next_f: u32,
+    rule: Rule,
+    tally: Tally,
+) -> Tally
+    ensures { λ r. ⌜ r ≡ tallyBy (now (words .entry)) rows (now (index .entry)) t f «next_t» «next_f» rule tally ⌝ }
+{
+    match rule {
+        Rule::AllSatisfied => tally,
+        Rule::Conflict => survey(words, index, rows, next_t, next_f),
+        Rule::Unit(variable, positive) => {
+            set_literal(words, index, t, f, variable, positive, tally)
+        }
+        Rule::Choice(variable) => set_literal(words, index, t, f, variable, true, tally),
+    }
 }

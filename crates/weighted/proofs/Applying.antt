@@ -4,8 +4,7 @@ use mathlib.Core.Path.{_≡_, ap, ap₂, _∙_}
 use mathlib.Core.Bool.{Bool, true, not, _&&_}
 use mathlib.Core.List.{List, _++_}
 use Prim.Native.Nat.{ℕ, _*_, _≤_}
-use native.Mathlib.Omega.{arith}
-use lib.ListN.{length, take}
+use lib.ListN.{take}
 use borrow.Author.Tests.{not-true}
 use Rattle.refusals.specs.Checks.{outcome}
 use Rattle.refusals.specs.declared.Outcome.the-variants.{Taken}

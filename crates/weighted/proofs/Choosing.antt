@@ -1,10 +1,10 @@
 -- The heaviest variable can be chosen: where some unsatisfied row holds a free variable, it is one of those. And n variables' rows are weighed alike at every
 -- greater width.
-use mathlib.Core.Path.{_≡_, refl, sym, ap, ap₂, _∙_, subst, fun-ext}
-use mathlib.Core.Bool.{Bool, true, false, not, _&&_, _||_, cond, true≢false, false≢true, and-false, or-false}
+use mathlib.Core.Path.{_≡_, refl, sym, ap, _∙_, subst, fun-ext}
+use mathlib.Core.Bool.{Bool, true, false, not, _&&_, false≢true, and-false}
 use mathlib.Core.List.{List, [], _∷_}
 use mathlib.Core.Logic.{inl, inr}
-use Prim.Native.Nat.{ℕ, zero, suc, _+_, _-_, _*_, _^_, _≤_, _<_}
+use Prim.Native.Nat.{ℕ, zero, suc, _+_, _-_, _^_, _≤_, _<_}
 use native.Mathlib.Nat.{not-suc-le-zero, eq-or-lt-of-le, lt-of-lt-of-le}
 use native.Mathlib.Omega.{arith}
 use lib.Dec.{ltb}
@@ -13,7 +13,6 @@ use lib.ListN.{getD}
 use lib.Ieee.{Float, nan}
 use lib.Ieee.Exact.{HasValue}
 use borrow.Author.Tests.{le-ltb}
-use Rattle.words.specs.Sets.{bit}
 use Rattle.words.proofs.Truth.{on}
 use Rattle.words.proofs.Operations.{bit-high}
 use Rattle.words.specs.declared.Row.{Row}
@@ -23,7 +22,7 @@ use Rattle.scan.specs.declared.Rule.{Rule}
 use Rattle.scan.specs.Rules.{anyRow, rule}
 use Rattle.scan.proofs.RowLaws.{In, in-head, in-tail}
 use Rattle.weighted.specs.Weights.{share, weight, greatest, heaviest, choosing, weightedRule}
-use Rattle.weighted.specs.Floats.{scaled, Weighs}
+use Rattle.weighted.specs.Floats.{Weighs}
 use Rattle.weighted.proofs.Exact.{scaled-exact}
 use Rattle.weighted.proofs.Greatest.{heaviest-most, heaviest-lt}
 
@@ -111,8 +110,12 @@ module _ (n k : ℕ) (t f : ℕ) (h : n ≤ k) where
 
 -- ---- the rule
 
--- the rule that the scan found, taken apart
+-- a rule that was found, taken apart
+pub told-rule : (v : ℕ) (found k real : Rule) → found ≡ real → found ≡ k → choosing v k ≡ choosing v real
+told-rule v found k real e q = ap (choosing v) (sym q ∙ e)
+
+-- the rule that the scan found
 pub told : (n : ℕ) (rows : List Row) (t f : ℕ) (found k : Rule) → found ≡ rule n rows t f → found ≡ k → choosing (heaviest (weight n rows t f) n) k
     ≡ weightedRule n rows t f
 unfolding weightedRule
-told n rows t f found k e q = ap (λ (x : Rule). choosing (heaviest (weight n rows t f) n) x) (sym q ∙ e)
+told n rows t f found k e q = told-rule (heaviest (weight n rows t f) n) found k (rule n rows t f) e q

@@ -4,7 +4,6 @@ use mathlib.Core.Path.{_≡_}
 use mathlib.Core.List.{List}
 use Prim.Native.Nat.{ℕ, suc, _-_, _^_, _≤_}
 use Rattle.words.specs.declared.Row.{Row}
-use Rattle.verdicts.specs.declared.Verdict.the-variants.{Unknown}
 use Rattle.verdicts.specs.Verdicts.{verdictNumber}
 use Rattle.solver.specs.Step.{always}
 use Rattle.solver.specs.Entries.{answerOf}

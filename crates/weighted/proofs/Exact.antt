@@ -1,16 +1,14 @@
 -- Floats that are whole numbers over 2 ^ 32: each below 2 ^ 53 is held exactly, sums and comparisons are those of the whole numbers, and halving one is exact.
 -- Every law goes by values: `HasValue x false a c` says that x is a / c.
-use mathlib.Core.Path.{_≡_, refl, sym, ap, ap₂, _∙_, subst}
-use mathlib.Core.Bool.{Bool, true, false, true≢false}
+use mathlib.Core.Path.{_≡_, sym, ap, ap₂, _∙_}
+use mathlib.Core.Bool.{true, false, true≢false}
 use Prim.Native.Nat.{ℕ, _+_, _*_, _^_, _≤_, _<_}
-use native.Mathlib.Nat.{mul-assoc, mul-comm, mul-left-comm, mul-right-comm, add-mul, mul-lt-mul-of-pos-right, mul-le-mul-right, le-of-mul-le-mul-right}
+use native.Mathlib.Nat.{mul-assoc, mul-comm, mul-right-comm, add-mul, mul-lt-mul-of-pos-right, mul-le-mul-right, le-of-mul-le-mul-right}
 use native.Mathlib.Nat.{lt-of-mul-lt-mul-right, lt-of-lt-of-le, mul-pos}
-use native.Mathlib.Omega.{arith}
-use lib.Dec.{T, ltb, lit<, lit≤}
+use lib.Dec.{ltb, lit≤}
 use lib.Pow.{pow-pos}
-use lib.IntN.{ℤ}
 use lib.Ieee.{Float, nan, inf, fin, Format, binary64, up, down, round, sum, add, lt}
-use lib.Ieee.Fits.{up-pos, down-pos}
+use lib.Ieee.Fits.{down-pos}
 use lib.Ieee.Exact.{HasValue, round-exact}
 use lib.Ieee.Scale.{round-same}
 use borrow.Author.Tests.{lt-ltb, le-ltb, ltb-true, ltb-false}

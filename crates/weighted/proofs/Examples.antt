@@ -9,13 +9,11 @@ use Rattle.words.specs.declared.Row.{Row}
 use Rattle.words.specs.Sets.{bit, put, any, count, lowest}
 use Rattle.tables.specs.Rows.{padding, satisfied, freeLiterals, empty}
 use Rattle.verdicts.specs.declared.Verdict.the-variants.{Satisfiable, Unsatisfiable}
-use Rattle.scan.specs.declared.Rule.{Rule}
 use Rattle.scan.specs.declared.Rule.the-variants.{AllSatisfied, Conflict, Unit, Choice}
 use Rattle.scan.specs.Rules.{rule}
-use Rattle.solver.specs.declared.Answer.{Answer}
 use Rattle.solver.specs.Step.{always}
 use Rattle.solver.specs.Entries.{answerWith, answerOf}
-use Rattle.weighted.specs.Weights.{share, weight, greatest, heaviest, weightedRule}
+use Rattle.weighted.specs.Weights.{weight, weightedRule}
 use Rattle.weighted.specs.Floats.{scaled}
 use Rattle.weighted.specs.WeightedRun.{weightedAnswer}
 

@@ -3,8 +3,10 @@ pub mod Patterns
 pub mod Greatest
 pub mod Raising
 pub mod Weighing
+pub mod SetWeights
 pub mod Choosing
 pub mod Applying
+pub mod KeptRun
 pub mod Verdicts
 pub mod Examples
 pub mod Consequences

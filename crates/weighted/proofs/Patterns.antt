@@ -1,10 +1,10 @@
 -- The bit patterns of the powers of two from 2 ^ -32 to 1: the exponent's field is 1023 - k and the rest is 0. One test that antt computes for all k at once.
 use mathlib.Core.Path.{_≡_, refl, sym, ap, _∙_, subst}
 use mathlib.Core.Bool.{true, false, not, _&&_}
-use Prim.Native.Nat.{ℕ, _-_, _*_, _%_, _^_, _≤_, _<_}
+use Prim.Native.Nat.{ℕ, _-_, _*_, _%_, _^_, _≤_}
 use native.Mathlib.Omega.{arith}
 use lib.Dec.{T, eqb}
-use lib.Ieee.{Float, binary64, round, ofBits, toBits, nanBits, size}
+use lib.Ieee.{binary64, round, ofBits, toBits, nanBits, size}
 use lib.Ieee.Bits.{ofBits-toBits}
 use lib.Ieee.Fits.{round-fits}
 use borrow.Author.Tests.{eqb-true}

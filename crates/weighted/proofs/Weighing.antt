@@ -1,16 +1,16 @@
 -- The weights of rows, one row after the other: each held sum is exact, since it stays below 2 ^ 53.
-use mathlib.Core.Path.{_≡_, refl, sym, ap, ap₂, _∙_, subst}
+use mathlib.Core.Path.{_≡_, refl, sym, ap, _∙_}
 use mathlib.Core.Bool.{Bool, true, false, not, _&&_, cond}
 use mathlib.Core.List.{List, [], _∷_, _++_}
 use Prim.Native.Nat.{ℕ, zero, suc, _+_, _-_, _*_, _^_, _≤_, _<_}
 use native.Mathlib.Nat.{add-zero, zero-add, add-assoc}
 use native.Mathlib.Numerals.{add-one}
 use native.Mathlib.Omega.{arith}
-use lib.ListN.{length, getD}
+use lib.ListN.{getD}
 use lib.Dec.{ltb}
 use lib.Pow.{pow-mono}
-use lib.Ieee.{Float, nan, binary64, add, lt, round, ofBits}
-use Rattle.words.specs.Sets.{bit, wordOf}
+use lib.Ieee.{Float, nan, binary64, lt, round, ofBits}
+use Rattle.words.specs.Sets.{bit}
 use Rattle.words.proofs.Truth.{on}
 use Rattle.words.proofs.Upto.{count-le}
 use Rattle.words.proofs.WordOf.{bit-wordOf}
@@ -19,11 +19,21 @@ use Rattle.tables.specs.declared.Judged.{Judged}
 use Rattle.tables.specs.Rows.{satisfied, freeIn, freeLiterals, judged, rowAt, rowsFrom}
 use Rattle.tables.proofs.Rows.{unsatisfied-literals}
 use Rattle.weighted.specs.Weights.{share, weight, greatest, heaviest}
-use Rattle.weighted.specs.Floats.{scaled, Weighs, Raised, AddsWeights}
+use Rattle.weighted.specs.Floats.{scaled, Weighs, Raised, Adds}
 use Rattle.weighted.proofs.Exact.{scaled-add, scaled-lt}
 use Rattle.weighted.proofs.Greatest.{greatest-cong}
 
 -- ---- one row
+
+-- raising the floats of a word's variables adds to each of them what they are raised by
+pub raised-by : (x gain : ℕ) (ws next : List Float) (w : ℕ → ℕ) → Weighs ws w → ((i : ℕ) → i < 32 → w i + cond (bit x i) gain 0 < 2 ^ 53)
+    → Raised ws x (scaled gain) next → Weighs next (λ i. w i + cond (bit x i) gain 0)
+unfolding Weighs Raised
+raised-by x gain ws next w hw small hr i b =
+    hr i b
+    ∙ on (bit x i)
+    (λ q. let k : w i + gain < 2 ^ 53 = rw q at (small i b) in rw q (rw (hw i b) (scaled-add (w i) gain (omega arith) (omega arith))))
+    (λ q. rw q (hw i b ∙ ap scaled (sym (add-zero (w i)))))
 
 module _ (t f : ℕ) (r : Row) (j : Judged) (e : j ≡ judged 32 r t f) where
   satisfied-is : (b : Bool) → j .satisfied ≡ b → satisfied 32 r t f ≡ b
@@ -54,61 +64,65 @@ module _ (t f : ℕ) (r : Row) (j : Judged) (e : j ≡ judged 32 r t f) where
     -- so raising the floats by it adds the row's share to each
     pub raised-share : (ws next : List Float) (w : ℕ → ℕ) → Weighs ws w → ((i : ℕ) → i < 32 → w i + share 32 t f r i < 2 ^ 53)
         → Raised ws (j .variables) (scaled (2 ^ (32 - j .literals))) next → Weighs next (λ i. w i + share 32 t f r i)
-    unfolding Weighs Raised
+    unfolding Weighs
     raised-share ws next w hw small hr i b =
-        hr i b
-        ∙ on (bit (j .variables) i)
-        (λ q. let s : share 32 t f r i ≡ 2 ^ (32 - j .literals) = share-open i b ∙ rw q in
-        rw (q, s) (rw (hw i b) (scaled-add (w i) (2 ^ (32 - j .literals)) (omega (arith, small i b)) (omega (arith, small i b)))))
-        (λ q. let s : share 32 t f r i ≡ 0 = share-open i b ∙ rw q in
-        rw (q, s) (hw i b ∙ ap scaled (sym (add-zero (w i)))))
+        raised-by (j .variables) (2 ^ (32 - j .literals)) ws next w hw (λ k c. omega (arith, small k c, share-open k c)) hr i b
+        ∙ ap (λ (x : ℕ). scaled (w i + x)) (sym (share-open i b))
+
+-- ---- one row after the other
+
+-- the floats held and what is left to add weigh what those at the start and all that is to add weigh
+abbrev pub Weighing : (ℕ → ℕ) → (ℕ → ℕ) → List Float → List Float → Type 0
+Weighing total rest ws held =
+    (w : ℕ → ℕ) → ((j : ℕ) → w j + total j < 2 ^ 53) → Weighs ws w → (k : ℕ → ℕ) × Weighs held k × ((j : ℕ) → k j + rest j ≡ w j + total j)
+
+module _ (total : ℕ → ℕ) (ws : List Float) where
+  pub weighing-start : Weighing total total ws ws
+  weighing-start w small h = (w, h, λ j. refl)
+
+  module _ (rest : ℕ → ℕ) (held : List Float) (s : Weighing total rest ws held) where
+    -- a row whose share is added
+    pub weighing-next : (share rest′ : ℕ → ℕ) → ((j : ℕ) → rest j ≡ share j + rest′ j) → (next : List Float)
+        → ((k : ℕ → ℕ) → Weighs held k → ((j : ℕ) → j < 32 → k j + share j < 2 ^ 53) → Weighs next (λ j. k j + share j))
+        → Weighing total rest′ ws next
+    weighing-next share rest′ first next add-row w small hw =
+        let x = s w small hw in (
+          (λ j. x .0 j + share j),
+          add-row (x .0) (x .1) (λ j b. omega (arith, x .2 j, first j, small j)),
+          (λ j. omega (arith, x .2 j, first j)),
+        )
+
+    -- a row that adds nothing
+    pub weighing-same : (rest′ : ℕ → ℕ) → ((j : ℕ) → rest j ≡ rest′ j) → Weighing total rest′ ws held
+    weighing-same rest′ e w small hw = let x = s w small hw in (x .0, x .1, λ j. omega (arith, x .2 j, e j))
+
+    pub weighing-end : ((j : ℕ) → rest j ≡ 0) → Adds total ws held
+    unfolding Adds Weighs
+    weighing-end z w small hw i b =
+        let x = s w small hw in
+        let q : x .0 i ≡ w i + total i = omega (arith, x .2 i, z i) in
+        x .1 i b ∙ ap scaled q
 
 -- ---- a table's rows
 
--- the floats held and the rows from i on weigh what those at the start and all rows weigh
-abbrev pub Weighing : ℕ → ℕ → List ℕ → ℕ → List Float → ℕ → List Float → Type 0
-Weighing t f words m ws i held =
-    (w : ℕ → ℕ) → ((j : ℕ) → w j + weight 32 (rowsFrom words 0 m) t f j < 2 ^ 53) → Weighs ws w
-    → (k : ℕ → ℕ) × Weighs held k × ((j : ℕ) → k j + weight 32 (rowsFrom words i (m - i)) t f j ≡ w j + weight 32 (rowsFrom words 0 m) t f j)
+module _ (t f : ℕ) (words : List ℕ) (m : ℕ) where
+  -- what the rows from i on add
+  abbrev pub restFrom : ℕ → ℕ → ℕ
+  restFrom i = weight 32 (rowsFrom words i (m - i)) t f
 
-module _ (t f : ℕ) (words : List ℕ) (m : ℕ) (ws : List Float) where
-  pub weighing-start : Weighing t f words m ws 0 ws
-  weighing-start w small h = let e : m - 0 ≡ m = omega arith in (w, h, λ j. rw e)
+  pub rest-all : (j : ℕ) → restFrom 0 j ≡ weight 32 (rowsFrom words 0 m) t f j
+  rest-all j = let e : m - 0 ≡ m = omega arith in rw e
 
-  module _ (i : ℕ) (held : List Float) (s : Weighing t f words m ws i held) where
-    first : i < m → (j : ℕ) → weight 32 (rowsFrom words i (m - i)) t f j
-        ≡ share 32 t f (rowAt words i) j + weight 32 (rowsFrom words (i + 1) (m - (i + 1))) t f j
-    unfolding weight
-    first h j =
-        let k : m - i ≡ suc (m - (i + 1)) = omega arith in
-        ap (λ (x : ℕ). weight 32 (rowsFrom words i x) t f j) k
-        ∙ ap (λ (x : ℕ). share 32 t f (rowAt words i) j + weight 32 (rowsFrom words x (m - (i + 1))) t f j) (sym (add-one i))
+  pub rest-none : (i : ℕ) → m ≤ i → (j : ℕ) → restFrom i j ≡ 0
+  unfolding weight
+  rest-none i h j = let e : m - i ≡ 0 = omega arith in rw e
 
-    -- a row that adds nothing
-    pub weighing-same : i < m → ((j : ℕ) → share 32 t f (rowAt words i) j ≡ 0) → Weighing t f words m ws (i + 1) held
-    weighing-same h z w small hw =
-        let x = s w small hw in
-        (x .0, x .1, λ j. omega (arith, x .2 j, first h j, z j))
-
-    -- a row whose share is added
-    pub weighing-next : i < m → (next : List Float)
-        → ((k : ℕ → ℕ) → Weighs held k → ((j : ℕ) → j < 32 → k j + share 32 t f (rowAt words i) j < 2 ^ 53)
-        → Weighs next (λ j. k j + share 32 t f (rowAt words i) j))
-        → Weighing t f words m ws (i + 1) next
-    weighing-next h next add-one-row w small hw =
-        let x = s w small hw in (
-          (λ j. x .0 j + share 32 t f (rowAt words i) j),
-          add-one-row (x .0) (x .1) (λ j b. omega (arith, x .2 j, first h j, small j)),
-          (λ j. omega (arith, x .2 j, first h j)),
-        )
-
-    pub weighing-end : m ≤ i → AddsWeights t f ws (rowsFrom words 0 m) held
-    unfolding AddsWeights Weighs weight
-    weighing-end h w small hw b c =
-        let x = s w small hw in
-        let e : m - i ≡ 0 = omega arith in
-        let q : x .0 b ≡ w b + weight 32 (rowsFrom words 0 m) t f b = sym (add-zero (x .0 b)) ∙ (rw e at (x .2 b)) in
-        x .1 b c ∙ ap scaled q
+  pub rest-first : (i : ℕ) → i < m → (j : ℕ) → restFrom i j ≡ share 32 t f (rowAt words i) j + restFrom (i + 1) j
+  unfolding weight
+  rest-first i h j =
+      let k : m - i ≡ suc (m - (i + 1)) = omega arith in
+      ap (λ (x : ℕ). weight 32 (rowsFrom words i x) t f j) k
+      ∙ ap (λ (x : ℕ). share 32 t f (rowAt words i) j + weight 32 (rowsFrom words x (m - (i + 1))) t f j) (sym (add-one i))
 
 -- ---- three tables
 
@@ -137,6 +151,14 @@ pub scaled-zero : ofBits binary64 0 ≡ scaled 0
 unfolding scaled round ofBits
 scaled-zero = refl
 
+-- floats that are weights below 2 ^ 53 compare as these do, so they have the same greatest
+pub heaviest-of : (r : List Float) (w : ℕ → ℕ) → ((i : ℕ) → i < 32 → w i < 2 ^ 53) → Weighs r w
+    → greatest (λ i j. lt (getD r i nan) (getD r j nan)) 32 ≡ heaviest w 32
+unfolding Weighs heaviest
+heaviest-of r w small h =
+    greatest-cong (λ i j. lt (getD r i nan) (getD r j nan)) (λ i j. ltb (w i) (w j)) 32
+    (λ i j p q. rw (h i p, h j q) (scaled-lt (w i) (w j) (small i p) (small j q)))
+
 -- three tables of at most 128 rows each
 module _ (t f : ℕ) (left right public : List ℕ) (a b c : ℕ) (ha : a ≤ 128) (hb : b ≤ 128) (hc : c ≤ 128) where
   abbrev all : List Row
@@ -162,9 +184,10 @@ module _ (t f : ℕ) (left right public : List ℕ) (a b c : ℕ) (ha : a ≤ 12
 
   -- one table after the other from nothing: the floats are the weights over the rows of all tables
   pub weigh-all : (none first second r : List Float) → ((i : ℕ) → i < 32 → getD none i nan ≡ ofBits binary64 0)
-      → AddsWeights t f none (rowsFrom left 0 a) first → AddsWeights t f first (rowsFrom right 0 b) second → AddsWeights t f second (rowsFrom public 0 c) r
+      → Adds (weight 32 (rowsFrom left 0 a) t f) none first → Adds (weight 32 (rowsFrom right 0 b) t f) first second
+      → Adds (weight 32 (rowsFrom public 0 c) t f) second r
       → Weighs r (weight 32 all t f)
-  unfolding AddsWeights Weighs
+  unfolding Adds Weighs
   weigh-all none first second r z one two three i h =
       let w₁ : ℕ → ℕ = λ j. 0 + weight 32 (rowsFrom left 0 a) t f j in
       let w₂ : ℕ → ℕ = λ j. w₁ j + weight 32 (rowsFrom right 0 b) t f j in
@@ -174,10 +197,6 @@ module _ (t f : ℕ) (left right public : List ℕ) (a b c : ℕ) (ha : a ≤ 12
       (one (λ j. 0) (λ j. omega (arith, weight-all j)) (λ j k. z j k ∙ scaled-zero))) i h
       ∙ ap scaled e
 
-  -- floats that are these weights compare as these do, so they have the same greatest
+  -- so the heaviest by floats is the heaviest by weights
   pub heaviest-all : (r : List Float) → Weighs r (weight 32 all t f) → greatest (λ i j. lt (getD r i nan) (getD r j nan)) 32 ≡ heaviest (weight 32 all t f) 32
-  unfolding Weighs heaviest
-  heaviest-all r h =
-      let w = weight 32 all t f in
-      greatest-cong (λ i j. lt (getD r i nan) (getD r j nan)) (λ i j. ltb (w i) (w j)) 32
-      (λ i j p q. rw (h i p, h j q) (scaled-lt (w i) (w j) (weight-small i) (weight-small j)))
+  heaviest-all r h = heaviest-of r (weight 32 all t f) (λ i b. weight-small i) h

@@ -1,8 +1,10 @@
 // The giant step and the budgeted run with the two-sided Jeroslow-Wang choice in the place of rule 4's (document 02, "Weighing the short
 // rows"): other steps, the same verdicts.
+mod beside;
 mod weights;
 
 use dimensions::Dimensions;
+use indexed::Continued;
 use refusals::Outcome;
 use solver::Answer;
 use solver::Solved;
@@ -21,7 +23,8 @@ ghost use Rattle.tables.specs.Rows.{rowsOf};
 ghost use Rattle.state.specs.State.{stateOf, runOf};
 ghost use Rattle.state.specs.WellFormed.{wellFormed, stateChecks};
 ghost use Rattle.solver.specs.Step.{stepWith, always};
-ghost use Rattle.solver.specs.Entries.{answerWith, answerNumbers, steppedWith, solvedWith, solvedCode, solvedNumbers};
+ghost use Rattle.solver.specs.Entries.{runWith, answerWith, answerNumbers, steppedWith, solvedWith, solvedCode, solvedNumbers};
+ghost use Rattle.indexed.specs.Continuing.{continuedBy};
 ghost use Rattle.weighted.specs.Weights.{weightedRule};
 
 // One step of a well-formed run over accepted tables of its n; a closed run stays as it is.
@@ -77,22 +80,39 @@ pub fn step_weighted(
     }
 }
 
+// The run after weighted steps over accepted tables, through the one that closes it and at most so many: their index is made once.
+fn run_accepted(
+    d: Dimensions,
+    left: &[u32],
+    right: &[u32],
+    public: &[u32],
+    times: u64,
+    run: Run,
+) -> Continued
+    requires { ⌜ outcome (tableChecks d (allTables (now left) (now right) (now public))) ≡ Taken ⌝ }
+    requires { ⌜ wellFormed run ≡ true ⌝ }
+    requires { ⌜ run .n ≡ d .n ⌝ }
+    ensures { λ r.
+        ⌜ r ≡ continuedBy (d .n) (runWith weightedRule (d .n)
+        (always (rowsOf d (allTables (now (left .entry)) (now (right .entry)) (now (public .entry))))) times (stateOf run)) ⌝ }
+{
+    let words = occurrences::row_words(d, left, right, public);
+    let mut index = [0u64; 384];
+    occurrences::fill(&words, d.rows(), &mut index);
+    beside::run_to_close(&words, d.rows(), &index, times, run)
+}
+
 // The answer of a fresh run over accepted tables.
-fn run_to_close(d: Dimensions, left: &[u32], right: &[u32], public: &[u32], budget: u64) -> Answer
+fn run_fresh(d: Dimensions, left: &[u32], right: &[u32], public: &[u32], budget: u64) -> Answer
     requires { ⌜ outcome (tableChecks d (allTables (now left) (now right) (now public))) ≡ Taken ⌝ }
     ensures { λ r.
         ⌜ r ≡ answerWith weightedRule (d .n)
         (always (rowsOf d (allTables (now (left .entry)) (now (right .entry)) (now (public .entry))))) budget ⌝ }
 {
-    let mut run = Run::fresh(d.n);
-    let mut count = 0;
-    while verdicts::goes_on(run, count, budget) {
-        run = advance(d, left, right, public, run);
-        count += 1;
-    }
+    let reached = run_accepted(d, left, right, public, budget, Run::fresh(d.n));
     Answer {
-        count,
-        verdict: verdicts::verdict_of(run),
+        count: reached.steps,
+        verdict: verdicts::verdict_of(reached.run),
     }
 }
 
@@ -115,6 +135,6 @@ pub fn solve_weighted(
     let checked = tables::accept(d, left, right, public);
     match checked {
         Outcome::Refused(refusal) => Solved::Refused(refusal),
-        Outcome::Taken => Solved::Of(run_to_close(d, left, right, public, budget)),
+        Outcome::Taken => Solved::Of(run_fresh(d, left, right, public, budget)),
     }
 }

@@ -11,10 +11,10 @@ ghost use lib.Ieee.{nan};
 ghost use Rattle.scan.specs.Rules.{rowsIn};
 ghost use Rattle.weighted.specs.Weights as Weights;
 ghost use Rattle.weighted.specs.Weights.{greatest, weight, weightedRule};
-ghost use Rattle.weighted.specs.Floats.{scaled, Weighs, Raised, AddsWeights};
+ghost use Rattle.weighted.specs.Floats.{scaled, Weighs, Raised, Adds};
 
 // 2 to the power minus k, by its bit pattern: the exponent's field is 1023 - k.
-fn power(k: u8) -> f64
+pub(crate) fn power(k: u8) -> f64
     requires { ⌜ k ≤ 32 ⌝ }
     ensures { λ r. ⌜ r ≡ scaled (2 ^ (32 - k)) ⌝ }
 {
@@ -22,7 +22,7 @@ fn power(k: u8) -> f64
 }
 
 // Adds gain to the weight of each variable of the word.
-fn raise(weights: &mut [f64; 32], word: u32, gain: f64)
+pub(crate) fn raise(weights: &mut [f64; 32], word: u32, gain: f64)
     ensures { λ _. ⌜ Raised (now (weights .entry)) word gain (now (weights .exit)) ⌝ }
 {
     let mut left = word;
@@ -36,7 +36,7 @@ fn raise(weights: &mut [f64; 32], word: u32, gain: f64)
 // Adds the weights of a table's rows: an unsatisfied row adds 2 to the power minus its number of free literals to each free variable that
 // it holds.
 fn weigh_rows(weights: &mut [f64; 32], rows: &[u32], t: u32, f: u32)
-    ensures { λ _. ⌜ AddsWeights t f (now (weights .entry)) (rowsIn (now (rows .entry))) (now (weights .exit)) ⌝ }
+    ensures { λ _. ⌜ Adds (weight 32 (rowsIn (now (rows .entry))) t f) (now (weights .entry)) (now (weights .exit)) ⌝ }
 {
     let m = rows.len() / 2;
     for i in 0..m {
@@ -71,7 +71,7 @@ fn weigh(left: &[u32], right: &[u32], public: &[u32], t: u32, f: u32) -> [f64; 3
 }
 
 // The variable of the greatest weight, the lowest among equals.
-fn heaviest(weights: [f64; 32]) -> u32
+pub(crate) fn heaviest(weights: [f64; 32]) -> u32
     ensures { λ r. ⌜ r ≡ greatest (λ i j. Ieee.lt (getD weights i nan) (getD weights j nan)) 32 ⌝ }
 {
     let mut best = 0usize;

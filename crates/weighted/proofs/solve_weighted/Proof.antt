@@ -10,8 +10,8 @@ use Rattle.weighted.proofs.solve_weighted.Tie as tie
 abbrev start : tie.After-accept → tie.Start
 start c = c .before .before .before .before
 
-run-to-close-requires : tie.Need-run-to-close-requires
-run-to-close-requires c κs = sym (c .before .before .accept .ensures .0) ∙ c .enum-told .given .1
+run-fresh-requires : tie.Need-run-fresh-requires
+run-fresh-requires c κs = sym (c .before .before .accept .ensures .0) ∙ c .enum-told .given .1
 
 returns : tie.Need-returns
 returns c =
@@ -27,7 +27,7 @@ returns-2 c =
     let s = start at-accept in
     said-with weightedRule (s .args .d) _ (s .args .budget) _
     (solve-taken-with weightedRule (s .args .d) _ (s .args .budget) (sym (c .before .enum-told .given .1) ∙ at-accept .accept .ensures .0) _
-    (c .run-to-close .ensures))
+    (c .run-fresh .ensures))
 
 enum-told : tie.Need-enum-told
 enum-told c = search needs
@@ -41,4 +41,4 @@ accept-requires c κs = search needs
 pub solve-weighted-spec : {M : Type 1} → statement M
 solve-weighted-spec =
     tie.close
-    (tie.spec accept-requires enum-known-checked enum-told run-to-close-requires returns returns-2)
+    (tie.spec accept-requires enum-known-checked enum-told run-fresh-requires returns returns-2)

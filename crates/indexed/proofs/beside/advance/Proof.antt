@@ -29,8 +29,8 @@ rule-requires c κs = search needs
 follow-requires : tie.Need-follow-requires
 follow-requires c κs = search needs
 
-tally-after-requires : tie.Need-tally-after-requires
-tally-after-requires c κs = search needs
+after-rule-requires : tie.Need-after-rule-requires
+after-rule-requires c κs = search needs
 
 enum-told-2 : tie.Need-enum-told-2
 enum-told-2 c = search needs
@@ -43,7 +43,7 @@ returns c =
     let found = c .before .before in
     let s = start found in
     open-advance _ _ _ (s .args .held) (s .pre .0) (s .pre .1) (room s) (found .before .enum-told .given .1) _ (found .rule .ensures)
-    _ (c .before .follow .ensures) _ (c .tally-after .ensures)
+    _ (c .before .follow .ensures) _ (c .after-rule .ensures)
 
 returns-2 : tie.Need-returns-2
 returns-2 c =
@@ -62,7 +62,7 @@ advance-spec =
     enum-told
     rule-requires
     follow-requires
-    tally-after-requires
+    after-rule-requires
     enum-told-2
     enum-told-3
     returns

@@ -4,19 +4,26 @@ use lib.ListN.{length}
 use native.Mathlib.Omega.{arith}
 use borrow.Author.Needs.{needs}
 use mathlib.Core.Path.{sym}
-use Rattle.tables.specs.Rows.{rowAt}
+use Rattle.tables.specs.Rows.{rowAt, rowsFrom}
+use Rattle.weighted.specs.Weights.{weight}
 use Rattle.weighted.proofs.Weighing.{Weighing, weighing-start, weighing-same, weighing-next, weighing-end, share-satisfied, literals-small, raised-share}
+use Rattle.weighted.proofs.Weighing.{restFrom, rest-all, rest-none, rest-first}
 use Rattle.weighted.proofs.weights.weigh_rows.Statement.{statement}
 use Rattle.weighted.proofs.weights.weigh_rows.Tie as tie
 
 abbrev Inv-loop : tie.InvT-loop
-Inv-loop weights₀ rows t f m i₀ weights i = (i ≤ m) × Weighing t f rows m weights₀ i weights
+Inv-loop weights₀ rows t f m i₀ weights i = (i ≤ m) × Weighing (weight 32 (rowsFrom rows 0 m) t f) (restFrom t f rows m i) weights₀ weights
 
 abbrev μ-loop : tie.MeasureT-loop
 μ-loop weights₀ rows t f m i₀ weights i = m - i
 
 loop-holds : tie.Need-loop-holds Inv-loop μ-loop
-loop-holds c = let a = c .before .args in (omega arith, weighing-start (a .t) (a .f) (a .rows .now) (length (a .rows .now) / 2) _)
+loop-holds c =
+    let a = c .before .args in
+    let m = length (a .rows .now) / 2 in (
+      omega arith,
+      weighing-same _ _ _ _ (weighing-start _ _) _ (λ j. sym (rest-all (a .t) (a .f) (a .rows .now) m j)),
+    )
 
 -- the turn of the loop, from the judging
 abbrev turn : tie.After-judge Inv-loop μ-loop → tie.In-loop Inv-loop μ-loop
@@ -29,8 +36,12 @@ loop-again c =
     let l = at .before .loop in
     let a = at .before .before .before .args in (
       omega arith,
-      weighing-same (a .t) (a .f) (a .rows .now) _ _ (l .i) (l .weights) (l .inv .1) (at .loop-test .taken)
-          (share-satisfied (a .t) (a .f) (rowAt (a .rows .now) (l .i)) (j .result) (j .ensures) (c .if1 .taken)),
+      weighing-same _ _ _ _ (l .inv .1) _
+          (λ v. omega (
+            arith,
+            rest-first (a .t) (a .f) (a .rows .now) (length (a .rows .now) / 2) (l .i) (at .loop-test .taken) v,
+            share-satisfied (a .t) (a .f) (rowAt (a .rows .now) (l .i)) (j .result) (j .ensures) (c .if1 .taken) v,
+          )),
     )
 
 power-requires : tie.Need-power-requires Inv-loop μ-loop
@@ -50,7 +61,7 @@ loop-again-2 c =
     let l = at .before .loop in
     let a = at .before .before .before .args in (
       omega arith,
-      weighing-next (a .t) (a .f) (a .rows .now) _ _ (l .i) (l .weights) (l .inv .1) (at .loop-test .taken) _
+      weighing-next _ _ _ _ (l .inv .1) _ _ (rest-first (a .t) (a .f) (a .rows .now) _ (l .i) (at .loop-test .taken)) _
           (λ k h small. raised-share (a .t) (a .f) (rowAt (a .rows .now) (l .i)) (j .result) (j .ensures) (unsatisfied .if1 .left)
           (l .weights) _ k h small (rw (sym (powered .power .ensures)) (c .raise .ensures))),
     )
@@ -59,7 +70,7 @@ returns : tie.Need-returns Inv-loop μ-loop
 returns c =
     let l = c .before .loop in
     let a = c .before .before .before .args in
-    weighing-end (a .t) (a .f) (a .rows .now) _ _ (l .i) (l .weights) (l .inv .1) (omega arith)
+    weighing-end _ _ _ _ (l .inv .1) (rest-none (a .t) (a .f) (a .rows .now) _ (l .i) (omega arith))
 
 loop-less-2 : tie.Need-loop-less-2 Inv-loop μ-loop
 loop-less-2 c = search needs

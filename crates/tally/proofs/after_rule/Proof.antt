@@ -1,7 +1,7 @@
--- `tally_after` meets its contract: by the rule.
+-- `after_rule` meets its contract: by the rule.
 use borrow.Author.Needs.{needs}
-use Rattle.indexed.proofs.beside.tally_after.Statement.{statement}
-use Rattle.indexed.proofs.beside.tally_after.Tie as tie
+use Rattle.tally.proofs.after_rule.Statement.{statement}
+use Rattle.tally.proofs.after_rule.Tie as tie
 
 enum-told : tie.Need-enum-told
 enum-told c = search needs
@@ -36,8 +36,8 @@ returns-3 c = rw (c .before .before .rule .given .1) (c .set-literal .ensures)
 returns-4 : tie.Need-returns-4
 returns-4 c = rw (c .before .before .rule2 .given .1) (c .set-literal2 .ensures)
 
-pub tally-after-spec : {M : Type 1} → statement M
-tally-after-spec =
+pub after-rule-spec : {M : Type 1} → statement M
+after-rule-spec =
     tie.close
     (tie.spec
     enum-told
