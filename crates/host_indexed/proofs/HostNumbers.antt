@@ -17,12 +17,14 @@ use Rattle.tables.specs.Acceptance.{tableChecks}
 use Rattle.tables.proofs.Accepted.{refuse-size}
 use Rattle.state.specs.declared.Run.{Run}
 use Rattle.state.specs.WellFormed.{stateChecks}
+use Rattle.scan.specs.Rules.{rule}
+use Rattle.solver.specs.Step.{Ruling}
 use Rattle.indexed.specs.declared.Counted.{Counted}
 use Rattle.indexed.specs.declared.Counted.the-variants as counted′
 use Rattle.indexed.specs.declared.SteppedIndexed.{SteppedIndexed}
 use Rattle.indexed.specs.Entries.{indexAfter, counted, indexedChecks, steppedBy, steppedIndexed}
 use Rattle.indexed.specs.declared.Continued.{Continued}
-use Rattle.indexed.specs.Continuing.{continued, notContinued}
+use Rattle.indexed.specs.Continuing.{continuedWith, continued, notContinued}
 use Rattle.stored.specs.Words.{runIn}
 use Rattle.codes.proofs.AsBytes.{asBytes, on-numbers}
 use Rattle.host_indexed.specs.Steps.{indexedStepIn, continueIn}
@@ -49,9 +51,9 @@ module _ (tables : Tables) (d : Dimensions) (q : Refusal) (h : outcome (sizeChec
       ap (λ (o : Outcome). steppedBy o (d .n) rows run number)
       (outcome-refused (tableChecks d tables) (indexedChecks (d .n) rows index run number) q accept-refused)
 
-  continue-refused : (times : ℕ) (run : Run) → continued d tables times run ≡ notContinued run q
-  unfolding continued
-  continue-refused times run = rw (outcome-refused (tableChecks d tables) (stateChecks d run) q accept-refused)
+  continue-refused : (ruling : Ruling) (times : ℕ) (run : Run) → continuedWith ruling d tables times run ≡ notContinued run q
+  unfolding continuedWith
+  continue-refused ruling times run = rw (outcome-refused (tableChecks d tables) (stateChecks d run) q accept-refused)
 
 -- ---- any sizes
 
@@ -75,8 +77,15 @@ module _ (asked d : Dimensions) (e : d ≡ asBytes asked) (tables : Tables) wher
       (λ x q h. step-refused tables x q h index run k) d e s r
       ∙ ap (λ (x : Run). steppedIndexed asked tables index x k) held
 
+  -- continuing by any ruling the run in the words
+  pub continue-is-with : (ruling : Ruling) (times : ℕ) (words : List ℕ) (run : Run) → run ≡ runIn words
+      → (c : Continued) → c ≡ continuedWith ruling d tables times run → c ≡ continuedWith ruling asked tables times (runIn words)
+  continue-is-with ruling times words run held c r =
+      on-numbers asked (λ x. continuedWith ruling x tables times run) (λ q. notContinued run q) (λ x q h. continue-refused tables x q h ruling times run) d e
+      c r
+      ∙ ap (λ (x : Run). continuedWith ruling asked tables times x) held
+
   pub continue-is : (times : ℕ) (words : List ℕ) (run : Run) → run ≡ runIn words
       → (c : Continued) → c ≡ continued d tables times run → c ≡ continueIn asked tables times words
-  continue-is times words run held c r =
-      on-numbers asked (λ x. continued x tables times run) (λ q. notContinued run q) (λ x q h. continue-refused tables x q h times run) d e c r
-      ∙ ap (λ (x : Run). continued asked tables times x) held
+  unfolding continued
+  continue-is = continue-is-with rule

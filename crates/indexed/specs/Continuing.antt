@@ -16,8 +16,9 @@ use Rattle.state.specs.declared.Run.{Run}
 use Rattle.state.specs.State.{stateOf, runOf, ifOpen}
 use Rattle.state.specs.WellFormed.{stateChecks}
 use Rattle.verdicts.specs.Verdicts.{verdictOf}
-use Rattle.solver.specs.Step.{always}
-use Rattle.solver.specs.Entries.{Ran, runFrom}
+use Rattle.scan.specs.Rules.{rule}
+use Rattle.solver.specs.Step.{Ruling, always}
+use Rattle.solver.specs.Entries.{Ran, runWith, runFrom}
 use Rattle.solver.specs.declared.Solved.{Solved}
 use Rattle.solver.specs.declared.Solved.the-variants as solved
 use Rattle.indexed.specs.declared.Continued.{Continued}
@@ -32,12 +33,17 @@ continuedBy n r = record { outcome = Taken; run = runOf n (r .final); steps = r 
 abbrev pub notContinued : Run → Refusal → Continued
 notContinued run r = record { outcome = Refused r; run = run; steps = 0; closed = false }
 
--- steps through the one that closes the run, at most so many: 1, 2, 4, 3, 12, 13
-unfoldable pub continued : Dimensions → Tables → ℕ → Run → Continued
-unfolding runFrom runOf
-continued d tables times run =
+-- steps by a ruling through the one that closes the run, at most so many: 1, 2, 4, 3, 12, 13
+unfoldable pub continuedWith : Ruling → Dimensions → Tables → ℕ → Run → Continued
+unfolding runWith runOf
+continuedWith ruling d tables times run =
     given (outcome (tableChecks d tables ++ stateChecks d run))
-    (continuedBy (d .n) (runFrom (d .n) (always (rowsOf d tables)) times (stateOf run))) (notContinued run)
+    (continuedBy (d .n) (runWith ruling (d .n) (always (rowsOf d tables)) times (stateOf run))) (notContinued run)
+
+-- by giant steps
+unfoldable pub continued : Dimensions → Tables → ℕ → Run → Continued
+unfolding continuedWith runFrom
+continued = continuedWith rule
 
 -- ---- its numbers
 

@@ -1,7 +1,7 @@
 -- The heaviest variable can be chosen: where some unsatisfied row holds a free variable, it is one of those. And n variables' rows are weighed alike at every
 -- greater width.
 use mathlib.Core.Path.{_≡_, refl, sym, ap, _∙_, subst, fun-ext}
-use mathlib.Core.Bool.{Bool, true, false, not, _&&_, false≢true, and-false}
+use mathlib.Core.Bool.{Bool, true, false, not, _&&_, cond, false≢true, and-false}
 use mathlib.Core.List.{List, [], _∷_}
 use mathlib.Core.Logic.{inl, inr}
 use Prim.Native.Nat.{ℕ, zero, suc, _+_, _-_, _^_, _≤_, _<_}
@@ -38,23 +38,33 @@ weighs-exact floats w h i b s = subst (λ (x : Float). HasValue x false (w i) (2
 abbrev openIn : ℕ → ℕ → ℕ → ℕ → Row → Bool
 openIn n t f i r = not (satisfied n r t f) && freeIn r t f i
 
+-- a row adds nothing to a variable that it does not hold free, and nothing where it is satisfied
+share-none : (n t f i : ℕ) (r : Row) → openIn n t f i r ≡ false → share n t f r i ≡ 0
+unfolding share
+share-none n t f i r e = ap (λ (b : Bool). cond b (2 ^ (32 - freeLiterals n r t f)) 0) e
+
+-- else it adds something
+share-some : (n t f i : ℕ) (r : Row) → openIn n t f i r ≡ true → 0 < share n t f r i
+unfolding share
+share-some n t f i r e = rw e (pow-pos (32 - freeLiterals n r t f))
+
 -- an unsatisfied row that holds the variable free makes its weight positive
 weight-some : (n t f i : ℕ) (rows : List Row) → anyRow (λ r. not (satisfied n r t f) && freeIn r t f i) rows ≡ true → 0 < weight n rows t f i
-unfolding anyRow weight share
+unfolding anyRow weight
 weight-some n t f i [] e = absurd (false≢true e)
 weight-some n t f i (r ∷ rs) e =
     on (openIn n t f i r)
-    (λ q. rw q (omega (arith, pow-pos (32 - freeLiterals n r t f))))
-    (λ q. rw q (omega (arith, weight-some n t f i rs (rw q at e))))
+    (λ q. omega (arith, share-some n t f i r q))
+    (λ q. omega (arith, weight-some n t f i rs (rw q at e)))
 
 -- and only such a row does
 some-weight : (n t f i : ℕ) (rows : List Row) → 0 < weight n rows t f i → anyRow (λ r. not (satisfied n r t f) && freeIn r t f i) rows ≡ true
-unfolding anyRow weight share
+unfolding anyRow weight
 some-weight n t f i [] h = absurd (not-suc-le-zero h)
 some-weight n t f i (r ∷ rs) h =
     on (openIn n t f i r)
     (λ q. rw q)
-    (λ q. rw q (some-weight n t f i rs (let k : 0 < 0 + weight n rs t f i = rw q at h in omega arith)))
+    (λ q. rw q (some-weight n t f i rs (omega (arith, h, share-none n t f i r q))))
 
 -- where some variable is free in an unsatisfied row, the heaviest is
 pub heaviest-hit : (n t f v : ℕ) (rows : List Row) → v < n → anyRow (λ r. not (satisfied n r t f) && freeIn r t f v) rows ≡ true

@@ -31,7 +31,8 @@ fn weigh_word(weights: &mut [f64; 32], words: &[u32; 768], first: usize, set: u6
     while left != 0 {
         let at = 2 * (first + u64::trailing_zeros(left) as usize);
         left = left & (left - 1);
-        let variables = (words[at] | words[at + 1]) & unset;
+        let held = words[at] | words[at + 1];
+        let variables = held & unset;
         weights::raise(
             weights,
             variables,

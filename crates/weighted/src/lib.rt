@@ -24,7 +24,7 @@ ghost use Rattle.state.specs.State.{stateOf, runOf};
 ghost use Rattle.state.specs.WellFormed.{wellFormed, stateChecks};
 ghost use Rattle.solver.specs.Step.{stepWith, always};
 ghost use Rattle.solver.specs.Entries.{runWith, answerWith, answerNumbers, steppedWith, solvedWith, solvedCode, solvedNumbers};
-ghost use Rattle.indexed.specs.Continuing.{continuedBy};
+ghost use Rattle.indexed.specs.Continuing.{continuedBy, continuedWith, continuedCode, continuedNumbers, ranNumbers};
 ghost use Rattle.weighted.specs.Weights.{weightedRule};
 
 // One step of a well-formed run over accepted tables of its n; a closed run stays as it is.
@@ -100,6 +100,36 @@ fn run_accepted(
     let mut index = [0u64; 384];
     occurrences::fill(&words, d.rows(), &mut index);
     beside::run_to_close(&words, d.rows(), &index, times, run)
+}
+
+// The run after weighted steps through the one that closes it, at most so many, how many they were, and whether it is closed then; as it was
+// where the call is turned back: 1, 2, 4, 3, 12, 13.
+pub fn continue_weighted(
+    d: Dimensions,
+    left: &[u32],
+    right: &[u32],
+    public: &[u32],
+    times: u64,
+    run: Run,
+) -> Continued
+    ensures { λ r.
+        ⌜ r ≡ continuedWith weightedRule d (allTables (now (left .entry)) (now (right .entry)) (now (public .entry))) times run ⌝ }
+    ensures { λ r.
+        ⌜ continuedCode r ∷ continuedNumbers r
+        ≡ said (outcome (tableChecks d (allTables (now (left .entry)) (now (right .entry)) (now (public .entry))) ++ stateChecks d run))
+        (ranNumbers (runWith weightedRule (d .n)
+        (always (rowsOf d (allTables (now (left .entry)) (now (right .entry)) (now (public .entry))))) times (stateOf run))) ⌝ }
+{
+    let outcome = solver::check_all(d, left, right, public, run);
+    match outcome {
+        Outcome::Taken => run_accepted(d, left, right, public, times, run),
+        Outcome::Refused(_) => Continued {
+            outcome,
+            run,
+            steps: 0,
+            closed: false,
+        },
+    }
 }
 
 // The answer of a fresh run over accepted tables.

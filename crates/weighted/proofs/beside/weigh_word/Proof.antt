@@ -41,30 +41,30 @@ mul-at c = record { fits = omega (arith, row c) }
 sub-left : tie.Need-sub-left Inv-loop μ-loop
 sub-left c = search needs
 
-mul-variables : tie.Need-mul-variables Inv-loop μ-loop
-mul-variables c = record { fits = omega (arith, row c) }
+mul-held : tie.Need-mul-held Inv-loop μ-loop
+mul-held c = record { fits = omega (arith, row c) }
 
-element-copy-out-variables : tie.Need-element-copy-out-variables Inv-loop μ-loop
-element-copy-out-variables c = omega (arith, row c)
+element-copy-out-held : tie.Need-element-copy-out-held Inv-loop μ-loop
+element-copy-out-held c = omega (arith, row c)
 
-add-variables : tie.Need-add-variables Inv-loop μ-loop
-add-variables c = record { fits = omega (arith, row (c .before)) }
+add-held : tie.Need-add-held Inv-loop μ-loop
+add-held c = record { fits = omega (arith, row (c .before)) }
 
-mul-variables-2 : tie.Need-mul-variables-2 Inv-loop μ-loop
-mul-variables-2 c = record { fits = omega (arith, row (c .before)) }
+mul-held-2 : tie.Need-mul-held-2 Inv-loop μ-loop
+mul-held-2 c = record { fits = omega (arith, row (c .before)) }
 
-element-copy-out-variables-2 : tie.Need-element-copy-out-variables-2 Inv-loop μ-loop
-element-copy-out-variables-2 c = omega (arith, row (c .before))
+element-copy-out-held-2 : tie.Need-element-copy-out-held-2 Inv-loop μ-loop
+element-copy-out-held-2 c = omega (arith, row (c .before))
 
 -- the turn of the loop, from where the row is read
-abbrev turn : tie.After-variables2 Inv-loop μ-loop → tie.In-loop Inv-loop μ-loop
+abbrev turn : tie.After-held2 Inv-loop μ-loop → tie.In-loop Inv-loop μ-loop
 turn c = c .before .before
 
 -- the start, and the row's number
-abbrev start : tie.After-variables2 Inv-loop μ-loop → tie.Start Inv-loop μ-loop
+abbrev start : tie.After-held2 Inv-loop μ-loop → tie.Start Inv-loop μ-loop
 start c = turn c .before .before
 
-abbrev place : tie.After-variables2 Inv-loop μ-loop → ℕ
+abbrev place : tie.After-held2 Inv-loop μ-loop → ℕ
 place c = start c .args .first + trailingZeros 64 (turn c .before .loop .left)
 
 cast-power : tie.Need-cast-power Inv-loop μ-loop
@@ -108,11 +108,11 @@ weigh-word-spec =
     add-at
     mul-at
     sub-left
-    mul-variables
-    element-copy-out-variables
-    add-variables
-    mul-variables-2
-    element-copy-out-variables-2
+    mul-held
+    element-copy-out-held
+    add-held
+    mul-held-2
+    element-copy-out-held-2
     cast-power
     power-requires
     raise-requires
