@@ -34,6 +34,10 @@ mod library {
         pub fn forkhemit_continue(n: u64, left_rows: u64, right_rows: u64, public_rows: u64, left: *const u32, left_length: usize,
             right: *const u32, right_length: usize, public_table: *const u32, public_length: usize, times: u64, run: *mut u32,
             continued: *mut u64) -> u8;
+        pub fn forkhemit_step_weighted(n: u64, left_rows: u64, right_rows: u64, public_rows: u64, left: *const u32, left_length: usize,
+            right: *const u32, right_length: usize, public_table: *const u32, public_length: usize, run: *mut u32) -> u8;
+        pub fn forkhemit_solve_weighted(n: u64, left_rows: u64, right_rows: u64, public_rows: u64, left: *const u32, left_length: usize,
+            right: *const u32, right_length: usize, public_table: *const u32, public_length: usize, budget: u64, answer: *mut u64) -> u8;
         pub fn forkhemit_replace(n: u64, left_rows: u64, right_rows: u64, public_rows: u64, left: *mut u32, left_length: usize,
             right: *mut u32, right_length: usize, public_table: *const u32, public_length: usize, run: *const u32,
             station: u64, row: u64, positive: u32, negative: u32) -> u8;
@@ -98,6 +102,8 @@ pub enum Function {
     StepIndexed,
     SolveIndexed,
     Continue,
+    StepWeighted,
+    SolveWeighted,
     Replace,
     ReplaceIndexed,
     StepExplained,
@@ -117,7 +123,7 @@ pub enum Function {
     Answer,
 }
 
-pub const ALL: [Function; 30] = [
+pub const ALL: [Function; 32] = [
     Function::Sizes,
     Function::ReadTables,
     Function::Accept,
@@ -131,6 +137,8 @@ pub const ALL: [Function; 30] = [
     Function::StepIndexed,
     Function::SolveIndexed,
     Function::Continue,
+    Function::StepWeighted,
+    Function::SolveWeighted,
     Function::Replace,
     Function::ReplaceIndexed,
     Function::StepExplained,
@@ -336,6 +344,8 @@ impl Call {
                     n(3), w(4), n(5)),
                 Function::SolveIndexed => forkhemit_solve_indexed(x(0), x(1), x(2), x(3), w(0), l(0), w(1), l(1), w(2), l(2), x(4), n(3)),
                 Function::Continue => forkhemit_continue(x(0), x(1), x(2), x(3), w(0), l(0), w(1), l(1), w(2), l(2), x(4), w(3), n(4)),
+                Function::StepWeighted => forkhemit_step_weighted(x(0), x(1), x(2), x(3), w(0), l(0), w(1), l(1), w(2), l(2), w(3)),
+                Function::SolveWeighted => forkhemit_solve_weighted(x(0), x(1), x(2), x(3), w(0), l(0), w(1), l(1), w(2), l(2), x(4), n(3)),
                 Function::Replace => forkhemit_replace(x(0), x(1), x(2), x(3), w(0), l(0), w(1), l(1), w(2), l(2), w(3),
                     x(4), x(5), x(6) as u32, x(7) as u32),
                 Function::ReplaceIndexed => forkhemit_replace_indexed(x(0), x(1), x(2), x(3), w(0), l(0), w(1), l(1), w(2), l(2), w(3),

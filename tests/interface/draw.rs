@@ -499,9 +499,10 @@ pub fn of_size(function: Function, size: Size, circuits: &Circuits, random: &mut
         | Function::Unsatisfied
         | Function::StepIndexed
         | Function::StepExplained
+        | Function::StepWeighted
         | Function::Pack => call(numbers(size), over_tables(function, size, random)),
         Function::Fresh => call(vec![size.n as u64], vec![room_for_run(random)]),
-        Function::Solve | Function::SolveIndexed => {
+        Function::Solve | Function::SolveIndexed | Function::SolveWeighted => {
             let (budget, lent) = solving(size, random);
             call([numbers(size), vec![budget]].concat(), lent)
         }
@@ -606,7 +607,8 @@ fn strike(call: &mut Call, random: &mut Random) {
         let k = random.below(call.numbers.len());
         let number = call.numbers[k];
         // a number of steps stays one in which the model comes to an end
-        let runs = [Function::Solve, Function::SolveIndexed, Function::Continue, Function::Repeat];
+        let runs =
+            [Function::Solve, Function::SolveIndexed, Function::SolveWeighted, Function::Continue, Function::Repeat];
         if !runs.contains(&call.function) || k < 4 {
             call.numbers[k] = one(&[number.wrapping_sub(1), number.wrapping_add(1), one(&ODD, random)], random);
         }

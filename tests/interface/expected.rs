@@ -5,8 +5,9 @@ use crate::circuits::Circuits;
 use forkhemit_tests::bristol::Gate;
 use forkhemit_tests::game;
 use forkhemit_tests::memory;
-use forkhemit_tests::model::{self, Condition, Row, Run, Size, Ties};
+use forkhemit_tests::model::{self, Answer, Condition, Row, Run, Size, Ties};
 use forkhemit_tests::proofs;
+use forkhemit_tests::weighted;
 use forkhemit_tests::wires;
 use std::ops::Range;
 
@@ -84,8 +85,10 @@ impl Call {
             Function::Judge => self.judge(),
             Function::Fresh => self.fresh(),
             Function::Step => self.step(),
-            Function::Solve | Function::SolveIndexed => self.solve(),
+            Function::Solve | Function::SolveIndexed => self.solve(model::run),
             Function::Continue => self.go_on(),
+            Function::StepWeighted => self.step_weighted(),
+            Function::SolveWeighted => self.solve(weighted::solve),
             Function::CountFree => self.count_free(),
             Function::Index => self.index(),
             Function::Unsatisfied => self.unsatisfied(),
@@ -175,11 +178,20 @@ impl Call {
         Ok(vec![(3, Lent::Run(memory::run_words(&run)))])
     }
 
-    /// Count, verdict and model of the budgeted run.
-    fn solve(&self) -> Result<Writes, u8> {
+    /// The run after one step with the weighted choice.
+    fn step_weighted(&self) -> Result<Writes, u8> {
         let size = self.size()?;
         let rows = memory::accepted(size, self.tables())?;
-        let answer = model::run(size.n, &rows, self.numbers[4]);
+        let mut run = memory::run_for(size.n, self.words(3))?;
+        weighted::step(&mut run, &rows);
+        Ok(vec![(3, Lent::Run(memory::run_words(&run)))])
+    }
+
+    /// Count, verdict and model of a budgeted run, which is the plain one or the weighted one.
+    fn solve(&self, run: fn(usize, &[Row], u64) -> Answer) -> Result<Writes, u8> {
+        let size = self.size()?;
+        let rows = memory::accepted(size, self.tables())?;
+        let answer = run(size.n, &rows, self.numbers[4]);
         let verdict = match answer.standing {
             model::Standing::Open => 0,
             model::Standing::Satisfied => 1,

@@ -1,7 +1,7 @@
 //! Tests of the library as hosts call it. Use: interface CALLS [exact]
 //! Every refusal as it was written by hand, alone and two at once, then calls at the limits of size, then rows of every shape judged and
-//! counted, then runs with index and number beside the plain ones, then runs continued in slices, then runs whose steps tell their rules,
-//! then clauses by their own bytes, then steps where several literals are forced, then runs in which rows are replaced, whose verdicts are
+//! counted, then runs with index and number beside the plain ones, then runs continued in slices, then runs with the weighted choice, then runs
+//! whose steps tell their rules, then clauses by their own bytes, then steps where several literals are forced, then runs in which rows are replaced, whose verdicts are
 //! held to another solver's, then proofs that other solvers wrote, as they are and damaged, then games of two sides, held to all their
 //! plans and to another solver's verdicts, then random calls over all functions: each result and every lent buffer is held to the model.
 //! With `exact` each buffer has an allocation of its own of exactly its length, for a memory checker; else it stands between guards. The
@@ -22,6 +22,7 @@ mod late;
 mod proofs;
 mod refusals;
 mod ties;
+mod weighted;
 
 use calls::{Call, Given, ALL};
 use circuits::Circuits;
@@ -147,6 +148,11 @@ fn main() -> ExitCode {
     total.add(continued::runs(guard));
     total.add(continued::handed_over(guard));
     total.add(continued::summed(guard));
+    total.add(weighted::written(guard));
+    total.add(weighted::exact(guard));
+    total.add(weighted::runs(guard));
+    total.add(weighted::handed_over(guard));
+    total.add(weighted::solved(guard));
     total.add(explained::written(&circuits, guard));
     total.add(explained::runs(&circuits, guard));
     total.add(explained::handed_over(&circuits, guard));

@@ -110,8 +110,10 @@ fn base(function: Function, circuits: &Circuits) -> Result<Call, String> {
         Function::Accept => (d, tables()),
         Function::Judge => (vec![0b10, 0b01, 0b01, 0], vec![numbers(4)]),
         Function::Fresh => (vec![2], vec![Lent::Run(vec![7; RUN_WORDS])]),
-        Function::Step => (d, [tables(), vec![Lent::Run(run())]].concat()),
-        Function::Solve | Function::SolveIndexed => (and(9), [tables(), vec![numbers(3)]].concat()),
+        Function::Step | Function::StepWeighted => (d, [tables(), vec![Lent::Run(run())]].concat()),
+        Function::Solve | Function::SolveIndexed | Function::SolveWeighted => {
+            (and(9), [tables(), vec![numbers(3)]].concat())
+        }
         Function::Continue => (and(9), [tables(), vec![Lent::Run(run()), numbers(2)]].concat()),
         Function::CountFree => (d, [tables(), vec![Lent::Run(run()), bytes(3)]].concat()),
         Function::Index => (d, [tables(), vec![numbers(INDEX_WORDS)]].concat()),
@@ -766,10 +768,16 @@ fn changes(function: Function) -> Changes {
     let groups: &[fn(&mut Changes)] = match function {
         Function::Sizes => &[sizes],
         Function::ReadTables => &[read_tables],
-        Function::Accept | Function::Solve | Function::Index | Function::SolveIndexed => &[sizes, tables],
+        Function::Accept | Function::Solve | Function::Index | Function::SolveIndexed | Function::SolveWeighted => {
+            &[sizes, tables]
+        }
         Function::Judge => &[],
         Function::Fresh | Function::Answer => &[variables],
-        Function::Step | Function::Unsatisfied | Function::StepExplained | Function::Continue => &[sizes, tables, step],
+        Function::Step
+        | Function::Unsatisfied
+        | Function::StepExplained
+        | Function::Continue
+        | Function::StepWeighted => &[sizes, tables, step],
         Function::CountFree => &[sizes, tables, count_free],
         Function::StepIndexed => &[sizes, tables, step_indexed],
         Function::Replace => &[sizes, tables, replace],
@@ -824,6 +832,8 @@ fn harmless(function: Function) -> Vec<(String, Change)> {
         | Function::Unsatisfied
         | Function::SolveIndexed
         | Function::StepExplained
+        | Function::StepWeighted
+        | Function::SolveWeighted
         | Function::Pack
         | Function::Repeat => vec![
             ("no public rows, and words of some", number(3, 0)),

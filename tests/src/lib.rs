@@ -34,4 +34,5 @@ pub mod states;
 pub mod symbols;
 pub mod tables;
 pub mod ties;
+pub mod weighted;
 pub mod wires;
