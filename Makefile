@@ -113,7 +113,7 @@ target/examples/host-rust: examples/host/host.rs target/lib/libforkhemit.a
 	rustc --edition 2021 -O -D warnings -o $@ $< -L native=target/lib
 
 # The two hosts answer as the pair program; the third is told of a late condition, in each of the stories of examples/harbour/late; the fourth lists
-# a run step by step; the fifth checks a proof of cadical's, of examples/harbour/unsatisfiable; the last says who can force the roster, in each way of
+# a run step by step, by rule 4 and weighted; the fifth checks a proof of cadical's, of examples/harbour/unsatisfiable; the last says who can force the roster, in each way of
 # taking turns of examples/harbour/turns.
 examples: target/examples/host-c target/examples/host-rust target/examples/late-c target/examples/desk target/examples/proof-c
 examples: target/examples/turns-c
@@ -126,6 +126,7 @@ examples: target/examples/turns-c
 	  ../../target/examples/late-c left.cnf late/right.cnf public.cnf $$(cat late/$$story) | tee ../../target/examples/late-$$story.out && cmp ../../target/examples/late-$$story.out late/$$story.answer || exit 1; \
 	done
 	cd examples/harbour && ../../target/examples/desk left.cnf right.cnf public.cnf $$(cat budget) | tee ../../target/examples/desk.out && cmp ../../target/examples/desk.out ../desk/listing
+	cd examples/harbour && ../../target/examples/desk -w left.cnf right.cnf public.cnf $$(cat budget) | tee ../../target/examples/desk-weighted.out && cmp ../../target/examples/desk-weighted.out ../desk/listing-weighted
 	cd examples/harbour/unsatisfiable && ../../../target/examples/proof-c ../left.cnf right.cnf ../public.cnf proof.drat | tee ../../../target/examples/proof.out && cmp ../../../target/examples/proof.out answer
 	cd examples/harbour/turns && for way in by-turns at-once going-on; do \
 	  echo "turns-c $$way.qdimacs"; \
@@ -138,6 +139,7 @@ bench: target/static/pair target/lib/libforkhemit.a
 	tests/target/release/bench target/static/pair
 	tests/target/release/bench-tables target/static/pair
 	tests/target/release/bench-library
+	tests/target/release/bench-weighted tests/dimacs
 	tests/target/release/bench-proofs
 	rustc -O --edition 2021 tests/bench/evaluator.rs -L native=target/lib -l static=forkhemit -o target/bench-evaluator
 	target/bench-evaluator
