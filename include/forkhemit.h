@@ -36,9 +36,9 @@
 /* The version, as CHANGES.md numbers it. While the first number is 0, parameters and buffers may change with the second: read there what
  * did, and compile the host anew. With the third they never change. The shared library's soname has the first two. */
 #define FORKHEMIT_VERSION_MAJOR 0
-#define FORKHEMIT_VERSION_MINOR 9
+#define FORKHEMIT_VERSION_MINOR 10
 #define FORKHEMIT_VERSION_PATCH 0
-/* The same as one number that grows, for #if: 0.9.0 is 900. */
+/* The same as one number that grows, for #if: 0.10.0 is 1000. */
 #define FORKHEMIT_VERSION (FORKHEMIT_VERSION_MAJOR * 10000 + FORKHEMIT_VERSION_MINOR * 100 + FORKHEMIT_VERSION_PATCH)
 
 /* The most bytes that a DIMACS text may have, remarks included, and that a proof may have: one byte more of a file is all that a host need
@@ -220,6 +220,27 @@ uint8_t forkhemit_continue(uint64_t n, uint64_t left_rows, uint64_t right_rows, 
                            const uint32_t *left, size_t left_length, const uint32_t *right, size_t right_length,
                            const uint32_t *public_table, size_t public_length, uint64_t times,
                            uint32_t run[FORKHEMIT_RUN_WORDS], uint64_t continued[2]);
+
+/* ---- runs with the weighted choice */
+
+/*
+ * The two-sided Jeroslow-Wang choice in the place of rule 4's lowest variable: each unsatisfied row adds 2 to the power minus its number of
+ * free literals to every free variable that it holds, the greatest sum wins, the lowest variable among equals, and it is set true. Rules 1
+ * to 3 stay. Over tables that stay as they are the verdict is forkhemit_solve's whenever both close, within the same bound; the steps are
+ * others, most often fewer, and the model may be another one. No circuit goes by it.
+ */
+
+/* run: after one step with the weighted choice, in place; closed runs and refusals as in forkhemit_step. 1, 2, 4, 3, 12, 13. */
+uint8_t forkhemit_step_weighted(uint64_t n, uint64_t left_rows, uint64_t right_rows, uint64_t public_rows,
+                                const uint32_t *left, size_t left_length, const uint32_t *right, size_t right_length,
+                                const uint32_t *public_table, size_t public_length, uint32_t run[FORKHEMIT_RUN_WORDS]);
+
+/* A fresh run by such steps until it closes or the budget is spent; 2^(n+1) - 1 steps are always enough. It keeps an index as
+ * forkhemit_solve_indexed does, and reads rows to weigh only where it chooses, the unsatisfied ones.
+ * answer: steps taken, verdict (forkhemit_verdict), model as a word, 0 without one. 1, 2, 4, 3. */
+uint8_t forkhemit_solve_weighted(uint64_t n, uint64_t left_rows, uint64_t right_rows, uint64_t public_rows,
+                                 const uint32_t *left, size_t left_length, const uint32_t *right, size_t right_length,
+                                 const uint32_t *public_table, size_t public_length, uint64_t budget, uint64_t answer[3]);
 
 /* ---- late conditions */
 

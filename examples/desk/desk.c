@@ -1,16 +1,20 @@
 /*
  * A desk listing: a run step by step, as a planner reads it. For a test desk where both stations' texts are at hand; the circuit and the
  * pair program show none of this.
- * Use: desk LEFT RIGHT PUBLIC BUDGET. `make examples` builds it, and holds what it prints of examples/harbour to the file `listing`.
+ * Use: desk [-w] LEFT RIGHT PUBLIC BUDGET; with -w the run has the weighted choice. `make examples` builds it, and holds what it prints of
+ * examples/harbour to the files `listing` and `listing-weighted`.
  */
 #include "forkhemit.h"
 #include "../host/texts.h"
 #include <inttypes.h>
 #include <stdio.h>
 #include <stdlib.h>
+#include <string.h>
 
 #define STANDING 1
 #define DEPTH 4
+#define LEVELS 5
+#define CHOSEN 5 /* the number of rule 4 in the explanation of a step */
 
 /* How every call names the tables. */
 #define TABLES d[0], d[1], d[2], d[3], left, ROW_WORDS, right, ROW_WORDS, public_table, ROW_WORDS
@@ -75,10 +79,25 @@ static void print_step(uint64_t step, const uint32_t *run, const uint64_t *told)
     putchar('\n');
 }
 
+/* A step with the weighted choice. Its other rules are the plain step's, which explains them; a choice is read off the new level. */
+static uint8_t step_weighted(uint32_t *run, uint64_t *told)
+{
+    uint32_t plain[FORKHEMIT_RUN_WORDS];
+    memcpy(plain, run, sizeof plain);
+    uint8_t refusal = forkhemit_step_explained(TABLES, plain, told);
+    if (refusal == 0)
+        refusal = forkhemit_step_weighted(TABLES, run);
+    if (refusal == 0 && told[0] == CHOSEN)
+        told[2] = run[LEVELS + 3 * (run[DEPTH] - 1) + 2] + 1;
+    return refusal;
+}
+
 int main(int count, char **arguments)
 {
-    if (count != 5) {
-        fputs("use: desk LEFT RIGHT PUBLIC BUDGET\n", stderr);
+    int weighted = count > 1 && strcmp(arguments[1], "-w") == 0;
+    arguments += weighted;
+    if (count - weighted != 5) {
+        fputs("use: desk [-w] LEFT RIGHT PUBLIC BUDGET\n", stderr);
         return 1;
     }
     uint64_t budget = strtoull(arguments[4], NULL, 10);
@@ -94,7 +113,7 @@ int main(int count, char **arguments)
         puts("step depth  rule      set       row and clause as typed");
     for (uint64_t step = 1; refusal == 0 && step <= budget && run[STANDING] == FORKHEMIT_OPEN; step++) {
         uint64_t told[4] = {0}; /* rule, row, variable, value */
-        refusal = forkhemit_step_explained(TABLES, run, told);
+        refusal = weighted ? step_weighted(run, told) : forkhemit_step_explained(TABLES, run, told);
         if (refusal == 0)
             print_step(step, run, told);
     }
