@@ -242,6 +242,13 @@ uint8_t forkhemit_solve_weighted(uint64_t n, uint64_t left_rows, uint64_t right_
                                  const uint32_t *left, size_t left_length, const uint32_t *right, size_t right_length,
                                  const uint32_t *public_table, size_t public_length, uint64_t budget, uint64_t answer[3]);
 
+/* run: goes on by weighted steps, as forkhemit_continue does by giant ones. continued: how many were taken; 1 if the run is closed then,
+ * else 0. 1, 2, 4, 3, 12, 13. */
+uint8_t forkhemit_continue_weighted(uint64_t n, uint64_t left_rows, uint64_t right_rows, uint64_t public_rows,
+                                    const uint32_t *left, size_t left_length, const uint32_t *right, size_t right_length,
+                                    const uint32_t *public_table, size_t public_length, uint64_t times,
+                                    uint32_t run[FORKHEMIT_RUN_WORDS], uint64_t continued[2]);
+
 /* ---- late conditions */
 
 /*

@@ -38,6 +38,9 @@ mod library {
             right: *const u32, right_length: usize, public_table: *const u32, public_length: usize, run: *mut u32) -> u8;
         pub fn forkhemit_solve_weighted(n: u64, left_rows: u64, right_rows: u64, public_rows: u64, left: *const u32, left_length: usize,
             right: *const u32, right_length: usize, public_table: *const u32, public_length: usize, budget: u64, answer: *mut u64) -> u8;
+        pub fn forkhemit_continue_weighted(n: u64, left_rows: u64, right_rows: u64, public_rows: u64, left: *const u32, left_length: usize,
+            right: *const u32, right_length: usize, public_table: *const u32, public_length: usize, times: u64, run: *mut u32,
+            continued: *mut u64) -> u8;
         pub fn forkhemit_replace(n: u64, left_rows: u64, right_rows: u64, public_rows: u64, left: *mut u32, left_length: usize,
             right: *mut u32, right_length: usize, public_table: *const u32, public_length: usize, run: *const u32,
             station: u64, row: u64, positive: u32, negative: u32) -> u8;
@@ -104,6 +107,7 @@ pub enum Function {
     Continue,
     StepWeighted,
     SolveWeighted,
+    ContinueWeighted,
     Replace,
     ReplaceIndexed,
     StepExplained,
@@ -123,7 +127,7 @@ pub enum Function {
     Answer,
 }
 
-pub const ALL: [Function; 32] = [
+pub const ALL: [Function; 33] = [
     Function::Sizes,
     Function::ReadTables,
     Function::Accept,
@@ -139,6 +143,7 @@ pub const ALL: [Function; 32] = [
     Function::Continue,
     Function::StepWeighted,
     Function::SolveWeighted,
+    Function::ContinueWeighted,
     Function::Replace,
     Function::ReplaceIndexed,
     Function::StepExplained,
@@ -346,6 +351,8 @@ impl Call {
                 Function::Continue => forkhemit_continue(x(0), x(1), x(2), x(3), w(0), l(0), w(1), l(1), w(2), l(2), x(4), w(3), n(4)),
                 Function::StepWeighted => forkhemit_step_weighted(x(0), x(1), x(2), x(3), w(0), l(0), w(1), l(1), w(2), l(2), w(3)),
                 Function::SolveWeighted => forkhemit_solve_weighted(x(0), x(1), x(2), x(3), w(0), l(0), w(1), l(1), w(2), l(2), x(4), n(3)),
+                Function::ContinueWeighted => forkhemit_continue_weighted(x(0), x(1), x(2), x(3), w(0), l(0), w(1), l(1), w(2), l(2),
+                    x(4), w(3), n(4)),
                 Function::Replace => forkhemit_replace(x(0), x(1), x(2), x(3), w(0), l(0), w(1), l(1), w(2), l(2), w(3),
                     x(4), x(5), x(6) as u32, x(7) as u32),
                 Function::ReplaceIndexed => forkhemit_replace_indexed(x(0), x(1), x(2), x(3), w(0), l(0), w(1), l(1), w(2), l(2), w(3),

@@ -506,7 +506,7 @@ pub fn of_size(function: Function, size: Size, circuits: &Circuits, random: &mut
             let (budget, lent) = solving(size, random);
             call([numbers(size), vec![budget]].concat(), lent)
         }
-        Function::Continue => {
+        Function::Continue | Function::ContinueWeighted => {
             let (times, lent) = continuing(size, random);
             call([numbers(size), vec![times]].concat(), lent)
         }
@@ -607,8 +607,14 @@ fn strike(call: &mut Call, random: &mut Random) {
         let k = random.below(call.numbers.len());
         let number = call.numbers[k];
         // a number of steps stays one in which the model comes to an end
-        let runs =
-            [Function::Solve, Function::SolveIndexed, Function::SolveWeighted, Function::Continue, Function::Repeat];
+        let runs = [
+            Function::Solve,
+            Function::SolveIndexed,
+            Function::SolveWeighted,
+            Function::Continue,
+            Function::ContinueWeighted,
+            Function::Repeat,
+        ];
         if !runs.contains(&call.function) || k < 4 {
             call.numbers[k] = one(&[number.wrapping_sub(1), number.wrapping_add(1), one(&ODD, random)], random);
         }

@@ -86,9 +86,10 @@ impl Call {
             Function::Fresh => self.fresh(),
             Function::Step => self.step(),
             Function::Solve | Function::SolveIndexed => self.solve(model::run),
-            Function::Continue => self.go_on(),
+            Function::Continue => self.go_on(|run, rows, times| run.go_on(Ties::LowestVariable, rows, times)),
             Function::StepWeighted => self.step_weighted(),
             Function::SolveWeighted => self.solve(weighted::solve),
+            Function::ContinueWeighted => self.go_on(weighted::go_on),
             Function::CountFree => self.count_free(),
             Function::Index => self.index(),
             Function::Unsatisfied => self.unsatisfied(),
@@ -201,12 +202,13 @@ impl Call {
         Ok(vec![(3, Lent::Numbers(vec![answer.steps, verdict, model]))])
     }
 
-    /// The run after giant steps through the one that closes it, at most so many; how many, and whether it is closed: 12, 13.
-    fn go_on(&self) -> Result<Writes, u8> {
+    /// The run after steps, plain or weighted ones, through the one that closes it, at most so many; how many, and whether it is closed: 12,
+    /// 13.
+    fn go_on(&self, steps: fn(&mut Run, &[Row], u64) -> u64) -> Result<Writes, u8> {
         let size = self.size()?;
         let rows = memory::accepted(size, self.tables())?;
         let mut run = memory::run_for(size.n, self.words(3))?;
-        let steps = run.go_on(Ties::LowestVariable, &rows, self.numbers[4]);
+        let steps = steps(&mut run, &rows, self.numbers[4]);
         let closed = u64::from(run.standing != model::Standing::Open);
         Ok(vec![(3, Lent::Run(memory::run_words(&run))), (4, Lent::Numbers(vec![steps, closed]))])
     }

@@ -114,7 +114,9 @@ fn base(function: Function, circuits: &Circuits) -> Result<Call, String> {
         Function::Solve | Function::SolveIndexed | Function::SolveWeighted => {
             (and(9), [tables(), vec![numbers(3)]].concat())
         }
-        Function::Continue => (and(9), [tables(), vec![Lent::Run(run()), numbers(2)]].concat()),
+        Function::Continue | Function::ContinueWeighted => {
+            (and(9), [tables(), vec![Lent::Run(run()), numbers(2)]].concat())
+        }
         Function::CountFree => (d, [tables(), vec![Lent::Run(run()), bytes(3)]].concat()),
         Function::Index => (d, [tables(), vec![numbers(INDEX_WORDS)]].concat()),
         Function::Unsatisfied => (d, [tables(), vec![Lent::Run(run()), numbers(1)]].concat()),
@@ -777,7 +779,8 @@ fn changes(function: Function) -> Changes {
         | Function::Unsatisfied
         | Function::StepExplained
         | Function::Continue
-        | Function::StepWeighted => &[sizes, tables, step],
+        | Function::StepWeighted
+        | Function::ContinueWeighted => &[sizes, tables, step],
         Function::CountFree => &[sizes, tables, count_free],
         Function::StepIndexed => &[sizes, tables, step_indexed],
         Function::Replace => &[sizes, tables, replace],
@@ -873,7 +876,7 @@ fn harmless(function: Function) -> Vec<(String, Change)> {
                 ("words behind the tables", both(longer(0, &[7, u32::MAX]), longer(1, &[7, u32::MAX]))),
             ]
         }
-        Function::Continue => vec![
+        Function::Continue | Function::ContinueWeighted => vec![
             ("no public rows, and words of some", number(3, 0)),
             ("no public rows, and words that would be refused", both(number(3, 0), word(2, 1, u32::MAX))),
             ("no public rows and no words", both(number(3, 0), cut(2, 0))),

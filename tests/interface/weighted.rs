@@ -1,5 +1,5 @@
 //! Steps and runs with the weighted choice: states written by hand, choices in which the last bits of the sums decide, runs step by step
-//! beside the model's, states of every depth, and whole runs, whose verdicts are held to the plain run's and to another solver's.
+//! beside the model's and in slices, states of every depth, and whole runs, whose verdicts are held to the plain run's and to another solver's.
 
 use crate::calls::{Function, Lent};
 use crate::draw;
@@ -237,9 +237,31 @@ fn nearly(
 
 // ---- Runs
 
-/// A run followed for some steps, and one more after it is closed.
+/// Steps of a run, of which the last is closed or not: from one of them on so many times, in one call, each as the steps one by one.
+fn sliced(size: Size, tables: &[Lent], states: &[Run], guard: usize, random: &mut Random) -> Result<(), String> {
+    let count = states.len() as u64 - 1;
+    let closes = states[count as usize].standing != Standing::Open;
+    let from = random.below(states.len()) as u64;
+    for (from, times) in [(0, 0), (0, 1), (0, count / 2), (0, count), (from, 3), (from, count), (from, u64::MAX)] {
+        let to = from.saturating_add(times).min(count);
+        // no slice passes the last state that is known, unless the run is closed there
+        let times = if closes { times } else { to - from };
+        let run = Lent::Run(memory::run_words(&states[from as usize]));
+        let lent = [tables, &[run, Lent::Numbers(vec![7; 2])]].concat();
+        let given = taken(Function::ContinueWeighted, size, &[times], lent, guard)?;
+        let after = &states[to as usize];
+        let numbers = [to - from, u64::from(after.standing != Standing::Open)];
+        if given[..3] != *tables || given[3].words() != memory::run_words(after) || given[4].numbers() != numbers {
+            return Err(format!("from step {from} on {times} times: {:?} and not {numbers:?} {after:?}", &given[3..]));
+        }
+    }
+    Ok(())
+}
+
+/// A run followed for some steps, and one more after it is closed; then in slices.
 fn follow(size: Size, rows: &[Row], mut run: Run, steps: usize, ledger: &Ledger, guard: usize, random: &mut Random) {
     let tables = draw::lent_tables(size, rows, random);
+    let mut states = vec![run.clone()];
     for _ in 0..steps {
         let before = run.clone();
         weighted::step(&mut run, rows);
@@ -254,9 +276,13 @@ fn follow(size: Size, rows: &[Row], mut run: Run, steps: usize, ledger: &Ledger,
         }
         ledger.test(None);
         if run == before {
-            return ledger.kind("closed", 1);
+            ledger.kind("closed", 1);
+            break;
         }
+        states.push(run.clone());
     }
+    let failure = sliced(size, &tables, &states, guard, random).err();
+    ledger.test(failure.map(|failure| crate::cut(format!("{size:?}: {failure}\n  {rows:?}"))));
 }
 
 /// Rows of any width from 2 on, among them padding.
