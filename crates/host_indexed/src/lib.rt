@@ -115,8 +115,8 @@ pub extern "C" fn forkhemit_step_indexed(
     codes::code(outcome)
 }
 
-// Stores the run that was continued, writes how many steps it took and 1 if it is closed, else 0, and gives 0; the refusal's number where it
-// was turned back, and then nothing is written.
+// Stores the run that was continued, writes how many steps it took and 1 if it is closed, else 0, and gives 0; the refusal's number where
+// it was turned back, and then nothing is written.
 fn give_continued(done: Continued, run: &mut [u32; 101], continued: &mut [u64; 2]) -> u8
     ensures { λ r. ⌜ r ≡ continuedCode done ⌝ }
     ensures { λ _. ⌜ now (run .exit) ≡ storedIf (done .outcome) (done .run) (now (run .entry)) ⌝ }
@@ -193,11 +193,13 @@ pub extern "C" fn forkhemit_continue_weighted(
         ⌜ now (run .exit) ≡ storedIf (continuedWith weightedRule (dimensions n «left_rows» «right_rows» «public_rows»)
         (allTables (now (left .entry)) (now (right .entry)) (now (public .entry))) times (runIn (now (run .entry))) .outcome)
         (continuedWith weightedRule (dimensions n «left_rows» «right_rows» «public_rows»)
-        (allTables (now (left .entry)) (now (right .entry)) (now (public .entry))) times (runIn (now (run .entry))) .run) (now (run .entry)) ⌝ }
+        (allTables (now (left .entry)) (now (right .entry)) (now (public .entry))) times (runIn (now (run .entry))) .run)
+        (now (run .entry)) ⌝ }
     ensures { λ _.
         ⌜ now (continued .exit) ≡ numbersOr
         (continuedNumbers (continuedWith weightedRule (dimensions n «left_rows» «right_rows» «public_rows»)
-        (allTables (now (left .entry)) (now (right .entry)) (now (public .entry))) times (runIn (now (run .entry))))) (now (continued .entry)) ⌝ }
+        (allTables (now (left .entry)) (now (right .entry)) (now (public .entry))) times (runIn (now (run .entry)))))
+        (now (continued .entry)) ⌝ }
 {
     let d = codes::dimensions(n, left_rows, right_rows, public_rows);
     let start = stored::load(*run);

@@ -238,5 +238,6 @@ module _ (words : List ℕ) (t f : ℕ) (ht : t < 2 ^ 32) (hf : f < 2 ^ 32) wher
       pub set-is : setWeight words set unset v ≡ weight 32 rows t f v
       unfolding setWeight
       set-is =
-          (λ i. word 0 (omega arith) i + word 1 (omega arith) i + word 2 (omega arith) i + word 3 (omega arith) i + word 4 (omega arith) i + word 5 (omega arith) i)
+          (λ i. word 0 (omega arith) i + word 1 (omega arith) i + word 2 (omega arith) i + word 3 (omega arith) i + word 4 (omega arith) i
+          + word 5 (omega arith) i)
           ∙ sum-six h ∙ sym all

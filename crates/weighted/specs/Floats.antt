@@ -44,5 +44,6 @@ wordWeight words first set unset v = sumBelow (λ j. cond (bit set j) (rowShare 
 -- what a set of all rows adds
 unfoldable pub setWeight : List ℕ → List ℕ → ℕ → ℕ → ℕ
 setWeight words set unset v =
-    wordWeight words 0 (getD set 0 0) unset v + wordWeight words 64 (getD set 1 0) unset v + wordWeight words 128 (getD set 2 0) unset v
-    + wordWeight words 192 (getD set 3 0) unset v + wordWeight words 256 (getD set 4 0) unset v + wordWeight words 320 (getD set 5 0) unset v
+    wordWeight words 0 (getD set 0 0) unset v + wordWeight words 64 (getD set 1 0) unset v
+    + wordWeight words 128 (getD set 2 0) unset v + wordWeight words 192 (getD set 3 0) unset v
+    + wordWeight words 256 (getD set 4 0) unset v + wordWeight words 320 (getD set 5 0) unset v

@@ -102,8 +102,8 @@ fn run_accepted(
     beside::run_to_close(&words, d.rows(), &index, times, run)
 }
 
-// The run after weighted steps through the one that closes it, at most so many, how many they were, and whether it is closed then; as it was
-// where the call is turned back: 1, 2, 4, 3, 12, 13.
+// The run after weighted steps through the one that closes it, at most so many, how many they were, and whether it is closed then; as it
+// was where the call is turned back: 1, 2, 4, 3, 12, 13.
 pub fn continue_weighted(
     d: Dimensions,
     left: &[u32],

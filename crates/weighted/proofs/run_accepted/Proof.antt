@@ -45,7 +45,8 @@ run-to-close-requires c κs =
     let filled = counted .before .before in
     let s = start (gathered filled) in
     let f =
-    gathered-made (s .args .d) (tables s) (s .pre .0) _ (gathered filled .row-words .ensures) _ (filled .before .before .rows .ensures) _ (filled .fill .ensures) in
+    gathered-made (s .args .d) (tables s) (s .pre .0) _ (gathered filled .row-words .ensures) _ (filled .before .before .rows .ensures)
+    _ (filled .fill .ensures) in
     let x = made (s .args .d) (tables s) _ (f .0) _ (counted .rows2 .ensures) (s .pre .0) _ (f .1) in
     (of-run _ _ _ _ x (s .args .run) (s .pre .1 .1), s .pre .1 .0)
 
@@ -55,7 +56,8 @@ returns c =
     let filled = counted .before .before in
     let s = start (gathered filled) in
     let f =
-    gathered-made (s .args .d) (tables s) (s .pre .0) _ (gathered filled .row-words .ensures) _ (filled .before .before .rows .ensures) _ (filled .fill .ensures) in
+    gathered-made (s .args .d) (tables s) (s .pre .0) _ (gathered filled .row-words .ensures) _ (filled .before .before .rows .ensures)
+    _ (filled .fill .ensures) in
     c .run-to-close .ensures
     ∙ ap₂ (λ (n : ℕ) (rows : List Row). continuedBy n (runWith weightedRule n (always rows) (s .args .times) (stateOf (s .args .run)))) (s .pre .1 .1)
     (made-rows (s .args .d) (tables s) _ (f .0) _ (counted .rows2 .ensures))
