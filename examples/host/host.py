@@ -10,7 +10,7 @@ TEXT_BYTES = 65536
 TABLE_WORDS = 256
 
 # The soname: parameters are written down here again, so the library must be of the version that they were copied from.
-LIBRARY = ctypes.CDLL("libforkhemit.so.0.9")
+LIBRARY = ctypes.CDLL("libforkhemit.so.0.10")
 NUMBERS = [c_uint64] * 4
 BUFFER = [c_void_p, c_size_t]
 
