@@ -99,16 +99,17 @@ module _ (n : ℕ) (rows : ℕ → List Row) {states : ℕ → State} (budget : 
       let one : 2 ^ suc (occurring n (atEnd rows answer)) - 1 ≡ 1 = ap (λ (k : ℕ). 2 ^ suc k - 1) none-occurs in
       (omega (arith, one, holds .bound-count), holds .bound (omega (arith, one)))
 
--- demand 2 leaves one answer: count, verdict and model
-pub one-answer : (n : ℕ) (rows : ℕ → List Row) {states : ℕ → State} (budget : ℕ) (answer answer′ : Answer) → Demand2Of n rows states budget answer
-    → Demand2Of n rows states budget answer′ → answer ≡ answer′
-one-answer n rows {states} budget answer answer′ holds holds′ =
-    let same : answer .count ≡ answer′ .count =
-    count-only n rows budget answer holds (answer′ .count) (holds′ .count-most) (holds′ .count-least) (holds′ .count-closes) in
-    ap₂ (λ (k : ℕ) (v : Verdict). record { count = k; verdict = v }) same
-    (holds .by-standing
-    ∙ ap (λ (k : ℕ). let s = states k in verdictOf (s .standing) (s .t)) same
-    ∙ sym (holds′ .by-standing))
+module _ (n : ℕ) (rows : ℕ → List Row) {states : ℕ → State} (budget : ℕ) (answer answer′ : Answer)
+    (holds : Demand2Of n rows states budget answer) (holds′ : Demand2Of n rows states budget answer′) where
+  -- demand 2 leaves one answer: count, verdict and model
+  pub one-answer : answer ≡ answer′
+  one-answer =
+      let same : answer .count ≡ answer′ .count =
+      count-only n rows budget answer holds (answer′ .count) (holds′ .count-most) (holds′ .count-least) (holds′ .count-closes) in
+      ap₂ (λ (k : ℕ) (v : Verdict). record { count = k; verdict = v }) same
+      (holds .by-standing
+      ∙ ap (λ (k : ℕ). let s = states k in verdictOf (s .standing) (s .t)) same
+      ∙ sym (holds′ .by-standing))
 
 -- ---- two runs over the same rows throughout, each by its own steps and under its own budget
 
