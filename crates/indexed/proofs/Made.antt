@@ -35,9 +35,11 @@ module _ (d : Dimensions) (tables : Tables) where
   )
 
   module _ (words : List ℕ) (rows-are : rowsFrom words 0 (rowCount d) ≡ rowsOf d tables) (m : ℕ) (many : m ≡ rowCount d) where
+    -- the first m rows of the gathered words are the tables'
     pub made-rows : rowsFrom words 0 m ≡ rowsOf d tables
     made-rows = ap (λ (k : ℕ). rowsFrom words 0 k) many ∙ rows-are
 
+    -- the gathered words and their index are what a run with an index asks for
     pub made : outcome (tableChecks d tables) ≡ Taken → (index : List ℕ) → index ≡ indexOf (rowsOf d tables) → Indexed (d .n) words m index
     made ok index q =
         let a = accepted d tables ok .size in

@@ -29,6 +29,7 @@ module _ (n : ℕ) (rows : List Row) (t f : ℕ) where
   unit-calm v positive e =
       calm (λ h. let z : _≡_ {A = ℕ} 0 1 = cc in omega arith) (λ h. let z : _≡_ {A = ℕ} 0 1 = cc in omega arith)
 
+  -- where rule 4 applies no row is in conflict
   pub choice-calm : (v : ℕ) → rule n rows t f ≡ Choice v → anyRow (unsatisfiedWith 0 n t f) rows ≡ false
   choice-calm v e =
       calm (λ h. let z : _≡_ {A = ℕ} 0 1 = cc in omega arith) (λ h. let z : _≡_ {A = ℕ} 0 1 = cc in omega arith)

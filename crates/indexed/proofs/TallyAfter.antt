@@ -36,6 +36,7 @@ module _ (n : ℕ) (words : List ℕ) (m : ℕ) (index : List ℕ) (x : Indexed 
   pub wide : (t f : ℕ) → rule 32 rows t f ≡ rule n rows t f
   wide t f = rule-width n 32 (x .most) t f rows (x .low)
 
+  -- surveying the rows gives the tally of T and F
   pub survey-exact : (t f : ℕ) → t < 2 ^ 32 → f < 2 ^ 32 → surveyed words index m t f ≡ tallyOf rows t f
   survey-exact t f ht hf = after-survey words m index t f (x .few) (x .indexed) ht hf
 

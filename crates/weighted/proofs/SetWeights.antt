@@ -214,14 +214,14 @@ module _ (words : List ℕ) (t f : ℕ) (ht : t < 2 ^ 32) (hf : f < 2 ^ 32) wher
       abbrev rows : List Row
       rows = rowsFrom words 0 m
 
-      abbrev set : List ℕ
-      set = rowSet (unmet 32 t f) rows
+      abbrev unmetRows : List ℕ
+      unmetRows = rowSet (unmet 32 t f) rows
 
       -- what row i adds, if it is unsatisfied
       h : ℕ → ℕ
       h i = cond (at (unmet 32 t f) rows i) (rowShare words unset i v) 0
 
-      word : (w : ℕ) → w < 6 → wordWeight words (64 * w) (getD set w 0) unset v ≡ sumBelow (λ j. h (64 * w + j)) 64
+      word : (w : ℕ) → w < 6 → wordWeight words (64 * w) (getD unmetRows w 0) unset v ≡ sumBelow (λ j. h (64 * w + j)) 64
       unfolding wordWeight h
       word w c =
           sum-cong _ _ 64
@@ -235,7 +235,7 @@ module _ (words : List ℕ) (t f : ℕ) (ht : t < 2 ^ 32) (hf : f < 2 ^ 32) wher
           ∙ sum-cong _ _ 384 (λ i c. let z : 0 + i ≡ i = omega arith in ap (λ (x : ℕ). cond (at (unmet 32 t f) rows i) (rowShare words unset x v) 0) z)
 
       -- what the set of unsatisfied rows adds is the weight over all rows
-      pub set-is : setWeight words set unset v ≡ weight 32 rows t f v
+      pub set-is : setWeight words unmetRows unset v ≡ weight 32 rows t f v
       unfolding setWeight
       set-is =
           (λ i. word 0 (omega arith) i + word 1 (omega arith) i + word 2 (omega arith) i + word 3 (omega arith) i + word 4 (omega arith) i
