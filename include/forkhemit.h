@@ -1,6 +1,6 @@
 /*
  * Forkhemit for hosts in C and C++: two stations' clause tables and the public one, the giant step, its circuit and the texts.
- * Every function is proved to meet its contract, which stands in crates/host_runs, host_indexed, host_solve, host_late, host_explained,
+ * Every function is proved to meet its contract, which stands in crates/host_runs, host_indexed, host_solve, host_weighted, host_late, host_explained,
  * host_circuits, host_repeats, host_texts, host_excerpts, host_lines, host_proofs and host_game.
  * `make lib` writes the archive to link, target/lib/libforkhemit.a, for x86-64 Linux; it needs C's memcpy and memset and nothing else. docs/GUIDE.md
  * has the calls in the order in which a host makes them, examples/host hosts in C, in Rust and in Python.

@@ -1,5 +1,4 @@
-// For hosts in C and Rust: the rows of each literal as an index, the number of unsatisfied rows, and the steps that go by them, weighted
-// ones too.
+// For hosts in C and Rust: the rows of each literal as an index, the number of unsatisfied rows, and the steps that go by them.
 // Each function is a thin call of a proved entry. A slice passes as a pointer and then a length, an array as a pointer.
 // It returns 0 where the call is taken, else the refusal's number, and then all lent memory is as it was.
 use indexed::Continued;
@@ -13,8 +12,7 @@ ghost use Rattle.dimensions.specs.Sizes.{dimensions};
 ghost use Rattle.tables.specs.Tables.{allTables};
 ghost use Rattle.tables.specs.Acceptance.{tableChecks};
 ghost use Rattle.indexed.specs.Entries.{indexAfter, counted, countedCode, countedNumbers};
-ghost use Rattle.indexed.specs.Continuing.{continuedWith, continuedCode, continuedNumbers};
-ghost use Rattle.weighted.specs.Weights.{weightedRule};
+ghost use Rattle.indexed.specs.Continuing.{continuedCode, continuedNumbers};
 ghost use Rattle.stored.specs.Words.{runIn};
 ghost use Rattle.lent.specs.Lent.{numbersOr, storedIf};
 ghost use Rattle.host_indexed.specs.Steps.{indexedStepIn, continueIn};
@@ -117,7 +115,7 @@ pub extern "C" fn forkhemit_step_indexed(
 
 // Stores the run that was continued, writes how many steps it took and 1 if it is closed, else 0, and gives 0; the refusal's number where
 // it was turned back, and then nothing is written.
-fn give_continued(done: Continued, run: &mut [u32; 101], continued: &mut [u64; 2]) -> u8
+pub fn give_continued(done: Continued, run: &mut [u32; 101], continued: &mut [u64; 2]) -> u8
     ensures { λ r. ⌜ r ≡ continuedCode done ⌝ }
     ensures { λ _. ⌜ now (run .exit) ≡ storedIf (done .outcome) (done .run) (now (run .entry)) ⌝ }
     ensures { λ _. ⌜ now (continued .exit) ≡ numbersOr (continuedNumbers done) (now (continued .entry)) ⌝ }
@@ -166,45 +164,6 @@ pub extern "C" fn forkhemit_continue(
     let start = stored::load(*run);
     give_continued(
         indexed::continue_indexed(d, left, right, public, times, start),
-        run,
-        continued,
-    )
-}
-
-// Weighted steps of the run in the lent words through the one that closes it, at most so many; the numbers are how many they were, and 1 if
-// the run is closed then, else 0. 1, 2, 4, 3, 12 or 13 where it is turned back, and then nothing is written.
-#[no_mangle]
-pub extern "C" fn forkhemit_continue_weighted(
-    n: u64,
-    left_rows: u64,
-    right_rows: u64,
-    public_rows: u64,
-    left: &[u32],
-    right: &[u32],
-    public: &[u32],
-    times: u64,
-    run: &mut [u32; 101],
-    continued: &mut [u64; 2],
-) -> u8
-    ensures { λ r.
-        ⌜ r ≡ continuedCode (continuedWith weightedRule (dimensions n «left_rows» «right_rows» «public_rows»)
-        (allTables (now (left .entry)) (now (right .entry)) (now (public .entry))) times (runIn (now (run .entry)))) ⌝ }
-    ensures { λ _.
-        ⌜ now (run .exit) ≡ storedIf (continuedWith weightedRule (dimensions n «left_rows» «right_rows» «public_rows»)
-        (allTables (now (left .entry)) (now (right .entry)) (now (public .entry))) times (runIn (now (run .entry))) .outcome)
-        (continuedWith weightedRule (dimensions n «left_rows» «right_rows» «public_rows»)
-        (allTables (now (left .entry)) (now (right .entry)) (now (public .entry))) times (runIn (now (run .entry))) .run)
-        (now (run .entry)) ⌝ }
-    ensures { λ _.
-        ⌜ now (continued .exit) ≡ numbersOr
-        (continuedNumbers (continuedWith weightedRule (dimensions n «left_rows» «right_rows» «public_rows»)
-        (allTables (now (left .entry)) (now (right .entry)) (now (public .entry))) times (runIn (now (run .entry)))))
-        (now (continued .entry)) ⌝ }
-{
-    let d = codes::dimensions(n, left_rows, right_rows, public_rows);
-    let start = stored::load(*run);
-    give_continued(
-        weighted::continue_weighted(d, left, right, public, times, start),
         run,
         continued,
     )

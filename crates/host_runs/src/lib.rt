@@ -1,5 +1,4 @@
-// For hosts in C and Rust: whether tables are accepted, the judging of rows, the fresh run, the giant step in place, the step
-// with the weighted choice, and the model.
+// For hosts in C and Rust: whether tables are accepted, the judging of rows, the fresh run, the giant step in place, and the model.
 // Each function is a thin call of a proved entry. A slice passes as a pointer and then a length, an array as a pointer.
 // It returns 0 where the call is taken, else the refusal's number, and then it writes nothing.
 use state::Run;
@@ -20,8 +19,6 @@ ghost use Rattle.refusals.specs.Numbers.{codeOf};
 ghost use Rattle.lent.specs.Lent.{numbersOr, storedIf};
 ghost use Rattle.codes.specs.Codes.{variableChecks};
 ghost use Rattle.free_counts.specs.Counts.{countChecks, countsAfter};
-ghost use Rattle.solver.specs.Entries.{steppedWith};
-ghost use Rattle.weighted.specs.Weights.{weightedRule};
 ghost use Rattle.host_runs.specs.Runs.{stepIn, stepStored};
 ghost use Rattle.host_runs.specs.Rows.{judgedRow, judgedNumbers};
 
@@ -139,33 +136,6 @@ pub extern "C" fn forkhemit_step(
 {
     let d = codes::dimensions(n, left_rows, right_rows, public_rows);
     let stepped = solver::step_lent(d, left, right, public, stored::load(*run));
-    let outcome = stepped.outcome;
-    let next = stepped.run;
-    lent::store_if(outcome, next, run);
-    codes::code(outcome)
-}
-
-// One step of the run in the lent words with the weighted choice; 1, 2, 4, 3, 12 or 13 where it is turned back, and then no word changes.
-#[no_mangle]
-pub extern "C" fn forkhemit_step_weighted(
-    n: u64,
-    left_rows: u64,
-    right_rows: u64,
-    public_rows: u64,
-    left: &[u32],
-    right: &[u32],
-    public: &[u32],
-    run: &mut [u32; 101],
-) -> u8
-    ensures { λ r.
-        ⌜ r ≡ codeOf (steppedWith weightedRule (dimensions n «left_rows» «right_rows» «public_rows»)
-        (allTables (now (left .entry)) (now (right .entry)) (now (public .entry))) (runIn (now (run .entry))) .outcome) ⌝ }
-    ensures { λ _.
-        ⌜ now (run .exit) ≡ stepStored (steppedWith weightedRule (dimensions n «left_rows» «right_rows» «public_rows»)
-        (allTables (now (left .entry)) (now (right .entry)) (now (public .entry))) (runIn (now (run .entry)))) (now (run .entry)) ⌝ }
-{
-    let d = codes::dimensions(n, left_rows, right_rows, public_rows);
-    let stepped = weighted::step_weighted(d, left, right, public, stored::load(*run));
     let outcome = stepped.outcome;
     let next = stepped.run;
     lent::store_if(outcome, next, run);

@@ -21,6 +21,7 @@ module _ (ruling : Ruling) (asked : Dimensions) (tables : Tables) (budget : ℕ)
   unfolding solvedWith
   refused d q h = rw (sym (refuse-size d tables q h))
 
+  -- the whole run by any ruling
   pub solve-is-with : (d : Dimensions) → d ≡ asBytes asked → (s : Solved) → s ≡ solvedWith ruling d tables budget → s ≡ solvedWith ruling asked tables budget
   solve-is-with = on-numbers asked (λ x. solvedWith ruling x tables budget) solved′.Refused refused
 

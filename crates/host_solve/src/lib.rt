@@ -1,16 +1,15 @@
-// For hosts in C and Rust: the answer of a whole run under a budget, by the plain scan, with an index and with the weighted choice. Each
-// function is a thin call of a proved entry. A slice passes as a pointer and then a length, an array as a pointer. It returns 0 where the
-// call is taken, else the refusal's number, and then it writes nothing.
+// For hosts in C and Rust: the answer of a whole run under a budget, by the plain scan and with an index. Each function is a thin call of a
+// proved entry. A slice passes as a pointer and then a length, an array as a pointer. It returns 0 where the call is taken, else the
+// refusal's number, and then it writes nothing.
 use solver::Solved;
 ghost use mathlib.Core.Path.{_≡_};
 ghost use Rattle.dimensions.specs.Sizes.{dimensions};
 ghost use Rattle.tables.specs.Tables.{allTables};
-ghost use Rattle.solver.specs.Entries.{solvedWith, solved, solvedCode, solvedNumbers};
-ghost use Rattle.weighted.specs.Weights.{weightedRule};
+ghost use Rattle.solver.specs.Entries.{solved, solvedCode, solvedNumbers};
 ghost use Rattle.lent.specs.Lent.{numbersOr};
 
 // Writes the answer's count, verdict and model, and gives 0; the refusal's number where there is no answer.
-fn give(result: Solved, answer: &mut [u64; 3]) -> u8
+pub fn give(result: Solved, answer: &mut [u64; 3]) -> u8
     ensures { λ r. ⌜ r ≡ solvedCode result ⌝ }
     ensures { λ _. ⌜ now (answer .exit) ≡ numbersOr (solvedNumbers result) (now (answer .entry)) ⌝ }
 {
@@ -77,34 +76,6 @@ pub extern "C" fn forkhemit_solve_indexed(
     let d = codes::dimensions(n, left_rows, right_rows, public_rows);
     give(
         indexed::solve_indexed(d, left, right, public, budget),
-        answer,
-    )
-}
-
-// The answer of a fresh run under a budget with the weighted choice: count, verdict, model; 1, 2, 4 or 3 where it is turned back.
-#[no_mangle]
-pub extern "C" fn forkhemit_solve_weighted(
-    n: u64,
-    left_rows: u64,
-    right_rows: u64,
-    public_rows: u64,
-    left: &[u32],
-    right: &[u32],
-    public: &[u32],
-    budget: u64,
-    answer: &mut [u64; 3],
-) -> u8
-    ensures { λ r.
-        ⌜ r ≡ solvedCode (solvedWith weightedRule (dimensions n «left_rows» «right_rows» «public_rows»)
-        (allTables (now (left .entry)) (now (right .entry)) (now (public .entry))) budget) ⌝ }
-    ensures { λ _.
-        ⌜ now (answer .exit) ≡ numbersOr
-        (solvedNumbers (solvedWith weightedRule (dimensions n «left_rows» «right_rows» «public_rows»)
-        (allTables (now (left .entry)) (now (right .entry)) (now (public .entry))) budget)) (now (answer .entry)) ⌝ }
-{
-    let d = codes::dimensions(n, left_rows, right_rows, public_rows);
-    give(
-        weighted::solve_weighted(d, left, right, public, budget),
         answer,
     )
 }

@@ -7,10 +7,10 @@ use Rattle.indexed.specs.declared.Continued.{Continued}
 use Rattle.indexed.specs.Continuing.{continuedCode, continuedNumbers}
 use Rattle.lent.specs.Lent.{numbersOr, storedIf}
 use Rattle.weighted.specs.Weights.{weightedRule}
 use Rattle.host_indexed.proofs.HostNumbers.{continue-is-with}
 use borrow.Author.Needs.{needs}
-use Rattle.host_indexed.proofs.forkhemit_continue_weighted.Statement.{statement}
-use Rattle.host_indexed.proofs.forkhemit_continue_weighted.Tie as tie
+use Rattle.host_weighted.proofs.forkhemit_continue_weighted.Statement.{statement}
+use Rattle.host_weighted.proofs.forkhemit_continue_weighted.Tie as tie
 
 -- where the code starts, from the first call
 abbrev start : tie.After-dimensions → tie.Start

@@ -6,10 +6,10 @@ use Rattle.solver.specs.declared.Solved.{Solved}
 use Rattle.solver.specs.Entries.{solvedCode, solvedNumbers}
 use Rattle.weighted.specs.Weights.{weightedRule}
 use Rattle.lent.specs.Lent.{numbersOr}
 use Rattle.host_solve.proofs.HostNumbers.{solve-is-with}
 use borrow.Author.Needs.{needs}
-use Rattle.host_solve.proofs.forkhemit_solve_weighted.Statement.{statement}
-use Rattle.host_solve.proofs.forkhemit_solve_weighted.Tie as tie
+use Rattle.host_weighted.proofs.forkhemit_solve_weighted.Statement.{statement}
+use Rattle.host_weighted.proofs.forkhemit_solve_weighted.Tie as tie
 
 returns : tie.Need-returns
 returns c =

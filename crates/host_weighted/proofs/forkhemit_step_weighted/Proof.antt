@@ -6,11 +6,11 @@ use Rattle.dimensions.specs.Sizes.{dimensions}
 use Rattle.solver.specs.declared.Stepped.{Stepped}
 use Rattle.refusals.specs.Numbers.{codeOf}
 use Rattle.weighted.specs.Weights.{weightedRule}
 use Rattle.host_runs.specs.Runs.{stepStored}
 use Rattle.host_runs.proofs.HostNumbers.{step-is-with}
 use borrow.Author.Needs.{needs}
-use Rattle.host_runs.proofs.forkhemit_step_weighted.Statement.{statement}
-use Rattle.host_runs.proofs.forkhemit_step_weighted.Tie as tie
+use Rattle.host_weighted.proofs.forkhemit_step_weighted.Statement.{statement}
+use Rattle.host_weighted.proofs.forkhemit_step_weighted.Tie as tie
 
 -- where the code starts, from the first call
 abbrev start : tie.After-dimensions → tie.Start
