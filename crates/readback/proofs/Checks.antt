@@ -51,6 +51,7 @@ module _ (n : ℕ) (run : Run) (e : run .n ≡ n) (b : List ℕ) (h : stateWires
 -- ---- the entry
 
 module _ (n : ℕ) (bytes : List ℕ) where
+  -- n outside 1 to 32: 1
   pub no-variables : outside 32 n ≡ true → _≡_ {A = Read} (record { outcome = Refused Variables; run = runOf n fresh }) (readBack n bytes)
   unfolding readBack
   no-variables e = rw e
@@ -62,10 +63,12 @@ module _ (n : ℕ) (bytes : List ℕ) where
     no-room h = rw (e, lt-ltb (length bytes) (stateWires n) h)
 
     module _ (h : stateWires n ≤ length bytes) where
+      -- bytes that hold no state: 12
       pub no-state : holdsState n bytes ≡ false → _≡_ {A = Read} (record { outcome = Refused refusal.State; run = runOf n fresh }) (readBack n bytes)
       unfolding readBack
       no-state k = rw (e, le-ltb (length bytes) (stateWires n) h, k)
 
+      -- bytes that hold a state: its run
       pub read-taken : holdsState n bytes ≡ true → _≡_ {A = Read} (record { outcome = Taken; run = runIn n bytes }) (readBack n bytes)
       unfolding readBack
       read-taken k = rw (e, le-ltb (length bytes) (stateWires n) h, k)

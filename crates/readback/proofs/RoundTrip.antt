@@ -110,6 +110,7 @@ module _ (n : ℕ) (bytes : List ℕ) where
     again = ap (λ (x : Run). bytesOf (stateBits n (stateOf x))) q ∙ same-true _ _ (and-r (wellFormed (runIn n bytes)) _ k);
   }
 
+  -- bytes that are read back are those of a well-formed state of n
   pub read-held : readBack n bytes .outcome ≡ Taken → Held n bytes (readBack n bytes .run)
   read-held e =
       let t = taken (outcome (readChecks n bytes)) refl e in

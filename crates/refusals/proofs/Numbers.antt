@@ -9,13 +9,14 @@ use Rattle.refusals.specs.Numbers.{numberOf}
 use Rattle.refusals.specs.declared.Refusal.{Refusal}
 use Rattle.refusals.specs.declared.Refusal.the-variants.{Variables, RowCount, RowBit, RowBuffer, Text, TextsDiffer, GateBuffer, NumberLine, Gates, Wires}
 use Rattle.refusals.specs.declared.Refusal.the-variants.{LineBuffer, State, OtherVariables, NoModel, NotPadding, Closed, NoClause, ProofText}
-use Rattle.refusals.specs.declared.Refusal.the-variants.{NotFollowing, NoEmptyClause, GameVariables, LineVariables}
+use Rattle.refusals.specs.declared.Refusal.the-variants.{NotFollowing, NoEmptyClause, GameVariables, LineVariables, WholeBudget, PlaneBits}
+use Rattle.refusals.specs.declared.Refusal.the-variants.{WatchCount, PageBuffer, PageForm}
 
 -- the refusal of a number; no refusal has 0
 refusalOf : ℕ → Refusal
-refusalOf k = getD (LineVariables ∷ Variables ∷ RowCount ∷ RowBit ∷ RowBuffer ∷ Text ∷ TextsDiffer ∷ GateBuffer ∷ NumberLine ∷ Gates ∷ Wires ∷ LineBuffer
+refusalOf k = getD (PageForm ∷ Variables ∷ RowCount ∷ RowBit ∷ RowBuffer ∷ Text ∷ TextsDiffer ∷ GateBuffer ∷ NumberLine ∷ Gates ∷ Wires ∷ LineBuffer
     ∷ State ∷ OtherVariables ∷ NoModel ∷ NotPadding ∷ Closed ∷ NoClause ∷ ProofText ∷ NotFollowing ∷ NoEmptyClause
-    ∷ GameVariables ∷ []) k LineVariables
+    ∷ GameVariables ∷ LineVariables ∷ WholeBudget ∷ PlaneBits ∷ WatchCount ∷ PageBuffer ∷ []) k PageForm
 
 refusal-back : (r : Refusal) → refusalOf (numberOf r) ≡ r
 unfolding refusalOf
@@ -41,13 +42,18 @@ refusal-back NotFollowing = refl
 refusal-back NoEmptyClause = refl
 refusal-back GameVariables = refl
 refusal-back LineVariables = refl
+refusal-back WholeBudget = refl
+refusal-back PlaneBits = refl
+refusal-back WatchCount = refl
+refusal-back PageBuffer = refl
+refusal-back PageForm = refl
 
 -- two refusals with one number are one refusal
 pub number-injective : (q r : Refusal) → numberOf q ≡ numberOf r → q ≡ r
 number-injective q r e = sym (refusal-back q) ∙ ap refusalOf e ∙ refusal-back r
 
--- no refusal's number is above 22
-pub number-lt : (r : Refusal) → numberOf r < 23
+-- no refusal's number is above 27
+pub number-lt : (r : Refusal) → numberOf r < 28
 number-lt Variables = lit< tt
 number-lt RowCount = lit< tt
 number-lt RowBit = lit< tt
@@ -70,8 +76,13 @@ number-lt NotFollowing = lit< tt
 number-lt NoEmptyClause = lit< tt
 number-lt GameVariables = lit< tt
 number-lt LineVariables = lit< tt
+number-lt WholeBudget = lit< tt
+number-lt PlaneBits = lit< tt
+number-lt WatchCount = lit< tt
+number-lt PageBuffer = lit< tt
+number-lt PageForm = lit< tt
 
 -- no refusal has the number 0
 pub number-positive : (r : Refusal) → numberOf r ≡ 0 → ⊥
 unfolding refusalOf
-number-positive r e = let q : 22 ≡ numberOf r = ap numberOf (sym (ap refusalOf e) ∙ refusal-back r) in omega arith
+number-positive r e = let q : 27 ≡ numberOf r = ap numberOf (sym (ap refusalOf e) ∙ refusal-back r) in omega arith

@@ -6,7 +6,8 @@ use Rattle.refusals.specs.declared.Refusal.{Refusal}
 use Rattle.refusals.specs.declared.Refusal.the-variants.{Variables, RowCount, RowBit, RowBuffer, Text, TextsDiffer, GateBuffer}
 use Rattle.refusals.specs.declared.Refusal.the-variants.{NumberLine, Gates, Wires, LineBuffer, State, OtherVariables, NoModel}
 use Rattle.refusals.specs.declared.Refusal.the-variants.{NotPadding, Closed, NoClause, ProofText, NotFollowing, NoEmptyClause}
-use Rattle.refusals.specs.declared.Refusal.the-variants.{GameVariables, LineVariables}
+use Rattle.refusals.specs.declared.Refusal.the-variants.{GameVariables, LineVariables, WholeBudget, PlaneBits}
+use Rattle.refusals.specs.declared.Refusal.the-variants.{WatchCount, PageBuffer, PageForm}
 use Rattle.refusals.specs.declared.Outcome.{Outcome}
 use Rattle.refusals.specs.declared.Outcome.the-variants.{Taken, Refused}
 
@@ -34,6 +35,11 @@ numberOf NotFollowing = 19
 numberOf NoEmptyClause = 20
 numberOf GameVariables = 21
 numberOf LineVariables = 22
+numberOf WholeBudget = 23
+numberOf PlaneBits = 24
+numberOf WatchCount = 25
+numberOf PageBuffer = 26
+numberOf PageForm = 27
 
 -- 0 where the call was taken, else the refusal's number
 abbrev pub codeOf : Outcome → ℕ

@@ -3,7 +3,8 @@ ghost use mathlib.Core.Path.{_≡_};
 ghost use Rattle.refusals.specs.Numbers.{numberOf};
 
 // Why a call is turned back: 1 to 11 because of the input, 12 to 14 because of the state, 15 and 16 because of a late condition, 17 because
-// of texts that are not the tables', 18 to 20 because of a proof from another solver, 21 and 22 because of a game's variables.
+// of texts that are not the tables', 18 to 20 because of a proof from another solver, 21 and 22 because of a game's variables, 23 because
+// of a budget too large to be gone through whole, 24 because of planes, 25 to 27 because of a watch page.
 pub enum Refusal {
     // 1: n outside 1 to 32.
     Variables,
@@ -11,7 +12,7 @@ pub enum Refusal {
     RowCount,
     // 3: a row bit at or above n.
     RowBit,
-    // 4: a row buffer shorter than 2 × rows words.
+    // 4: a row buffer shorter than 2 × rows words, or a plane buffer shorter than its squares.
     RowBuffer,
     // 5: malformed or overlong DIMACS text.
     Text,
@@ -49,6 +50,16 @@ pub enum Refusal {
     GameVariables,
     // 22: a variable on a game's lines twice or outside 1 to n.
     LineVariables,
+    // 23: a budget above 65,535 of a run that goes through the whole of it.
+    WholeBudget,
+    // 24: a nonzero bit in the planes beyond the row count or beyond n.
+    PlaneBits,
+    // 25: pilots × watches is not n.
+    WatchCount,
+    // 26: a lent page shorter than 80 bytes a pilot.
+    PageBuffer,
+    // 27: bytes that are no watch page.
+    PageForm,
 }
 
 // What a call gives that has no other result.
@@ -84,5 +95,10 @@ pub fn number(refusal: Refusal) -> u8
         Refusal::NoEmptyClause => 20,
         Refusal::GameVariables => 21,
         Refusal::LineVariables => 22,
+        Refusal::WholeBudget => 23,
+        Refusal::PlaneBits => 24,
+        Refusal::WatchCount => 25,
+        Refusal::PageBuffer => 26,
+        Refusal::PageForm => 27,
     }
 }

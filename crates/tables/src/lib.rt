@@ -58,7 +58,7 @@ pub fn judge(row: Row, t: u32, f: u32) -> Judged
 }
 
 // Whether no word has a bit at or above n.
-fn all_below(words: &[u32], n: u32) -> bool
+pub fn all_below(words: &[u32], n: u32) -> bool
     ensures { λ r. ⌜ r ≡ allBelow n (now (words .entry)) ⌝ }
 {
     let mut i = 0;

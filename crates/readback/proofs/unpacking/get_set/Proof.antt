@@ -6,7 +6,7 @@ use Prim.Native.Nat.{ℕ, _≤_, _+_, _*_, _-_}
 use Rattle.words.specs.Booleans.{digit}
 use Rattle.words.specs.Sets.{wordOf}
 use Rattle.readback.specs.Unpacking.{wireIn}
-use Rattle.readback.proofs.Words.{word-start, word-turn, word-room, word-end}
+use Rattle.words.proofs.WordOf.{word-start, word-turn, word-room, word-end}
 use borrow.Author.Needs.{needs}
 use Rattle.readback.proofs.unpacking.get_set.Statement.{statement}
 use Rattle.readback.proofs.unpacking.get_set.Tie as tie
