@@ -22,6 +22,10 @@ atEnd rows answer = rows (answer .count - 1)
 abbrev pub stateAtEnd : (ℕ → State) → Answer → State
 stateAtEnd states answer = states (answer .count)
 
+-- 2 ^ (k + 1) - 1, k being the number of variables in rows that are no padding
+abbrev pub mostSteps : ℕ → List Row → ℕ
+mostSteps n rows = 2 ^ suc (occurring n rows) - 1
+
 -- n variables, the rows as they stand at each step, their words below 2 ^ n, the state after each number of steps, a budget, and the
 -- answer
 pub record Demand2Of (n : ℕ) (rows : ℕ → List Row) (states : ℕ → State) (budget : ℕ) (answer : Answer) : Type 0 where
@@ -37,10 +41,9 @@ pub record Demand2Of (n : ℕ) (rows : ℕ → List Row) (states : ℕ → State
   pub count-closes : (stateAtEnd states answer .standing ≡ Open → answer .count ≡ budget)
   -- the verdict is satisfiable, with T as the model, unsatisfiable or unknown as the standing then is satisfied, refuted or open
   pub by-standing : answer .verdict ≡ verdictOf (stateAtEnd states answer .standing) (stateAtEnd states answer .t)
-  -- the count is at most 2 ^ (k + 1) - 1, k being the number of variables in rows at the end that are no padding, and so many steps
-  -- suffice; and k is at most n
-  pub bound-count : answer .count ≤ 2 ^ suc (occurring n (atEnd rows answer)) - 1
-  pub bound : 2 ^ suc (occurring n (atEnd rows answer)) - 1 ≤ budget → answer .verdict ≡ Unknown → ⊥
+  -- the count is at most that of the rows at the end, and so many steps suffice; and k is at most n
+  pub bound-count : answer .count ≤ mostSteps n (atEnd rows answer)
+  pub bound : mostSteps n (atEnd rows answer) ≤ budget → answer .verdict ≡ Unknown → ⊥
   pub bound-n : 2 ^ suc n - 1 ≤ budget → answer .verdict ≡ Unknown → ⊥
 
 -- demand 2 of steps by a ruling, from the fresh state

@@ -1,4 +1,4 @@
-// A line of standard input, as both programs read it.
+// A line of standard input and the bytes of a file, as programs read them.
 ghost use mathlib.Core.Path.{_≡_};
 ghost use lib.ListN.{take, drop};
 ghost use Rattle.io.specs.Counts.{Counts};
@@ -22,6 +22,32 @@ pub fn read_line(fd: i32, buf: &mut [u8]) -> usize
         if one[0] == b'\n' {
             return done;
         }
+    }
+    done
+}
+
+// Reads on from index `from` until buf is full or the input ends, and answers how many bytes of buf are then filled. Where a read
+// fails it answers all of buf: a text cut short would be another text. An input that ended or failed is closed. So reading on after a
+// failure fails too, and no file has standard input's number when the line is read. From an index beyond buf nothing is read.
+pub fn fill(fd: i32, buf: &mut [u8], from: usize) -> usize
+    ensures { λ r. ⌜ Counts r (now (buf .exit)) ⌝ }
+    ensures { λ _. ⌜ take from (now (buf .exit)) ≡ take from (now (buf .entry)) ⌝ }
+{
+    if from > buf.len() {
+        return buf.len();
+    }
+    let mut done = from;
+    while done < buf.len() {
+        let got = libc::read(fd, &mut buf[done..]);
+        let n = io::count(got, &buf[done..]);
+        if n == 0 {
+            libc::close(fd);
+            if got < 0 {
+                return buf.len();
+            }
+            return done;
+        }
+        done += n;
     }
     done
 }

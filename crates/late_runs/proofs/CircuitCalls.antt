@@ -25,7 +25,7 @@ use Rattle.netlist.specs.Outputs.{closed}
 use Rattle.repeats.specs.Repeats.{Accepts, Repeat, lastRun, attempted, longEnough}
 use Rattle.repeats.specs.Repeating.{whole, made, repeatedBy, refusedWith, allowed, repeated}
 use Rattle.repeats.proofs.Applying.{fine}
-use Rattle.repeats.proofs.RepeatChecks.{refuse-gates, refuse-room, state-decides}
+use Rattle.repeats.proofs.RepeatChecks.{refuse-words, refuse-room, state-decides}
 use Rattle.late.specs.Replacement.{tablesAfter}
 use Rattle.late_runs.specs.Host.{Turn, Try, Call, Renew, repeatsBy, countBy, roomFor}
 
@@ -91,7 +91,7 @@ module _ (d : Dimensions) (tables : Tables) (acc : Accepts d tables) (s : State)
         sym (refuse-room d tables (length gates) (length bytes) (length wires) run acc (leb-true (3 * ceiling d) (length gates) p)
             (no-room (rw p at e))),
       ))
-      (λ p. (GateBuffer, sym (refuse-gates d tables (length gates) (length bytes) (length wires) run acc (leb-false (3 * ceiling d) (length gates) p))))
+      (λ p. (GateBuffer, sym (refuse-words d tables (length gates) (length bytes) (length wires) run acc (leb-false (3 * ceiling d) (length gates) p))))
 
 -- ---- what comes of it
 

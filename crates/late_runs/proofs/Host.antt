@@ -296,6 +296,7 @@ module _ (d : Dimensions) (tables : Tables) (acc : Accepts d tables) (actions : 
   abbrev pub fallen : List Dated
   fallen = conditionsOf 0 actions
 
+  -- the rows as they stand at each step
   abbrev pub hostRows : ℕ → List Row
   hostRows = rowsAt d tables fallen
 
@@ -303,6 +304,7 @@ module _ (d : Dimensions) (tables : Tables) (acc : Accepts d tables) (actions : 
   abbrev pub hostState : State
   hostState = after (d .n) hostRows (stepsOf actions) fresh
 
+  -- its run is that of the state after as many steps
   pub host-run : hosted .run ≡ runOf (d .n) hostState
   host-run = run-follows d actions tables acc fresh (fresh-well-formed (d .n))
 

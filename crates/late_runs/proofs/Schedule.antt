@@ -73,6 +73,7 @@ module _ (d : Dimensions) where
 
   -- ---- at every step
 
+  -- accepted tables stay accepted at every step
   pub tables-accepted : (conditions : List Dated) (tables : Tables) → Accepts d tables → (k : ℕ) → Accepts d (tablesAt d tables conditions k)
   unfolding tablesAt
   tables-accepted [] tables acc k = acc

@@ -13,30 +13,6 @@ const SHORT: usize = 4096;
 // One byte more than a text may have.
 const OVERLONG: usize = 65537;
 
-// Reads on from index `from` until buf is full or the input ends, and answers how many bytes of buf are then filled. Where a read
-// fails it answers all of buf: a text cut short would be another text. An input that ended or failed is closed. So reading on after a
-// failure fails too, and no file has standard input's number when the line is read.
-fn fill(fd: i32, buf: &mut [u8], from: usize) -> usize
-    requires { ⌜ from ≤ length (now buf) ⌝ }
-    ensures { λ r. ⌜ Counts r (now (buf .exit)) ⌝ }
-    ensures { λ _. ⌜ take from (now (buf .exit)) ≡ take from (now (buf .entry)) ⌝ }
-{
-    let mut done = from;
-    while done < buf.len() {
-        let got = libc::read(fd, &mut buf[done..]);
-        let n = io::count(got, &buf[done..]);
-        if n == 0 {
-            libc::close(fd);
-            if got < 0 {
-                return buf.len();
-            }
-            return done;
-        }
-        done += n;
-    }
-    done
-}
-
 // A file that was opened, and how many bytes of it were read.
 struct Begun {
     fd: i32,
@@ -48,18 +24,18 @@ fn begin(path: &[u8], buf: &mut [u8]) -> Begun
     ensures { λ r. ⌜ Counts (r .length) (now (buf .exit)) ⌝ }
 {
     let fd = os::open_read(path);
-    let length = fill(fd, buf, 0);
+    let length = input::fill(fd, buf, 0);
     Begun { fd, length }
 }
 
-// Puts the start of a text into buf and reads on as `fill` does.
+// Puts the start of a text into buf and reads on as `input::fill` does.
 fn extend(fd: i32, start: &[u8], buf: &mut [u8]) -> usize
     requires { ⌜ length (now start) ≤ length (now buf) ⌝ }
     ensures { λ r. ⌜ Counts r (now (buf .exit)) ⌝ }
     ensures { λ _. ⌜ take (length (now (start .entry))) (now (buf .exit)) ≡ now (start .entry) ⌝ }
 {
     let n = bytes::copy(start, buf);
-    fill(fd, buf, n)
+    input::fill(fd, buf, n)
 }
 
 // Prints the reply to three texts and a line.

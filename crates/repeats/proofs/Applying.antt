@@ -1,7 +1,7 @@
 -- One attempt at a well-formed state with the generated circuit: where it is long enough it gives the giant step and its mark, else it is turned back.
 -- The packed bytes are evaluated, the last wires are the outputs, and what is handed of these is read back.
 use mathlib.Core.Path.{_≡_, refl, sym, ap, ap₂, _∙_}
-use mathlib.Core.Bool.{Bool, true, false, _&&_, cond}
+use mathlib.Core.Bool.{Bool, true, false, _&&_, cond, true≢false}
 use mathlib.Core.List.{List, [], _∷_, _++_, map-append}
 use Prim.Native.Nat.{ℕ, _+_, _/_, _≤_, _<_}
 use native.Mathlib.Omega.{arith}
@@ -12,6 +12,7 @@ use borrow.Author.Tests.{leb-true, leb-false, le-ltb}
 use Rattle.refusals.specs.Checks.{outcome, given}
 use Rattle.refusals.specs.declared.Outcome.{Outcome}
 use Rattle.refusals.specs.declared.Outcome.the-variants.{Taken, Refused}
+use Rattle.refusals.specs.declared.Refusal.{Refusal}
 use Rattle.refusals.specs.declared.Refusal.the-variants.{Wires}
 use Rattle.words.specs.Booleans.{digit}
 use Rattle.words.proofs.Truth.{on, and-l, and-r, digit-bit}
@@ -41,7 +42,8 @@ use Rattle.readback.proofs.RoundTrip.{read-front}
 use Rattle.netlist.specs.Netlist.{gatesOn}
 use Rattle.netlist.specs.Outputs.{closed, outputBits, outputsIn}
 use Rattle.netlist.proofs.EveryState.{gates-accepted, outputs-filled}
-use Rattle.repeats.specs.Application.{Applied, turnedBack, nextRun, applicationOutcome, wiresAfter, applied}
+use Rattle.repeats.specs.declared.Applied.{Applied}
+use Rattle.repeats.specs.Application.{turnedBack, nextRun, applicationOutcome, wiresAfter, applied}
 use Rattle.repeats.specs.Repeats.{Accepts, Attempt, Lent, Otherwise, Repeat, returned, circuitWords, attempted, comesOf, longEnough}
 use Rattle.repeats.proofs.RepeatChecks.{sizes-taken}
 use Rattle.repeats.proofs.Judging.{refused, refuse-packing, refuse-wires, take-all, wires-then}
@@ -225,3 +227,16 @@ module _ (d : Dimensions) (tables : Tables) (acc : Accepts d tables) (s : State)
     pub attempt-is : (a : Attempt) → comesOf (attempted d tables run a) again further ≡ comes (longEnough d a)
     attempt-is (Lent bytes wires handed) = lent-is bytes wires handed
     attempt-is (Otherwise r) = refl
+
+  -- ---- what an attempt gives, by itself
+
+  -- long enough, the giant step and its mark
+  pub long-gives : (a : Attempt) → longEnough d a ≡ true
+      → attempted d tables run a ≡ record { outcome = Taken; run = runOf (d .n) stepped; mark = closed stepped }
+  long-gives (Lent bytes wires handed) e = long-steps bytes wires handed e
+  long-gives (Otherwise r) e = absurd (true≢false (sym e))
+
+  -- else some refusal, and the run as it was
+  pub short-gives : (a : Attempt) → longEnough d a ≡ false → (r : Refusal) × (attempted d tables run a ≡ turnedBack run r)
+  short-gives (Lent bytes wires handed) e = (Wires, short-turned bytes wires handed e)
+  short-gives (Otherwise r) e = (r, refl)

@@ -36,6 +36,7 @@ pub record Agree (k : ℕ) (a b : List ℕ) : Type 0 where
   pub long : length a ≡ length b
   pub behind : drop k a ≡ drop k b
 
+-- every list agrees with itself
 pub agree-refl : (k : ℕ) (a : List ℕ) → Agree k a a
 agree-refl k a = record { long = refl; behind = refl }
 
@@ -74,9 +75,11 @@ module _ (d : Dimensions) (tables : Tables) (bytes wires : List ℕ) (y : Ready 
   filled-is : wiresAfter d tables (circuitWords d) run bytes wires ≡ over (bytesOf values) wires
   filled-is = wires-are d tables (y .accepts) run ok bytes wires (y .room) (y .space)
 
+  -- what packing leaves agrees with what it found, from the inputs on
   pub packed-agrees : Agree (inputWires d) (packed d tables run bytes) bytes
   packed-agrees = rw packed-is (over-agrees (inputWires d) (bytesOf bits) bits-length bytes (y .room))
 
+  -- and what evaluation leaves, from the last of the circuit's wires on
   pub filled-agrees : Agree (inputWires d + length (gatesOn d)) (wiresAfter d tables (circuitWords d) run bytes wires) wires
   filled-agrees = rw filled-is (over-agrees (inputWires d + length (gatesOn d)) (bytesOf values) values-length wires (y .space))
 
@@ -84,6 +87,7 @@ module _ (d : Dimensions) (tables : Tables) (bytes wires : List ℕ) (y : Ready 
   abbrev pub next : State
   next = step (d .n) (rowsOf d tables) (stateOf run)
 
+  -- an application gives the giant step and its mark
   pub applied-is : applied d tables (circuitWords d) run bytes wires
       (stateWires (d .n) + 1) ≡ record { outcome = Taken; run = runOf (d .n) next; mark = closed next }
   applied-is = next-is d tables (y .accepts) run ok bytes wires (y .room) (y .space) (stateWires (d .n) + 1) (omega arith)
@@ -96,6 +100,7 @@ module _ (d : Dimensions) (tables : Tables) (bytes wires : List ℕ) (y : Ready 
 
 module _ (d : Dimensions) (tables : Tables) (bytes wires bytes′ wires′ : List ℕ) (y : Ready d tables bytes wires)
     (b : Agree (inputWires d) bytes′ bytes) (w : Agree (inputWires d + length (gatesOn d)) wires′ wires) where
+  -- buffers that agree with these are as good
   pub ready-same : Ready d tables bytes′ wires′
   ready-same = record { accepts = y .accepts; room = omega (arith, b .long, y .room); space = omega (arith, w .long, y .space) }
 

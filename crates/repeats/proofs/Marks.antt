@@ -16,7 +16,8 @@ use Rattle.state.specs.declared.Run.{Run}
 use Rattle.readback.specs.declared.Read.{Read}
 use Rattle.readback.specs.Reading.{readBack}
 use Rattle.netlist.specs.Outputs.{outputsIn}
-use Rattle.repeats.specs.Application.{Applied, turnedBack, applicationOutcome, wiresAfter, nextRun, applied}
+use Rattle.repeats.specs.declared.Applied.{Applied}
+use Rattle.repeats.specs.Application.{turnedBack, applicationOutcome, wiresAfter, nextRun, applied}
 
 module _ (d : Dimensions) (tables : Tables) (gates : List ℕ) (run : Run) (bytes wires : List ℕ) (handed : ℕ) where
   -- the circuit's output wires, and the last of them

@@ -2,12 +2,11 @@
 -- From the order of the checks.
 use mathlib.Core.Path.{_≡_, refl, sym, ap, _∙_}
 use mathlib.Core.Bool.{true, false, _||_}
-use mathlib.Core.List.{List, [], _∷_}
+use mathlib.Core.List.{List, [], _∷_, _++_}
 use Prim.Native.Nat.{ℕ, _+_, _*_, _-_, _≤_, _<_}
 use native.Mathlib.Omega.{arith}
 use lib.Dec.{ltb}
-use lib.ListN.{length, take}
-use lib.Seq.{take-at}
+use lib.ListN.{length}
 use borrow.Author.Tests.{lt-ltb, le-ltb, ltb-false}
 use Rattle.refusals.specs.Checks.{Check, check, outcome, given}
 use Rattle.refusals.specs.Numbers.{codeOf, said}
@@ -15,7 +14,7 @@ use Rattle.refusals.specs.declared.Outcome.{Outcome}
 use Rattle.refusals.specs.declared.Outcome.the-variants.{Taken, Refused}
 use Rattle.refusals.specs.declared.Refusal.{Refusal}
 use Rattle.refusals.specs.declared.Refusal.the-variants.{GateBuffer, Wires}
-use Rattle.refusals.proofs.Outcomes.{outcome-taken, outcome-refused, outcome-parts, check-passed, checks-taken}
+use Rattle.refusals.proofs.Outcomes.{outcome-taken, outcome-refused, outcome-parts, check-passed}
 use Rattle.words.proofs.Truth.{or-l, or-r}
 use Rattle.dimensions.specs.declared.Dimensions.{Dimensions}
 use Rattle.dimensions.specs.Sizes.{sizeChecks, rowCount, ceiling, inputWires}
@@ -34,8 +33,8 @@ use Rattle.generator.specs.Generation.{generatorChecks, writtenWords}
 use Rattle.generator.proofs.Room.{wires-few}
 use Rattle.repeats.specs.declared.Repeated.{Repeated}
 use Rattle.repeats.specs.Repeats.{circuitWords}
-use Rattle.repeats.specs.Repeating.{repeatChecks, made, bytesLeft, wiresLeft, repeatedBy, refusedWith, allowed, repeated, gatesAfter, bytesAfter}
-use Rattle.repeats.specs.Repeating.{wiresAfter}
+use Rattle.repeats.specs.Repeating.{generationChecks, wireChecks, repeatChecks, made, bytesLeft, wiresLeft, repeatedBy, refusedWith}
+use Rattle.repeats.specs.Repeating.{allowed, repeated, gatesAfter, bytesAfter, wiresAfter}
 
 -- all wires of the circuit: its inputs and its own gates
 pub all-wires : (d : Dimensions) → addressesOn d .wires ≡ inputWires d + length (gatesOn d)
@@ -53,36 +52,58 @@ wires-small d tables e = wires-few d (within d (sizes-taken d tables e))
 
 -- ---- what the checks say
 
-module _ (d : Dimensions) (tables : Tables) (gates bytes wires : ℕ) (run : Run) where
-  abbrev room : List Check
-  room = check (ltb bytes (inputWires d) || ltb wires (inputWires d + length (gatesOn d))) Wires ∷ stateChecks d run
+module _ (d : Dimensions) (tables : Tables) (gates : ℕ) where
+  abbrev words : List Check
+  words = check (ltb gates (3 * ceiling d)) GateBuffer ∷ []
 
-  abbrev later : List Check
-  later = check (ltb gates (3 * ceiling d)) GateBuffer ∷ room
-
-  pub refuse-tables : (r : Refusal) → outcome (tableChecks d tables) ≡ Refused r → Refused r ≡ outcome (repeatChecks d tables gates bytes wires run)
-  refuse-tables r e = sym (outcome-refused (tableChecks d tables) later r e)
+  pub refuse-tables : (r : Refusal) → outcome (tableChecks d tables) ≡ Refused r → Refused r ≡ outcome (generationChecks d tables gates)
+  refuse-tables r e = sym (outcome-refused (tableChecks d tables) words r e)
 
   module _ (e : outcome (tableChecks d tables) ≡ Taken) where
+    pub refuse-gates : gates < 3 * ceiling d → Refused GateBuffer ≡ outcome (generationChecks d tables gates)
+    refuse-gates h = sym (outcome-taken (tableChecks d tables) words e ∙ rw (lt-ltb gates (3 * ceiling d) h))
+
+    pub take-words : 3 * ceiling d ≤ gates → Taken ≡ outcome (generationChecks d tables gates)
+    take-words h = sym (outcome-taken (tableChecks d tables) words e ∙ rw (le-ltb gates (3 * ceiling d) h))
+
+module _ (d : Dimensions) (tables : Tables) (gates bytes wires : ℕ) (run : Run) (e : outcome (tableChecks d tables) ≡ Taken) where
+  abbrev later : List Check
+  later = wireChecks d bytes wires ++ stateChecks d run
+
+  -- too few gate words: 7
+  pub refuse-words : gates < 3 * ceiling d → Refused GateBuffer ≡ outcome (repeatChecks d tables gates bytes wires run)
+  refuse-words h = sym (outcome-refused (generationChecks d tables gates) later GateBuffer (sym (refuse-gates d tables gates e h)))
+
+  module _ (g : 3 * ceiling d ≤ gates) where
     rest : outcome (repeatChecks d tables gates bytes wires run) ≡ outcome later
-    rest = outcome-taken (tableChecks d tables) later e
+    rest = outcome-taken (generationChecks d tables gates) later (sym (take-words d tables gates e g))
 
-    -- too few gate words: 7
-    pub refuse-gates : gates < 3 * ceiling d → Refused GateBuffer ≡ outcome (repeatChecks d tables gates bytes wires run)
-    refuse-gates h = sym (rest ∙ rw (lt-ltb gates (3 * ceiling d) h))
+    -- too few bytes or wires: 10
+    pub refuse-room : ltb bytes (inputWires d) || ltb wires (inputWires d + length (gatesOn d)) ≡ true
+        → Refused Wires ≡ outcome (repeatChecks d tables gates bytes wires run)
+    refuse-room h = sym (rest ∙ rw h)
 
-    module _ (g : 3 * ceiling d ≤ gates) where
-      -- too few bytes or wires: 10
-      pub refuse-room : ltb bytes (inputWires d) || ltb wires (inputWires d + length (gatesOn d)) ≡ true
-          → Refused Wires ≡ outcome (repeatChecks d tables gates bytes wires run)
-      refuse-room h = sym (rest ∙ rw (le-ltb gates (3 * ceiling d) g, h))
-
-      -- with room for all of them the run decides: 12, 13 or taken
-      pub state-decides : ltb bytes (inputWires d) || ltb wires (inputWires d + length (gatesOn d)) ≡ false
-          → outcome (stateChecks d run) ≡ outcome (repeatChecks d tables gates bytes wires run)
-      state-decides h = sym (rest ∙ rw (le-ltb gates (3 * ceiling d) g, h))
+    -- with room for all of them the run decides: 12, 13 or taken
+    pub state-decides : ltb bytes (inputWires d) || ltb wires (inputWires d + length (gatesOn d)) ≡ false
+        → outcome (stateChecks d run) ≡ outcome (repeatChecks d tables gates bytes wires run)
+    state-decides h = sym (rest ∙ rw h)
 
 -- ---- what a call that is taken knows
+
+-- where the tables and the gate words are taken, the tables are accepted and there is room for the ceiling's gate words
+pub words-passed : (d : Dimensions) (tables : Tables) (gates : ℕ) → outcome (generationChecks d tables gates) ≡ Taken
+    → (outcome (tableChecks d tables) ≡ Taken) × (3 * ceiling d ≤ gates)
+words-passed d tables gates e =
+    let parts = outcome-parts (tableChecks d tables) (words d tables gates) e in
+    (parts .0, ltb-false gates (3 * ceiling d) (check-passed (ltb gates (3 * ceiling d)) GateBuffer Taken (parts .1)))
+
+-- where bytes and wires are taken, there is room for the inputs' bytes and for all wires
+pub room-passed : (d : Dimensions) (bytes wires : ℕ) → outcome (wireChecks d bytes wires) ≡ Taken
+    → (inputWires d ≤ bytes) × (inputWires d + length (gatesOn d) ≤ wires)
+room-passed d bytes wires e =
+    let few = ltb bytes (inputWires d) in
+    let r = check-passed (few || ltb wires (inputWires d + length (gatesOn d))) Wires Taken e in
+    (ltb-false bytes (inputWires d) (or-l few _ r), ltb-false wires (inputWires d + length (gatesOn d)) (or-r few _ r))
 
 -- accepted tables, room for the ceiling's gate words, for the inputs' bytes and for all wires, and a run that passes the checks on a state
 pub record Passed (d : Dimensions) (tables : Tables) (gates bytes wires : ℕ) (run : Run) : Type 0 where
@@ -96,31 +117,45 @@ pub record Passed (d : Dimensions) (tables : Tables) (gates bytes wires : ℕ) (
 pub passed : (d : Dimensions) (tables : Tables) (gates bytes wires : ℕ) (run : Run) → outcome (repeatChecks d tables gates bytes wires run) ≡ Taken
     → Passed d tables gates bytes wires run
 passed d tables gates bytes wires run e =
-    let parts = outcome-parts (tableChecks d tables) (later d tables gates bytes wires run) e in
-    let short = ltb gates (3 * ceiling d) in
-    let no-room = ltb bytes (inputWires d) || ltb wires (inputWires d + length (gatesOn d)) in
-    let s = checks-taken short GateBuffer _ (parts .1) in
-    let r = check-passed no-room Wires _ s in record {
-      tables-taken = parts .0;
-      words-enough = ltb-false gates (3 * ceiling d) (check-passed short GateBuffer _ (parts .1));
-      bytes-enough = ltb-false bytes (inputWires d) (or-l (ltb bytes (inputWires d)) _ r);
-      wires-enough = ltb-false wires (inputWires d + length (gatesOn d)) (or-r (ltb bytes (inputWires d)) _ r);
-      state-taken = checks-taken no-room Wires _ s;
-    }
+    let parts = outcome-parts (generationChecks d tables gates) (wireChecks d bytes wires ++ stateChecks d run) e in
+    let later = outcome-parts (wireChecks d bytes wires) (stateChecks d run) (parts .1) in
+    let w = words-passed d tables gates (parts .0) in
+    let r = room-passed d bytes wires (later .0) in
+    record { tables-taken = w .0; words-enough = w .1; bytes-enough = r .0; wires-enough = r .1; state-taken = later .1 }
 
 -- ---- the circuit's words
 
--- the generated words, from the front
-pub words-generated : (d : Dimensions) (tables : Tables) (gates : List ℕ) → outcome (tableChecks d tables) ≡ Taken → 3 * ceiling d ≤ length gates
-    → take (3 * (addressesOn d .wires - addressesOn d .inputs)) (writtenWords d gates) ≡ circuitWords d
-unfolding circuitWords
-words-generated d tables gates e h =
-    let k = 3 * (addressesOn d .wires - addressesOn d .inputs) in
-    let generates : outcome (generatorChecks d gates) ≡ Taken =
+-- the inputs are among the wires
+pub inputs-first : (d : Dimensions) (a : Addresses) → a ≡ addressesOn d → a .inputs ≤ a .wires
+inputs-first d a q = rw q (omega (arith, all-wires d))
+
+-- as many as three for each wire that is no input
+pub words-length-is : (d : Dimensions) → 3 * (addressesOn d .wires - addressesOn d .inputs) ≡ length (circuitWords d)
+unfolding circuitWords gatesFor
+words-length-is d = go _ _ _ _ (circuit-length (d .n) (rowCount d) (digitsFor (d .n))) (words-length (gatesOn d))
+  where
+    go : (inputs gates wires words : ℕ) → inputs + gates ≡ wires → words ≡ 3 * gates → 3 * (wires - inputs) ≡ words
+    go inputs gates wires words e h = omega arith
+
+-- accepted tables and room for the ceiling's gate words: the generator takes them
+pub generates : (d : Dimensions) (tables : Tables) (gates : List ℕ) → outcome (tableChecks d tables) ≡ Taken → 3 * ceiling d ≤ length gates
+    → outcome (generatorChecks d gates) ≡ Taken
+generates d tables gates e h =
     outcome-taken (sizeChecks d) (check (ltb (length gates) (3 * ceiling d)) GateBuffer ∷ []) (sizes-taken d tables e)
-    ∙ rw (le-ltb (length gates) (3 * ceiling d) h) in
-    ap (λ (o : Outcome). take k (given o (over (wordsOf (gatesOn d)) gates) (λ r. gates))) generates
-    ∙ take-at (wordsOf (gatesOn d)) _ k (omega (arith, words-length (gatesOn d), all-wires d))
+    ∙ rw (le-ltb (length gates) (3 * ceiling d) h)
+
+-- what the generator then leaves: the circuit over the front of the words
+pub written-is : (d : Dimensions) (gates : List ℕ) → outcome (generatorChecks d gates) ≡ Taken → writtenWords d gates ≡ over (circuitWords d) gates
+unfolding circuitWords
+written-is d gates e = ap (λ (o : Outcome). given o (over (wordsOf (gatesOn d)) gates) (λ r. gates)) e
+
+-- then the words have room for it
+pub words-fit : (d : Dimensions) (gates : List ℕ) → outcome (generatorChecks d gates) ≡ Taken → length (circuitWords d) ≤ length gates
+words-fit d gates e =
+    let parts = outcome-parts (sizeChecks d) (check (ltb (length gates) (3 * ceiling d)) GateBuffer ∷ []) e in
+    let w = wires-few d (within d (parts .0)) (addressesOn d) refl in
+    let room = ltb-false (length gates) (3 * ceiling d) (check-passed (ltb (length gates) (3 * ceiling d)) GateBuffer Taken (parts .1)) in
+    omega (arith, w .2, room, words-length-is d)
 
 -- ---- the call
 

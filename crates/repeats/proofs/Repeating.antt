@@ -24,7 +24,8 @@ use Rattle.wires.specs.Packing.{packed}
 use Rattle.netlist.specs.Netlist.{gatesOn}
 use Rattle.netlist.specs.Outputs.{closed}
 use Rattle.repeats.specs.declared.Repeated.{Repeated}
-use Rattle.repeats.specs.Application.{Applied, wiresAfter, applied}
+use Rattle.repeats.specs.declared.Applied.{Applied}
+use Rattle.repeats.specs.Application.{wiresAfter, applied}
 use Rattle.repeats.specs.Repeats.{Repeat, returned, circuitWords, lastRun, comesOf, repeats}
 use Rattle.repeats.specs.Repeating.{whole, made, runBefore, bytesLeft, wiresLeft, repeatedBy}
 use Rattle.repeats.proofs.Buffers.{Agree, agree-refl, Ready, packed-agrees, filled-agrees, next, applied-is, next-fine, ready-same, packed-same}
@@ -92,6 +93,7 @@ module _ (d : Dimensions) (tables : Tables) (bytes wires bytes′ wires′ : Lis
   none-same : (k : ℕ) (run : Run) → ifOpen (run .standing) (ltb 0 k) false ≡ false → made d tables k bytes wires run ≡ made d tables k bytes′ wires′ run
   none-same k run e = made-none d tables bytes wires y k run e ∙ sym (made-none d tables bytes′ wires′ y′ k run e)
 
+  -- in two pairs of long enough buffers the repeats are the same
   pub made-same : (k : ℕ) (run : Run) → outcome (stateChecks d run) ≡ Taken → made d tables k bytes wires run ≡ made d tables k bytes′ wires′ run
   made-same zero run ok = none-same zero run (go (run .standing))
     where
@@ -152,9 +154,6 @@ module _ (d : Dimensions) (tables : Tables) (times : ℕ) (bytes₀ wires₀ : L
     -- the present buffers are as good
     ready : Ready d tables bytes wires
     ready = ready-same d tables bytes₀ wires₀ bytes wires y (o .bytes-agree) (o .wires-agree)
-
-    pub repeating-taken : applied d tables (circuitWords d) run bytes wires (stateWires (d .n) + 1) .outcome ≡ Taken
-    repeating-taken = ap (λ (x : Applied). x .outcome) (applied-is d tables bytes wires ready run (o .run-fine))
 
     pub repeating-on : ifOpen (run .standing) (ltb count times) false ≡ true
         → (bytes′ wires′ : List ℕ) (run′ : Run)

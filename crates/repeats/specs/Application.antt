@@ -1,7 +1,7 @@
 -- One application of a circuit to a run: document 01, "Circuit". Turned back by packing, 1, 2, 4, 3, 10, 12, 13, by evaluation, 9, 10, or
 -- by reading back, 10, 12.
 use Prim.Native.Nat.{ℕ}
-use mathlib.Core.Bool.{Bool, false}
+use mathlib.Core.Bool.{false}
 use mathlib.Core.List.{List, _++_}
 use lib.Dec.{eqb}
 use lib.ListN.{length, getD, take}
@@ -17,12 +17,7 @@ use Rattle.two_pass.specs.Evaluation.{evaluationChecks, filledWires}
 use Rattle.wires.specs.Packing.{packChecks, packed}
 use Rattle.readback.specs.Reading.{readBack}
 use Rattle.netlist.specs.Outputs.{outputsIn}
-
--- the next run and its mark, whether that run is closed; refused, the run as it was and no mark
-pub record Applied : Type 0 where
-  pub outcome : Outcome
-  pub run : Run
-  pub mark : Bool
+use Rattle.repeats.specs.declared.Applied.{Applied}
 
 -- a refusal leaves the run as it was and has no mark
 abbrev pub turnedBack : Run → Refusal → Applied
@@ -44,9 +39,9 @@ module _ (d : Dimensions) (tables : Tables) (gates : List ℕ) (run : Run) (byte
   unfoldable pub applicationOutcome : Outcome
   applicationOutcome = outcome (packChecks d tables run (length bytes) ++ evaluationChecks gates (inputs d tables run bytes) wires)
 
-  -- the wires after packing and evaluation, where neither turns back
+  -- the wires afterwards: what evaluation leaves; as they were where packing turns back
   abbrev pub wiresAfter : List ℕ
-  wiresAfter = filledWires gates (inputs d tables run bytes) wires
+  wiresAfter = given (outcome (packChecks d tables run (length bytes))) (filledWires gates (inputs d tables run bytes) wires) (λ r. wires)
 
   -- the next run and its mark, where so many of the output wires are handed to the read-back; refused, the run as it was
   unfoldable pub applied : ℕ → Applied

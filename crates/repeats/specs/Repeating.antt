@@ -26,13 +26,17 @@ use Rattle.repeats.specs.declared.Repeated.{Repeated}
 use Rattle.repeats.specs.Application as Application
 use Rattle.repeats.specs.Repeats.{Attempt, Lent, Repeat, circuitWords, lastRun, repeats}
 
--- 1, 2, 4, 3; 7 where so many gate words are below three for each gate of the ceiling; 10 where so many bytes are below the inputs,
--- or so many wires below the inputs and the circuit's own gates; 12, 13
+-- 1, 2, 4, 3; 7 where so many gate words are below three for each gate of the ceiling
+abbrev pub generationChecks : Dimensions → Tables → ℕ → List Check
+generationChecks d tables gates = tableChecks d tables ++ (check (ltb gates (3 * ceiling d)) GateBuffer ∷ [])
+
+-- 10 where so many bytes are below the inputs, or so many wires below the inputs and the circuit's own gates
+abbrev pub wireChecks : Dimensions → ℕ → ℕ → List Check
+wireChecks d bytes wires = check (ltb bytes (inputWires d) || ltb wires (inputWires d + length (gatesOn d))) Wires ∷ []
+
+-- 1, 2, 4, 3, 7; 10; 12, 13
 abbrev pub repeatChecks : Dimensions → Tables → ℕ → ℕ → ℕ → Run → List Check
-repeatChecks d tables gates bytes wires run =
-    tableChecks d tables
-    ++ (check (ltb gates (3 * ceiling d)) GateBuffer
-    ∷ (check (ltb bytes (inputWires d) || ltb wires (inputWires d + length (gatesOn d))) Wires ∷ stateChecks d run))
+repeatChecks d tables gates bytes wires run = generationChecks d tables gates ++ (wireChecks d bytes wires ++ stateChecks d run)
 
 -- ---- the repeats
 

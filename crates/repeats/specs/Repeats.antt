@@ -19,7 +19,8 @@ use Rattle.state.specs.State.{State, runOf}
 use Rattle.gates.specs.Memory.{wordsOf}
 use Rattle.netlist.specs.Netlist.{gatesOn}
 use Rattle.netlist.specs.Outputs.{closed}
-use Rattle.repeats.specs.Application.{Applied, turnedBack, applied}
+use Rattle.repeats.specs.declared.Applied.{Applied}
+use Rattle.repeats.specs.Application.{turnedBack, applied}
 
 -- the generated circuit in memory: it is made from n and the row counts alone
 unfoldable pub circuitWords : Dimensions → List ℕ

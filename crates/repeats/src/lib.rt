@@ -17,11 +17,19 @@ ghost use Rattle.tables.specs.Acceptance.{tableChecks};
 ghost use Rattle.state.specs.WellFormed.{stateChecks};
 ghost use Rattle.wires.specs.Packing.{packed};
 ghost use Rattle.netlist.specs.Netlist.{gatesOn};
-ghost use Rattle.repeats.specs.Application.{applied};
+ghost use Rattle.repeats.specs.Application.{turnedBack, nextRun, applied};
 ghost use Rattle.repeats.specs.Application as Application;
 ghost use Rattle.repeats.specs.Repeats.{circuitWords};
 ghost use Rattle.repeats.specs.Repeating as Repeating;
-ghost use Rattle.repeats.specs.Repeating.{repeatChecks, made, bytesLeft, wiresLeft, repeatedBy, repeated, gatesAfter, bytesAfter};
+ghost use Rattle.repeats.specs.Repeating.{generationChecks, wireChecks, repeatChecks};
+ghost use Rattle.repeats.specs.Repeating.{made, bytesLeft, wiresLeft, repeatedBy, repeated, gatesAfter, bytesAfter};
+
+// The next run and its mark, whether that run is closed; refused, the run as it was and no mark.
+pub struct Applied {
+    pub outcome: Outcome,
+    pub run: Run,
+    pub mark: bool,
+}
 
 // The run after the repeats, how many there were, and the last mark, whether that run is closed; refused, the run as it was.
 pub struct Repeated {
@@ -29,6 +37,42 @@ pub struct Repeated {
     pub run: Run,
     pub repeats: u64,
     pub mark: bool,
+}
+
+// Whether the tables are accepted and so many gate words have room for the circuit: 1, 2, 4, 3 or 7 if not.
+pub fn check_words(
+    d: Dimensions,
+    left: &[u32],
+    right: &[u32],
+    public: &[u32],
+    gates: usize,
+) -> Outcome
+    ensures { λ r.
+        ⌜ r ≡ outcome (generationChecks d (allTables (now (left .entry)) (now (right .entry)) (now (public .entry))) gates) ⌝ }
+    ensures { λ r.
+        ⌜ codeOf r ∷ []
+        ≡ said (outcome (generationChecks d (allTables (now (left .entry)) (now (right .entry)) (now (public .entry))) gates)) [] ⌝ }
+{
+    match tables::accept(d, left, right, public) {
+        Outcome::Taken => {}
+        Outcome::Refused(refusal) => return Outcome::Refused(refusal),
+    }
+    if gates < 3 * d.ceiling() {
+        return Outcome::Refused(Refusal::GateBuffer);
+    }
+    Outcome::Taken
+}
+
+// Whether so many bytes have room for the inputs, and so many wires for all of the circuit's: 10 if not.
+pub fn check_room(d: Dimensions, bytes: usize, wires: usize) -> Outcome
+    ensures { λ r. ⌜ r ≡ outcome (wireChecks d bytes wires) ⌝ }
+    ensures { λ r. ⌜ codeOf r ∷ [] ≡ said (outcome (wireChecks d bytes wires)) [] ⌝ }
+{
+    let a = Addresses::of(d);
+    if (bytes < d.input_wires()) | (wires < a.wires as usize) {
+        return Outcome::Refused(Refusal::Wires);
+    }
+    Outcome::Taken
 }
 
 // Whether tables, so many gate words, bytes and wires, and the run allow repeats: 1, 2, 4, 3, 7, 10, 12 or 13 if not.
@@ -45,22 +89,60 @@ fn check(
     ensures { λ r.
         ⌜ r ≡ outcome (repeatChecks d (allTables (now (left .entry)) (now (right .entry)) (now (public .entry))) gates bytes wires run) ⌝ }
 {
-    match tables::accept(d, left, right, public) {
+    match check_words(d, left, right, public, gates) {
         Outcome::Taken => {}
         Outcome::Refused(refusal) => return Outcome::Refused(refusal),
     }
-    if gates < 3 * d.ceiling() {
-        return Outcome::Refused(Refusal::GateBuffer);
-    }
-    let a = Addresses::of(d);
-    if (bytes < d.input_wires()) | (wires < a.wires as usize) {
-        return Outcome::Refused(Refusal::Wires);
+    match check_room(d, bytes, wires) {
+        Outcome::Taken => {}
+        Outcome::Refused(refusal) => return Outcome::Refused(refusal),
     }
     state::check_state(d, run)
 }
 
-// The next run by one application, which is not turned back: rows and run are packed, the gates evaluated, and their outputs read back.
-fn apply(
+// How many words the generated circuit has.
+pub fn circuit_words(d: Dimensions) -> usize
+    ensures { λ r. ⌜ r ≡ length (circuitWords d) ⌝ }
+{
+    let a = Addresses::of(d);
+    3 * (a.wires - a.inputs) as usize
+}
+
+// Turned back: the run as it was, and no mark.
+fn turned_back(run: Run, refusal: Refusal) -> Applied
+    ensures { λ r. ⌜ r ≡ turnedBack run refusal ⌝ }
+{
+    Applied {
+        outcome: Outcome::Refused(refusal),
+        run,
+        mark: false,
+    }
+}
+
+// The next run and its mark from a circuit's output wires: a state's, and the closing one behind them.
+fn next_run(n: u8, run: Run, outputs: &[u8]) -> Applied
+    requires { ⌜ length (now outputs) ≡ stateWires n + 1 ⌝ }
+    ensures { λ r. ⌜ r ≡ nextRun n run (stateWires n + 1) (now (outputs .entry)) ⌝ }
+{
+    let read = readback::read_back(n, outputs);
+    let outcome = read.outcome;
+    match outcome {
+        Outcome::Refused(refusal) => turned_back(run, refusal),
+        Outcome::Taken => {
+            let next = read.run;
+            let closing = Dimensions::state_wires_of(n);
+            Applied {
+                outcome: Outcome::Taken,
+                run: next,
+                mark: outputs[closing] == 1,
+            }
+        }
+    }
+}
+
+// Demand 3's attempt: rows and run are packed, the gates evaluated, and all of their outputs read back. Turned back by any of these, the
+// run is as it was, and what was packed or evaluated before stays in the bytes and wires.
+pub fn apply(
     d: Dimensions,
     left: &[u32],
     right: &[u32],
@@ -69,26 +151,32 @@ fn apply(
     bytes: &mut [u8],
     wires: &mut [u8],
     run: Run,
-) -> Run
-    requires { ⌜ applied d (allTables (now left) (now right) (now public)) (now gates) run (now bytes) (now wires)
-        (stateWires (d .n) + 1) .outcome ≡ Taken ⌝ }
+) -> Applied
     ensures { λ r.
         ⌜ r ≡ applied d (allTables (now (left .entry)) (now (right .entry)) (now (public .entry))) (now (gates .entry)) run
-        (now (bytes .entry)) (now (wires .entry)) (stateWires (d .n) + 1) .run ⌝ }
+        (now (bytes .entry)) (now (wires .entry)) (stateWires (d .n) + 1) ⌝ }
     ensures { λ _.
         ⌜ now (bytes .exit) ≡ packed d (allTables (now (left .entry)) (now (right .entry)) (now (public .entry)))
         run (now (bytes .entry)) ⌝ }
     ensures { λ _.
         ⌜ now (wires .exit) ≡ Application.wiresAfter d (allTables (now (left .entry)) (now (right .entry)) (now (public .entry)))
         (now (gates .entry)) run (now (bytes .entry)) (now (wires .entry)) ⌝ }
+    ensures { λ r.
+        ⌜ codeOf (r .outcome) ∷ [] ≡ said (applied d (allTables (now (left .entry)) (now (right .entry)) (now (public .entry)))
+        (now (gates .entry)) run (now (bytes .entry)) (now (wires .entry)) (stateWires (d .n) + 1) .outcome) [] ⌝ }
 {
+    match wires::pack(d, left, right, public, run, bytes) {
+        Outcome::Refused(refusal) => return turned_back(run, refusal),
+        Outcome::Taken => {}
+    }
     let inputs = d.input_wires();
-    wires::pack(d, left, right, public, run, bytes);
-    evaluator::evaluate(gates, &bytes[..inputs], wires);
+    match evaluator::evaluate(gates, &bytes[..inputs], wires) {
+        Outcome::Refused(refusal) => return turned_back(run, refusal),
+        Outcome::Taken => {}
+    }
     let end = inputs + gates.len() / 3;
     let start = end - (d.state_wires() + 1);
-    let read = readback::read_back(d.n, &wires[start..end]);
-    read.run
+    next_run(d.n, run, &wires[start..end])
 }
 
 // Repeats the circuit on the run until it is closed, at most so many times.
@@ -122,7 +210,8 @@ fn repeat_circuit(
     let mut last = run;
     let mut repeats = 0;
     while verdicts::goes_on(last, repeats, times) {
-        last = apply(d, left, right, public, gates, bytes, wires, last);
+        let next = apply(d, left, right, public, gates, bytes, wires, last);
+        last = next.run;
         repeats += 1;
     }
     Repeated {
@@ -176,8 +265,7 @@ pub fn repeat(
         }
     }
     generator::generate(d, gates);
-    let a = Addresses::of(d);
-    let words = 3 * (a.wires - a.inputs) as usize;
+    let words = circuit_words(d);
     let circuit = &gates[..words];
     repeat_circuit(d, left, right, public, times, circuit, bytes, wires, run)
 }

@@ -30,14 +30,15 @@ module _ (left right public line : List ℕ) where
 -- ---- by the tables' refusals
 
 -- a right table that is refused, whatever the public one
-then-refused : (l r : Table) (x : Refusal) → r .outcome ≡ Refused x → (y : Refusal) × ((p : Table) → textsOutcome l r p ≡ Refused y)
+pub then-refused : (l r : Table) (x : Refusal) → r .outcome ≡ Refused x → (y : Refusal) × ((p : Table) → textsOutcome l r p ≡ Refused y)
 then-refused l r x e = go (l .outcome) refl
   where
     go : (o : Outcome) → l .outcome ≡ o → (y : Refusal) × ((p : Table) → textsOutcome l r p ≡ Refused y)
     go Taken el = (x, λ p. then-right l r p el x e)
     go (Refused y) el = (y, λ p. left-first l r p y el)
 
-last-refused : (l r p : Table) (x : Refusal) → p .outcome ≡ Refused x → (y : Refusal) × (textsOutcome l r p ≡ Refused y)
+-- a public table that is refused
+pub last-refused : (l r p : Table) (x : Refusal) → p .outcome ≡ Refused x → (y : Refusal) × (textsOutcome l r p ≡ Refused y)
 last-refused l r p x e = go (l .outcome) (r .outcome) refl refl
   where
     go : (o q : Outcome) → l .outcome ≡ o → r .outcome ≡ q → (y : Refusal) × (textsOutcome l r p ≡ Refused y)
@@ -47,7 +48,8 @@ last-refused l r p x e = go (l .outcome) (r .outcome) refl refl
 
 -- ---- overlong texts
 
-refused-long : (least : ℕ) (text : List ℕ) → 65536 < length text → tableOf least text .outcome ≡ Refused Text
+-- an overlong text is refused
+pub refused-long : (least : ℕ) (text : List ℕ) → 65536 < length text → tableOf least text .outcome ≡ Refused Text
 refused-long least text h = ap (λ (t : Table). t .outcome) (overlong least text h)
 
 pub left-overlong : (left right public line : List ℕ) → 65536 < length left → replyText left right public line ≡ refusalText Text

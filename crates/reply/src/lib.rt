@@ -45,7 +45,7 @@ fn judge(tables: TextTables, line: &[u8]) -> Solved
 }
 
 // An answer or a refusal as it is printed.
-fn print(n: u8, given: Solved) -> Text
+pub fn print(n: u8, given: Solved) -> Text
     ensures { λ r. ⌜ r ≡ textOf (solvedText (min n 32) given) ⌝ }
 {
     match given {

@@ -1,19 +1,18 @@
--- `repeat` meets its contract: the checks decide, and behind them the generated words are the circuit, so that what repeats it has its premises.
-use mathlib.Core.Path.{_≡_, sym, ap, ap₂, _∙_}
+-- `repeat` meets its contract: the checks decide, and behind them the written words are the circuit, so that what repeats it has its premises.
+use mathlib.Core.Path.{_≡_, refl, sym, ap₂, _∙_}
 use mathlib.Core.List.{List}
-use Prim.Native.Nat.{ℕ, _*_, _-_, _≤_}
+use Prim.Native.Nat.{ℕ, _≤_}
 use native.Mathlib.Omega.{arith}
 use borrow.Author.Needs.{needs}
 use lib.ListN.{length, take}
-use lib.Seq.{length-take-le}
+use lib.Seq.{length-take-le, take-at}
 use Rattle.refusals.specs.Checks.{outcome}
 use Rattle.refusals.specs.declared.Outcome.the-variants.{Taken}
-use Rattle.dimensions.specs.Sizes.{ceiling}
 use Rattle.tables.specs.Tables.{Tables, allTables}
-use Rattle.sections.specs.declared.Addresses.{Addresses}
-use Rattle.sections.specs.Addressing.{addressesOn}
+use Rattle.generator.specs.Generation.{generatorChecks}
+use Rattle.repeats.specs.Repeats.{circuitWords}
 use Rattle.repeats.specs.Repeating.{repeatChecks}
-use Rattle.repeats.proofs.RepeatChecks.{wires-small, Passed, passed, words-generated, repeat-refused, repeat-taken}
+use Rattle.repeats.proofs.RepeatChecks.{Passed, passed, generates, written-is, words-fit, repeat-refused, repeat-taken}
 use Rattle.repeats.proofs.repeat.Statement.{statement}
 use Rattle.repeats.proofs.repeat.Tie as tie
 
@@ -31,8 +30,8 @@ start c = calling (c .before .before)
 abbrev checked : tie.After-generate → tie.After-enum-told
 checked c = c .before .before
 
-abbrev generating : tie.After-struct-known → tie.After-generate
-generating c = c .before .before .before .before
+abbrev writing : tie.After-circuit-words → tie.After-generate
+writing c = c .before .before .before
 
 -- ---- what is known there
 
@@ -50,25 +49,17 @@ known c =
     let s = start c in
     passed (s .args .d) (tables s) (length (s .args .gates .now)) (length (s .args .bytes .now)) (length (s .args .wires .now)) (s .args .run) (taken c)
 
--- the number of words
-counted : (c : tie.After-struct-known) → let a = c .before .of .result in
-    3 * (a .wires - a .inputs)
-    ≡ 3 * (addressesOn (start (checked (generating c)) .args .d) .wires - addressesOn (start (checked (generating c)) .args .d) .inputs)
-counted c = ap (λ (a : Addresses). 3 * (a .wires - a .inputs)) (c .before .of .ensures)
+-- the generator takes the words
+generated : (c : tie.After-enum-told) → let s = start c in outcome (generatorChecks (s .args .d) (s .args .gates .now)) ≡ Taken
+generated c = let s = start c in generates (s .args .d) (tables s) (s .args .gates .now) (known c .tables-taken) (known c .words-enough)
 
-few : (c : tie.After-struct-known) → let a = c .before .of .result in
-    (a .inputs ≤ a .wires) × (a .wires ≤ 1048576) × (a .wires - a .inputs ≤ ceiling (start (checked (generating c)) .args .d))
-few c =
-    let s = start (checked (generating c)) in
-    wires-small (s .args .d) (tables s) (known (checked (generating c)) .tables-taken) (c .before .of .result) (c .before .of .ensures)
-
--- the generated words have room for them
-fit : (c : tie.After-struct-known) → let a = c .before .of .result in 3 * (a .wires - a .inputs) ≤ length (generating c .generate .last .1 .0)
-fit c =
-    let g = generating c in
+-- and what they hold has room for the circuit
+front : (c : tie.After-circuit-words) → c .circuit-words .result ≤ length (writing c .generate .last .1 .0)
+front c =
+    let g = writing c in
     let s = start (checked g) in
-    let l : length (g .generate .last .1 .0) ≡ length (s .args .gates .now) = g .generate .kept .1 .0 in
-    omega (arith, few c, known (checked g) .words-enough)
+    let kept : length (g .generate .last .1 .0) ≡ length (s .args .gates .now) = g .generate .kept .1 .0 in
+    omega (arith, c .circuit-words .ensures, words-fit (s .args .d) (s .args .gates .now) (generated (checked g)))
 
 check-requires : tie.Need-check-requires
 check-requires c κs = search needs
@@ -88,32 +79,24 @@ returns c =
 generate-requires : tie.Need-generate-requires
 generate-requires c κs = search needs
 
-of-requires : tie.Need-of-requires
-of-requires c κs = search needs
-
-sub-words : tie.Need-sub-words
-sub-words c = few c .0
-
-cast-words : tie.Need-cast-words
-cast-words c = omega (arith, few c)
-
-mul-words : tie.Need-mul-words
-mul-words c = omega (arith, few c)
+circuit-words-requires : tie.Need-circuit-words-requires
+circuit-words-requires c κs = search needs
 
 slice-reshare-prefix-circuit : tie.Need-slice-reshare-prefix-circuit
-slice-reshare-prefix-circuit c = fit c
+slice-reshare-prefix-circuit c = front c
 
 slice-aggregate-circuit : tie.Need-slice-aggregate-circuit
-slice-aggregate-circuit c = sym (length-take-le _ _ (fit (c .before)))
+slice-aggregate-circuit c = sym (length-take-le _ _ (front (c .before)))
 
 repeat-circuit-requires : tie.Need-repeat-circuit-requires
 repeat-circuit-requires c κs =
     let w = c .before .before .before in
-    let g = generating w in
+    let g = writing w in
     let s = start (checked g) in
     let k = known (checked g) in (
-      ap₂ (λ (i : ℕ) (l : List ℕ). take i l) (counted w) (g .generate .ensures .1 .0) ∙ words-generated (s .args .d) (tables s) (s .args .gates .now)
-          (k .tables-taken) (k .words-enough),
+      ap₂ (λ (i : ℕ) (l : List ℕ). take i l) (w .circuit-words .ensures)
+          (g .generate .ensures .1 .0 ∙ written-is (s .args .d) (s .args .gates .now) (generated (checked g)))
+          ∙ take-at (circuitWords (s .args .d)) _ (length (circuitWords (s .args .d))) refl,
       (k .tables-taken, ((k .bytes-enough, k .wires-enough), k .state-taken)),
     )
 
@@ -129,11 +112,13 @@ same-length-3 c = search needs
 returns-2 : tie.Need-returns-2
 returns-2 c =
     let r = c .before .before .before .before in
-    let g = generating (r .before .before .before .before) in
-    let s = start (checked g) in
+    let w = writing (r .before .before .before .before) in
+    let s = start (checked w) in
     repeat-taken (s .args .d) (tables s) (s .args .times) (s .args .gates .now) (s .args .bytes .now) (s .args .wires .now)
-    (s .args .run) (taken (checked g)) _ _ _ _
-    (r .repeat-circuit .ensures .0) (g .generate .ensures .1 .0) (r .repeat-circuit .ensures .1 .0) (r .repeat-circuit .ensures .1 .1)
+    (s .args .run) (taken (checked w)) _ _ _ _
+    (r .repeat-circuit .ensures .0)
+    (w .generate .ensures .1 .0)
+    (r .repeat-circuit .ensures .1 .0) (r .repeat-circuit .ensures .1 .1)
 
 pub repeat-spec : {M : Type 1} → statement M
 repeat-spec =
@@ -144,10 +129,7 @@ repeat-spec =
     enum-known-refusal
     returns
     generate-requires
-    of-requires
-    sub-words
-    cast-words
-    mul-words
+    circuit-words-requires
     slice-reshare-prefix-circuit
     slice-aggregate-circuit
     repeat-circuit-requires

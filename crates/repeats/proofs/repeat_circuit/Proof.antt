@@ -11,9 +11,10 @@ use lib.Dec.{ltb}
 use Rattle.dimensions.specs.Sizes.{stateWires}
 use Rattle.tables.specs.Tables.{Tables, allTables}
 use Rattle.state.specs.State.{ifOpen}
+use Rattle.repeats.specs.declared.Applied.{Applied}
 use Rattle.repeats.specs.Application.{wiresAfter, applied}
 use Rattle.repeats.proofs.Buffers.{Ready}
-use Rattle.repeats.proofs.Repeating.{Repeating, repeating-start, repeating-less, repeating-taken, repeating-on, repeating-end}
+use Rattle.repeats.proofs.Repeating.{Repeating, repeating-start, repeating-less, repeating-on, repeating-end}
 use Rattle.repeats.proofs.repeat_circuit.Statement.{statement}
 use Rattle.repeats.proofs.repeat_circuit.Tie as tie
 
@@ -35,10 +36,10 @@ abbrev tables : tie.Start Inv-loop μ-loop → Tables
 tables s = allTables (s .args .left .now) (s .args .right .now) (s .args .public .now)
 
 -- the application of a turn, and where the turn begins
-abbrev applying : tie.After-slice-known4 Inv-loop μ-loop → tie.After-apply Inv-loop μ-loop
-applying c = c .before .before .before .before
+abbrev applying : tie.After-last Inv-loop μ-loop → tie.After-apply Inv-loop μ-loop
+applying c = c .before .before .before .before .before
 
-abbrev turn : tie.After-slice-known4 Inv-loop μ-loop → tie.Then1 Inv-loop μ-loop
+abbrev turn : tie.After-last Inv-loop μ-loop → tie.Then1 Inv-loop μ-loop
 turn c = applying c .before .before .before
 
 ready : (s : tie.Start Inv-loop μ-loop) → Ready (s .args .d) (tables s) (s .args .bytes .now) (s .args .wires .now)
@@ -58,12 +59,7 @@ goes-on-requires : tie.Need-goes-on-requires Inv-loop μ-loop
 goes-on-requires c κs = search needs
 
 apply-requires : tie.Need-apply-requires Inv-loop μ-loop
-apply-requires c κs =
-    let l = c .before .before .before .before in
-    let s = start l in
-    ap (λ (g : List ℕ). applied (s .args .d) (tables s) g (l .loop .last) (l .loop .bytes) (l .loop .wires)
-    (stateWires (s .args .d .n) + 1) .outcome) (s .pre .0)
-    ∙ repeating-taken (s .args .d) (tables s) (s .args .times) (s .args .bytes .now) (s .args .wires .now) (ready s) (s .args .run) _ _ _ _ (l .loop .inv)
+apply-requires c κs = search needs
 
 add-repeats : tie.Need-add-repeats Inv-loop μ-loop
 add-repeats c =
@@ -96,9 +92,10 @@ loop-again c =
     let k = stateWires (s .args .d .n) + 1 in
     repeating-on (s .args .d) (tables s) (s .args .times) (s .args .bytes .now) (s .args .wires .now) (ready s)
     (s .args .run) _ _ _ _ (l .loop .inv) (on t) _ _ _
-    (a .apply .ensures .0 ∙ ap (λ (g : List ℕ). applied (s .args .d) (tables s) g (l .loop .last) (l .loop .bytes) (l .loop .wires) k .run) (s .pre .0))
+    (ap (λ (x : Applied). x .run) (a .apply .ensures .0
+    ∙ ap (λ (g : List ℕ). applied (s .args .d) (tables s) g (l .loop .last) (l .loop .bytes) (l .loop .wires) k) (s .pre .0)))
     (a .apply .ensures .1 .0)
-    (a .apply .ensures .1 .1 ∙ ap (λ (g : List ℕ). wiresAfter (s .args .d) (tables s) g (l .loop .last) (l .loop .bytes) (l .loop .wires)) (s .pre .0))
+    (a .apply .ensures .1 .1 .0 ∙ ap (λ (g : List ℕ). wiresAfter (s .args .d) (tables s) g (l .loop .last) (l .loop .bytes) (l .loop .wires)) (s .pre .0))
 
 closed-requires : tie.Need-closed-requires Inv-loop μ-loop
 closed-requires c κs = search needs

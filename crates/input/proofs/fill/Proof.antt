@@ -1,13 +1,13 @@
 -- `fill` meets its contract. The invariant: what was read is within the buffer, which keeps its length and its bytes below `from`.
 use Prim.Native.Nat.{ℕ, _≤_, _-_}
-use mathlib.Core.Path.{_≡_, _∙_}
+use mathlib.Core.Path.{_≡_, refl, _∙_}
 use mathlib.Core.List.{List, _++_}
 use lib.ListN.{length, take, length-take}
 use lib.Seq.{take-append-le, take-take}
 use borrow.Author.Needs.{needs}
 use native.Mathlib.Omega.{arith}
-use Rattle.pair.proofs.fill.Statement.{statement}
-use Rattle.pair.proofs.fill.Tie as tie
+use Rattle.input.proofs.fill.Statement.{statement}
+use Rattle.input.proofs.fill.Tie as tie
 
 -- bytes written from index d on leave those below a
 kept : (a d : ℕ) (xs ys zs : List ℕ) → (d ≤ length xs) × (length xs ≡ length ys) × (a ≤ d) × (take a xs ≡ take a ys) → take a (take d xs ++ zs) ≡ take a ys
@@ -18,6 +18,9 @@ Inv-loop fd buf₀ from done₀ buf done = (done ≤ length buf) × (length buf 
 
 abbrev μ-loop : tie.MeasureT-loop
 μ-loop fd buf₀ from done₀ buf done = length buf - done
+
+returns : tie.Need-returns Inv-loop μ-loop
+returns c = (simp length-take (omega arith), refl)
 
 loop-holds : tie.Need-loop-holds Inv-loop μ-loop
 loop-holds c = search needs
@@ -52,8 +55,8 @@ close-requires c κs = search needs
 same-length : tie.Need-same-length Inv-loop μ-loop
 same-length c = search needs
 
-returns : tie.Need-returns Inv-loop μ-loop
-returns c =
+returns-2 : tie.Need-returns-2 Inv-loop μ-loop
+returns-2 c =
     let count = c .before .before .before in
     let read = count .before .before .before .before .before in
     (simp length-take (omega arith), kept _ _ _ _ _ (read .before .before .before .loop .inv))
@@ -61,8 +64,8 @@ returns c =
 same-length-2 : tie.Need-same-length-2 Inv-loop μ-loop
 same-length-2 c = search needs
 
-returns-2 : tie.Need-returns-2 Inv-loop μ-loop
-returns-2 c =
+returns-3 : tie.Need-returns-3 Inv-loop μ-loop
+returns-3 c =
     let count = c .before .before .before in
     let read = count .before .before .before .before .before in
     (simp length-take (omega arith), kept _ _ _ _ _ (read .before .before .before .loop .inv))
@@ -82,8 +85,8 @@ loop-again c =
 same-length-3 : tie.Need-same-length-3 Inv-loop μ-loop
 same-length-3 c = search needs
 
-returns-3 : tie.Need-returns-3 Inv-loop μ-loop
-returns-3 c = (simp length-take (omega arith), c .before .loop .inv .3)
+returns-4 : tie.Need-returns-4 Inv-loop μ-loop
+returns-4 c = (simp length-take (omega arith), c .before .loop .inv .3)
 
 pub fill-spec : {M : Type 1} → statement M
 fill-spec =
@@ -91,6 +94,7 @@ fill-spec =
     (tie.spec
     Inv-loop
     μ-loop
+    returns
     loop-holds
     sub-read
     part-read-start
@@ -102,11 +106,11 @@ fill-spec =
     count-requires
     close-requires
     same-length
-    returns
-    same-length-2
     returns-2
+    same-length-2
+    returns-3
     add-done
     loop-less
     loop-again
     same-length-3
-    returns-3)
+    returns-4)

@@ -1,0 +1,4 @@
+pub mod WholeSecrecy
+pub mod Consequences
+pub mod Examples
+pub mod Texts
