@@ -9,7 +9,7 @@
 # `rt` keeps notes in target: one call at a time.
 .NOTPARALLEL:
 
-PROGRAMS := pair circuit
+PROGRAMS := pair circuit whole
 
 # all that `make install` copies
 all: $(PROGRAMS:%=target/static/%) target/lib/libforkhemit.a target/shared/libforkhemit.so
@@ -34,7 +34,7 @@ lib: target/lib/libforkhemit.a
 
 # what the library has, a crate for each group of functions
 HOSTS := host_runs host_indexed host_solve host_late host_explained host_circuits host_repeats host_texts host_excerpts host_lines
-HOSTS += host_proofs host_game host_weighted
+HOSTS += host_proofs host_game host_weighted host_whole
 
 # One after the other: two calls of `rt staticlib` at once spoil each other's notes on the crates that both use. In the crates' object files
 # all names are local but those of the functions that hosts call, so the files stand side by side in one archive.
@@ -62,7 +62,7 @@ target/shared/libforkhemit.so: target/lib/libforkhemit.a include/forkhemit.h
 	mkdir -p target/shared
 	cc -shared -nostartfiles -o $@ -Wl,-soname,$(SONAME),-z,text,-z,defs,-z,now,-z,noexecstack -Wl,--whole-archive $< -Wl,--no-whole-archive
 
-# `pair` and `circuit` are too general as names of commands: there they begin with the product's.
+# `pair`, `circuit` and `whole` are too general as names of commands: there they begin with the product's.
 install: absolute all
 	install -d $(DESTDIR)$(PREFIX)/bin $(DESTDIR)$(PREFIX)/include $(LIB)/pkgconfig $(MAN) $(DOC)
 	for program in $(PROGRAMS); do \
@@ -133,7 +133,7 @@ examples: target/examples/turns-c
 	  ../../../target/examples/turns-c $$way.qdimacs | tee ../../../target/examples/turns-$$way.out && cmp ../../../target/examples/turns-$$way.out $$way.answer || exit 1; \
 	done
 
-bench: target/static/pair target/lib/libforkhemit.a
+bench: target/static/pair target/static/whole target/lib/libforkhemit.a
 	cargo build --quiet --release --bins --offline --locked --manifest-path tests/Cargo.toml
 	@lscpu | sed -n 's/^Model name: */on /p'
 	tests/target/release/bench target/static/pair
@@ -141,6 +141,7 @@ bench: target/static/pair target/lib/libforkhemit.a
 	tests/target/release/bench-library
 	tests/target/release/bench-weighted tests/dimacs
 	tests/target/release/bench-proofs
+	tests/target/release/bench-whole target/static/whole target/static/pair
 	rustc -O --edition 2021 tests/bench/evaluator.rs -L native=target/lib -l static=forkhemit -o target/bench-evaluator
 	target/bench-evaluator
 

@@ -1,7 +1,7 @@
 /*
  * Forkhemit for hosts in C and C++: two stations' clause tables and the public one, the giant step, its circuit and the texts.
  * Every function is proved to meet its contract, which stands in crates/host_runs, host_indexed, host_solve, host_weighted, host_late, host_explained,
- * host_circuits, host_repeats, host_texts, host_excerpts, host_lines, host_proofs and host_game.
+ * host_circuits, host_repeats, host_whole, host_texts, host_excerpts, host_lines, host_proofs and host_game.
  * `make lib` writes the archive to link, target/lib/libforkhemit.a, for x86-64 Linux; it needs C's memcpy and memset and nothing else. docs/GUIDE.md
  * has the calls in the order in which a host makes them, examples/host hosts in C, in Rust and in Python.
  *
@@ -17,7 +17,7 @@
  * - A taken call fills an array of numbers whole (a text its front), and the front of a buffer with a length; the rest stays as it was.
  * - What a call only writes, results and scratch alike, need not be set beforehand, and may be used again for the next call as it is.
  * - No function keeps a pointer, allocates memory or has a state of its own: calls in several threads over different buffers are safe.
- *   forkhemit_evaluate and forkhemit_repeat want about 320 KiB of the caller's stack.
+ *   forkhemit_evaluate, forkhemit_repeat and forkhemit_solve_whole want about 320 KiB of the caller's stack.
  *
  * How to read the comments: `sizes: ..` says what the buffer of that name holds after the call. The numbers at the end are the refusals
  * that the function may return, in the order in which they are judged.
@@ -36,9 +36,9 @@
 /* The version, as CHANGES.md numbers it. While the first number is 0, parameters and buffers may change with the second: read there what
  * did, and compile the host anew. With the third they never change. The shared library's soname has the first two. */
 #define FORKHEMIT_VERSION_MAJOR 0
-#define FORKHEMIT_VERSION_MINOR 10
+#define FORKHEMIT_VERSION_MINOR 11
 #define FORKHEMIT_VERSION_PATCH 0
-/* The same as one number that grows, for #if: 0.10.0 is 1000. */
+/* The same as one number that grows, for #if: 0.11.0 is 1100. */
 #define FORKHEMIT_VERSION (FORKHEMIT_VERSION_MAJOR * 10000 + FORKHEMIT_VERSION_MINOR * 100 + FORKHEMIT_VERSION_PATCH)
 
 /* The most bytes that a DIMACS text may have, remarks included, and that a proof may have: one byte more of a file is all that a host need
@@ -50,6 +50,8 @@
 #define FORKHEMIT_LINE_BYTES 128
 /* Bytes that take any answer. */
 #define FORKHEMIT_ANSWER_BYTES 256
+/* The greatest budget that forkhemit_solve_whole goes through. */
+#define FORKHEMIT_MOST_WHOLE 65535
 
 #ifdef __cplusplus
 extern "C" {
@@ -58,7 +60,7 @@ extern "C" {
 /* Why a call was turned back. The lowest that applies is returned, except that 4 comes before 3, and the 3 of a new row last; of three texts
  * whatever refuses the left one, then the right one, then the public one. In a text, a header's 1 or 2 comes before 5, and an overlong text is
  * 5 before all else. forkhemit_clause and forkhemit_excerpt judge overlong texts first, then the tables, then the texts.
- * In a game's text 21 comes right behind the header's 1 and 2 and before 5, and 22 last. */
+ * In a game's text 21 comes right behind the header's 1 and 2 and before 5, and 22 last. 23 comes right behind 8, and so before 10. */
 enum forkhemit_refusal_number {
     FORKHEMIT_TAKEN = 0,            /* not turned back */
     FORKHEMIT_VARIABLES = 1,        /* n outside 1 to 32 */
@@ -82,7 +84,8 @@ enum forkhemit_refusal_number {
     FORKHEMIT_NOT_FOLLOWING = 19,   /* an addition that does not follow, up to the empty clause */
     FORKHEMIT_NO_EMPTY_CLAUSE = 20, /* no empty clause added */
     FORKHEMIT_GAME_VARIABLES = 21,  /* a game of more than 12 variables */
-    FORKHEMIT_LINE_VARIABLES = 22   /* a variable on the lines of a game's text twice or outside 1 to n */
+    FORKHEMIT_LINE_VARIABLES = 22,  /* a variable on the lines of a game's text twice or outside 1 to n */
+    FORKHEMIT_WHOLE_BUDGET = 23     /* a budget above 65,535 that is to be gone through whole */
 };
 
 /*
@@ -380,6 +383,19 @@ uint8_t forkhemit_repeat(uint64_t n, uint64_t left_rows, uint64_t right_rows, ui
                          const uint32_t *public_table, size_t public_length, uint64_t times,
                          uint32_t *gates, size_t gates_length, uint8_t *bytes, size_t bytes_length,
                          uint8_t *wires, size_t wires_length, uint32_t run[FORKHEMIT_RUN_WORDS], uint64_t repeated[2]);
+
+/* The circuit applied to a fresh run exactly as often as the budget says, at most FORKHEMIT_MOST_WHOLE times: it goes on when the run is
+ * closed, and hands out no mark and no run, so that nothing shows how many steps were needed. The verdict is forkhemit_solve's under the same
+ * budget, and so is the model.
+ * gates: the circuit, as forkhemit_generate writes it. bytes, wires: zeros for the inputs, and for inputs and gates, with budget 0 too:
+ * what a repeat leaves there would tell the rows and when the run closed. Time and stack are no part of this: see docs/GUIDE.md.
+ * answer: the budget, verdict (forkhemit_verdict), model as a word, 0 without one.
+ * 1, 2, 4, 3, 7, 23, 10 (bytes for the inputs, wires for inputs and gates). */
+uint8_t forkhemit_solve_whole(uint64_t n, uint64_t left_rows, uint64_t right_rows, uint64_t public_rows,
+                              const uint32_t *left, size_t left_length, const uint32_t *right, size_t right_length,
+                              const uint32_t *public_table, size_t public_length, uint64_t budget,
+                              uint32_t *gates, size_t gates_length, uint8_t *bytes, size_t bytes_length,
+                              uint8_t *wires, size_t wires_length, uint64_t answer[3]);
 
 /* ---- texts */
 

@@ -92,7 +92,7 @@ trial "$version in CHANGES.md and in the header" prints "$version" "$room/versio
 trial 'in the pkg-config file' prints "$version" pkg-config --modversion forkhemit
 trial 'in the soname' prints "libforkhemit.so.${version%.*}" soname "$library.so"
 trial "in the shared library's name" cmp "$library.so.${version%.*}" "$library.so.$version"
-for program in forkhemit-pair forkhemit-circuit; do
+for program in forkhemit-pair forkhemit-circuit forkhemit-whole; do
     page=$prefix/share/man/man1/$program.1
     trial "in the page of $program" prints "$version" titled "$page"
     trial 'which is well-formed' prints '' groff -man -Tutf8 -ww -z "$page"
@@ -113,8 +113,19 @@ cd "$prefix/share/doc/forkhemit/examples/harbour" || end
 host=../host/host
 texts=(left.cnf right.cnf public.cnf "$(cat budget)")
 smallest() { echo 1 1 1 0 | "$prefix/bin/forkhemit-circuit" | sed -n 2,3p; }
+through() { # BUDGET, document 01's example
+    mkdir -p "$room/small"
+    printf 'p cnf 2 1\n1 2 0\n' >"$room/small/left.cnf"
+    printf 'p cnf 2 1\n-1 0\n' >"$room/small/right.cnf"
+    printf 'p cnf 2 0\n' >"$room/small/public.cnf"
+    (cd "$room/small" && echo "$1" | "$prefix/bin/forkhemit-whole")
+}
+harbour() { "$prefix/bin/forkhemit-whole" <budget; }
 trial 'the pair program answers' answers "$prefix/bin/forkhemit-pair"
 trial 'the circuit program prints' prints $'3 2 2 9\n2 9 1' smallest
+trial 'the whole program answers with its budget for the count' prints $'c steps 9\ns SATISFIABLE\nv -1 2 0' through 0009
+trial 'and takes no larger one' prints $'c refused 23\ns UNKNOWN' through 65536
+trial 'nor the example, which is too large' prints $'c refused 7\ns UNKNOWN' harbour
 trial 'a host in C with the shared library is built' cc -std=c11 "${strict[@]}" -o "$room/shared" $host.c "${linked[@]}"
 trial 'asks for it by its soname' prints "libforkhemit.so.${version%.*}"$'\nlibc.so.6' libraries "$room/shared"
 trial 'and answers' answers "$room/shared" "${texts[@]}"

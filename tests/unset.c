@@ -125,6 +125,21 @@ int main(void)
     same(repeats == answer[0] && run[1] == answer[1], "repeats in two parts add up");
     TAKEN(forkhemit_repeat(TABLES, 1000, own_gates, sizes[1], own_bytes, sizes[2], own_wires, sizes[2] + count[0], run, repeated));
     same(repeated[0] == 0 && repeated[1] == 1, "a closed run has no repeat, and its mark is 1");
+
+    /* the same through a whole budget, and nothing left of it */
+    UNSET(uint32_t, whole_gates, sizes[1]);
+    UNSET(uint8_t, whole_bytes, sizes[2]);
+    UNSET(uint8_t, whole_wires, sizes[2] + count[0]);
+    UNSET(uint64_t, whole, 3);
+    TAKEN(forkhemit_solve_whole(TABLES, 50, whole_gates, sizes[1], whole_bytes, sizes[2], whole_wires, sizes[2] + count[0], whole));
+    same(whole[0] == 50 && whole[1] == answer[1] && whole[2] == answer[2], "the same answer, its count the budget");
+    same(memcmp(whole_gates, gates, 12 * count[0]) == 0, "the same circuit");
+    uint8_t left_over = 0;
+    for (uint64_t i = 0; i < sizes[2]; i++) left_over |= whole_bytes[i];
+    for (uint64_t i = 0; i < sizes[2] + count[0]; i++) left_over |= whole_wires[i];
+    same(left_over == 0, "zeros where it worked");
+
+    /* the model */
     UNSET(uint64_t, model, 1);
     TAKEN(forkhemit_model(run, model));
     same(model[0] == answer[2], "the same model");

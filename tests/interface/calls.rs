@@ -73,6 +73,10 @@ mod library {
             right: *const u32, right_length: usize, public_table: *const u32, public_length: usize, times: u64,
             gates: *mut u32, gates_length: usize, bytes: *mut u8, bytes_length: usize, wires: *mut u8, wires_length: usize,
             run: *mut u32, repeated: *mut u64) -> u8;
+        pub fn forkhemit_solve_whole(n: u64, left_rows: u64, right_rows: u64, public_rows: u64, left: *const u32, left_length: usize,
+            right: *const u32, right_length: usize, public_table: *const u32, public_length: usize, budget: u64,
+            gates: *mut u32, gates_length: usize, bytes: *mut u8, bytes_length: usize, wires: *mut u8, wires_length: usize,
+            answer: *mut u64) -> u8;
         pub fn forkhemit_write_line(n: u64, left_rows: u64, right_rows: u64, public_rows: u64, gates: *const u32, gates_length: usize,
             line: u64, bytes: *mut u8, bytes_length: usize, length: *mut u64) -> u8;
         pub fn forkhemit_write_lines(n: u64, left_rows: u64, right_rows: u64, public_rows: u64, gates: *const u32, gates_length: usize,
@@ -121,13 +125,14 @@ pub enum Function {
     Evaluate,
     ReadBack,
     Repeat,
+    SolveWhole,
     WriteLine,
     WriteLines,
     ReadBudget,
     Answer,
 }
 
-pub const ALL: [Function; 33] = [
+pub const ALL: [Function; 34] = [
     Function::Sizes,
     Function::ReadTables,
     Function::Accept,
@@ -157,6 +162,7 @@ pub const ALL: [Function; 33] = [
     Function::Evaluate,
     Function::ReadBack,
     Function::Repeat,
+    Function::SolveWhole,
     Function::WriteLine,
     Function::WriteLines,
     Function::ReadBudget,
@@ -371,6 +377,8 @@ impl Call {
                 Function::ReadBack => forkhemit_read_back(x(0), b(0), l(0), w(1)),
                 Function::Repeat => forkhemit_repeat(x(0), x(1), x(2), x(3), w(0), l(0), w(1), l(1), w(2), l(2), x(4), w(3), l(3),
                     b(4), l(4), b(5), l(5), w(6), n(7)),
+                Function::SolveWhole => forkhemit_solve_whole(x(0), x(1), x(2), x(3), w(0), l(0), w(1), l(1), w(2), l(2), x(4), w(3), l(3),
+                    b(4), l(4), b(5), l(5), n(6)),
                 Function::WriteLine => forkhemit_write_line(x(0), x(1), x(2), x(3), w(0), l(0), x(4), b(1), l(1), n(2)),
                 Function::WriteLines => forkhemit_write_lines(x(0), x(1), x(2), x(3), w(0), l(0), x(4), b(1), l(1), n(2)),
                 Function::ReadBudget => forkhemit_read_budget(b(0), l(0), n(1)),

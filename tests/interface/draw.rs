@@ -322,6 +322,21 @@ fn repeating(size: Size, circuits: &Circuits, random: &mut Random) -> Result<(u6
     Ok((one(&[0, 1, 1, 2, 3, most, most], random), lent))
 }
 
+/// Tables, room for gates, inputs, wires and the answer, and a budget: none, some, that with which a small run closes, one less, one more,
+/// many more, or one that is too large.
+fn going_through(size: Size, circuits: &Circuits, random: &mut Random) -> Result<(u64, Vec<Lent>), String> {
+    let (rows, some) = to_solve(size, random);
+    let most = if size.n <= 6 { 300 } else { 3 };
+    let steps = model::run(size.n, &rows, most).steps;
+    let mut lent = lent_tables(size, &rows, random);
+    let inputs = memory::input_wires(size);
+    let wires = inputs + circuits.words(size)?.len() / 3;
+    lent.extend([words_for(3 * size.ceiling(), random), bytes_for(inputs, random), bytes_for(wires, random)]);
+    lent.push(numbers_for(3, random));
+    let budget = one(&[0, 1, steps, steps, steps - 1, steps + 1, some.min(most), most], random);
+    Ok((if random.once_in(25) { one(&[65_536, 65_537, u64::MAX, 65_536 + steps], random) } else { budget }, lent))
+}
+
 /// Gates, a line's number, and room for a line or for several.
 fn line_call(function: Function, size: Size, circuits: &Circuits, random: &mut Random) -> Result<Call, String> {
     let gates = gates_of(size, circuits, random)?;
@@ -476,10 +491,13 @@ fn right(function: Function, circuits: &Circuits, random: &mut Random) -> Result
         Function::Evaluate if !random.once_in(4) => {
             return Ok(Call { function, numbers: vec![], lent: any_evaluation(random) })
         }
-        Function::Generate | Function::Repeat if random.once_in(500) => large_size(random),
-        Function::Generate | Function::Repeat | Function::Evaluate | Function::WriteLine | Function::WriteLines => {
-            some_size(random, true)
-        }
+        Function::Generate | Function::Repeat | Function::SolveWhole if random.once_in(500) => large_size(random),
+        Function::Generate
+        | Function::Repeat
+        | Function::SolveWhole
+        | Function::Evaluate
+        | Function::WriteLine
+        | Function::WriteLines => some_size(random, true),
         _ => some_size(random, false),
     };
     of_size(function, size, circuits, random)
@@ -537,6 +555,10 @@ pub fn of_size(function: Function, size: Size, circuits: &Circuits, random: &mut
         Function::Repeat => {
             let (times, lent) = repeating(size, circuits, random)?;
             call([numbers(size), vec![times]].concat(), lent)
+        }
+        Function::SolveWhole => {
+            let (budget, lent) = going_through(size, circuits, random)?;
+            call([numbers(size), vec![budget]].concat(), lent)
         }
         Function::WriteLine | Function::WriteLines => line_call(function, size, circuits, random),
         Function::ReadBudget => call(vec![], vec![Lent::Bytes(line(random)), numbers_for(1, random)]),

@@ -36,6 +36,17 @@ fn stations(size: Size, rows: &[Row]) -> Writes {
     vec![(0, Lent::Words(memory::row_words(left))), (1, Lent::Words(memory::row_words(&others[..size.right])))]
 }
 
+/// Count, verdict and model as a host gets them.
+fn answer_numbers(answer: &Answer) -> Lent {
+    let verdict = match answer.standing {
+        model::Standing::Open => 0,
+        model::Standing::Satisfied => 1,
+        model::Standing::Refuted => 2,
+    };
+    let model = answer.model.iter().enumerate().fold(0, |word, (v, &value)| word | u64::from(value) << v);
+    Lent::Numbers(vec![answer.steps, verdict, model])
+}
+
 /// What the call gives.
 pub fn expected(call: &Call, circuits: &Circuits) -> Result<Given, String> {
     let mut lent = call.lent.clone();
@@ -118,6 +129,10 @@ impl Call {
                 Ok((size, rows)) => self.repeat(size, &rows, circuits.words(size)?),
                 Err(number) => Err(number),
             },
+            Function::SolveWhole => match self.size().and_then(|size| self.rows_to_repeat(size)) {
+                Ok((size, rows)) => self.solve_whole(size, &rows, circuits.words(size)?),
+                Err(number) => Err(number),
+            },
             Function::WriteLine => self.write_line(),
             Function::WriteLines => self.write_lines(),
             Function::ReadBudget => model::budget(self.bytes(0)).map(|budget| vec![(1, Lent::Numbers(vec![budget]))]),
@@ -193,13 +208,7 @@ impl Call {
         let size = self.size()?;
         let rows = memory::accepted(size, self.tables())?;
         let answer = run(size.n, &rows, self.numbers[4]);
-        let verdict = match answer.standing {
-            model::Standing::Open => 0,
-            model::Standing::Satisfied => 1,
-            model::Standing::Refuted => 2,
-        };
-        let model = answer.model.iter().enumerate().fold(0, |word, (v, &value)| word | u64::from(value) << v);
-        Ok(vec![(3, Lent::Numbers(vec![answer.steps, verdict, model]))])
+        Ok(vec![(3, answer_numbers(&answer))])
     }
 
     /// The run after steps, plain or weighted ones, through the one that closes it, at most so many; how many, and whether it is closed: 12,
@@ -412,6 +421,21 @@ impl Call {
         }
         writes.push((3, Lent::Words(gates)));
         Ok(writes)
+    }
+
+    /// The circuit, zeros where bytes and wires were used, and the plain run's answer with the budget for its count: 23, 10.
+    fn solve_whole(&self, size: Size, rows: &[Row], gates: Vec<u32>) -> Result<Writes, u8> {
+        let (inputs, budget) = (memory::input_wires(size), self.numbers[4]);
+        let wires = inputs + gates.len() / 3;
+        if budget > model::WHOLE_BUDGET {
+            return Err(23);
+        }
+        if self.bytes(4).len() < inputs || self.bytes(5).len() < wires {
+            return Err(10);
+        }
+        let [bytes, wires] = [inputs, wires].map(|count| Lent::Bytes(vec![0; count]));
+        let answer = answer_numbers(&model::run_whole(size.n, rows, budget));
+        Ok(vec![(3, Lent::Words(gates)), (4, bytes), (5, wires), (6, answer)])
     }
 
     /// The size, the gates, and the line of the circuit's text that is asked for: 1, 2, 9.

@@ -2,7 +2,8 @@
 //! Every refusal as it was written by hand, alone and two at once, then calls at the limits of size, then rows of every shape judged and
 //! counted, then runs with index and number beside the plain ones, then runs continued in slices, then runs with the weighted choice, then runs
 //! whose steps tell their rules, then clauses by their own bytes, then steps where several literals are forced, then runs in which rows are replaced, whose verdicts are
-//! held to another solver's, then proofs that other solvers wrote, as they are and damaged, then games of two sides, held to all their
+//! held to another solver's, then proofs that other solvers wrote, as they are and damaged, then runs through
+//! a whole budget, then games of two sides, held to all their
 //! plans and to another solver's verdicts, then random calls over all functions: each result and every lent buffer is held to the model.
 //! With `exact` each buffer has an allocation of its own of exactly its length, for a memory checker; else it stands between guards. The
 //! last line is `N passed, M failed`, and the status 0 where M is 0.
@@ -23,6 +24,7 @@ mod proofs;
 mod refusals;
 mod ties;
 mod weighted;
+mod whole;
 
 use calls::{Call, Given, ALL};
 use circuits::Circuits;
@@ -75,7 +77,7 @@ fn refused(circuits: &Circuits, guard: usize) -> Tally {
                 ledger.kind(&format!("refused {}", case.number), 1);
                 ledger.test(failure.map(|failure| format!("{}: {failure}\n  {}", case.what, shown(&case.call))));
             }
-            let missing = (0..=22).find(|&number| !cases.iter().any(|case| case.number == number));
+            let missing = (0..=23).find(|&number| !cases.iter().any(|case| case.number == number));
             ledger.test(missing.map(|number| format!("no case is refused with {number}")));
         }
     }
@@ -167,6 +169,9 @@ fn main() -> ExitCode {
     total.add(proofs::stored(&circuits, guard));
     total.add(proofs::made(&circuits, guard));
     total.add(proofs::fullest(&circuits, guard));
+    total.add(whole::budgets(&circuits, guard));
+    total.add(whole::greatest(&circuits, guard));
+    total.add(whole::alike(&circuits, guard));
     total.add(game::all(&circuits, guard));
     total.add(game::drawn(&circuits, guard));
     total.add(game::refused(&circuits, guard));

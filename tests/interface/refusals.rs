@@ -153,6 +153,10 @@ fn base(function: Function, circuits: &Circuits) -> Result<Call, String> {
             let lent = vec![words(3 * SIZE.ceiling()), bytes(inputs), bytes(wires), Lent::Run(run()), numbers(2)];
             (and(9), [tables(), lent].concat())
         }
+        Function::SolveWhole => {
+            let lent = vec![words(3 * SIZE.ceiling()), bytes(inputs), bytes(wires), numbers(3)];
+            (and(9), [tables(), lent].concat())
+        }
         Function::WriteLine => (and(4), vec![Lent::Words(gates), bytes(64), numbers(1)]),
         Function::WriteLines => (and(0), vec![Lent::Words(gates), bytes(64), numbers(2)]),
         Function::ReadBudget => (vec![], vec![Lent::Bytes(b"18446744073709551615\n".to_vec()), numbers(1)]),
@@ -699,14 +703,28 @@ fn pack(list: &mut Changes) {
     run_at(3, list);
 }
 
-/// 7 and 10, and a run's 12 and 13.
-fn repeat(list: &mut Changes) {
+/// 7 and 10, in room for gates, inputs and wires.
+fn room_to_repeat(list: &mut Changes) {
     add(list, "a gate word short", 7, shorter(3));
     add(list, "no gate words", 7, cut(3, 0));
     add(list, "an input byte short", 10, shorter(4));
     add(list, "a wire short", 10, shorter(5));
     add(list, "room for the inputs alone", 10, cut(5, memory::input_wires(SIZE)));
+}
+
+/// 7 and 10, and a run's 12 and 13.
+fn repeat(list: &mut Changes) {
+    room_to_repeat(list);
     run_at(6, list);
+}
+
+/// 7, 23 and 10; 23 at numbers that a cut to fewer bits would make small.
+fn solve_whole(list: &mut Changes) {
+    room_to_repeat(list);
+    add(list, "no input bytes", 10, cut(4, 0));
+    for budget in [65_536, 65_537, 131_072, (1 << 32) + 9, u64::MAX] {
+        add(list, &format!("the budget {budget}"), 23, number(4, budget));
+    }
 }
 
 /// 10, and 9 by every clause of it.
@@ -795,6 +813,7 @@ fn changes(function: Function) -> Changes {
         Function::Evaluate => &[evaluate],
         Function::ReadBack => &[variables, read_back],
         Function::Repeat => &[sizes, tables, repeat],
+        Function::SolveWhole => &[sizes, tables, solve_whole],
         Function::WriteLine | Function::WriteLines => &[sizes, write],
         Function::ReadBudget => &[read_budget],
     };
@@ -842,6 +861,18 @@ fn harmless(function: Function) -> Vec<(String, Change)> {
             ("no public rows, and words of some", number(3, 0)),
             ("no public rows, and words that would be refused", both(number(3, 0), word(2, 1, u32::MAX))),
             ("no public rows and no words", both(number(3, 0), cut(2, 0))),
+        ],
+        Function::SolveWhole => vec![
+            ("no public rows, and words of some", number(3, 0)),
+            ("no public rows, and words that would be refused", both(number(3, 0), word(2, 1, u32::MAX))),
+            ("no public rows and no words", both(number(3, 0), cut(2, 0))),
+            ("no application", number(4, 0)),
+            ("one application", number(4, 1)),
+            ("two applications", number(4, 2)),
+            ("the closing one the last", number(4, 3)),
+            ("one behind the closing one", number(4, 4)),
+            ("256 applications", number(4, 256)),
+            ("more of each buffer", both(longer(3, &[7]), both(text(4, vec![7; 90]), text(5, vec![7; 9_000])))),
         ],
         Function::CountFree => vec![
             ("no public rows, and words of some", number(3, 0)),
@@ -945,7 +976,7 @@ fn harmless(function: Function) -> Vec<(String, Change)> {
 
 // ---- Two changes at once
 
-/// Which of two refusals comes first: the lower number, but 4 before 3, and a new row's 3 last; of texts whatever refuses the left one, then
+/// Which of two refusals comes first: the lower number, but 4 before 3, a new row's 3 last, and 23 before 10; of texts whatever refuses the left one, then
 /// whatever refuses the right one, then the public one, then 4 and 6. Where tables and texts are lent, an overlong text's 5 comes first, the
 /// texts' other refusals come behind the tables' 3 and before 6, and a clause's 11 comes last.
 fn order(function: Function, number: u8, change: &Change) -> u8 {
@@ -964,6 +995,8 @@ fn order(function: Function, number: u8, change: &Change) -> u8 {
         {
             u8::MAX
         }
+        // directly after 8
+        (Function::SolveWhole, 23) => 8,
         (_, 4) => 3,
         (_, 3) => 4,
         (_, number) => number,

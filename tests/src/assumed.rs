@@ -6,9 +6,10 @@ use std::path::Path;
 
 /// The functions of C whose contracts are assumed, by program. No other crate assumes anything.
 #[rustfmt::skip]
-const ASSUMED: [(&str, &[&str]); 2] = [
+const ASSUMED: [(&str, &[&str]); 3] = [
     ("circuit", &["libc::read", "libc::write"]),
     ("pair", &["libc::close", "libc::read", "libc::write", "os::c::rattle_open_to_read", "os::c::rattle_set_errno"]),
+    ("whole", &["libc::close", "libc::read", "libc::write", "os::c::rattle_open_to_read", "os::c::rattle_set_errno"]),
 ];
 /// What the line of the verdict says.
 const KEYS: [&str; 8] = ["logic", "functions", "axioms", "target", "sum", "native", "logic-built", "libraries-built"];

@@ -34,7 +34,7 @@ const LONG: [[usize; 4]; 4] = [[1, 20, 20, 0], [1, 13, 13, 14], [3, 8, 8, 1], [7
 const NARROW: usize = 1_500;
 
 /// The size of these numbers.
-fn size([n, left, right, public]: [usize; 4]) -> Size {
+pub fn size([n, left, right, public]: [usize; 4]) -> Size {
     Size { n, left, right, public }
 }
 
@@ -54,7 +54,7 @@ fn served(size: &Size) -> bool {
 }
 
 /// Every size whose ceiling the program serves.
-fn sizes() -> Vec<Size> {
+pub fn sizes() -> Vec<Size> {
     let mut sizes = vec![];
     for (n, left) in (1..=32).flat_map(|n| (1..=128).map(move |left| (n, left))) {
         for right in (1..=128).take_while(|&right| served(&size([n, left, right, 0]))) {

@@ -1,19 +1,25 @@
 //! The project's own tests. Use: check CRATES [PROGRAM..], or check edits CRATES, or check statements CRATES
 //! CRATES is the folder of crates, whose contracts and symbols are looked at, with what their checks said they assume, what the
 //! page of proofs names and how much there is that is hard to read; each PROGRAM is a compiled program, known by its name,
-//! `pair`, `circuit`, `host-c` or `host-rust`. A host is held to the pair program, which must be given too. A `pair` in a folder
-//! `static` is linked statically: nothing can be loaded before it that cuts what it reads into parts, and those tests are left out.
+//! `pair`, `circuit`, `whole`, `host-c` or `host-rust`. `whole` and the hosts are held to the pair program, which must be given too. A
+//! program in a folder `static` is linked statically: nothing can be loaded before it that cuts what it reads into parts, and those
+//! tests are left out.
 //! `edits` reads what each must-fail edit was refused for, after `rt ci`; `statements` prints tests/statements.txt as the crates have it.
 //! The last line is `N passed, M failed`, and the status 0 where M is 0.
 
 use forkhemit_tests::process::{self, Source};
 use forkhemit_tests::report::{self, Tally};
 use forkhemit_tests::{
-    assumed, cases, ceilings, circuits, citations, claims, contracts, damage, edits, hosts, pictures, published,
-    statements, symbols, tables, ties,
+    assumed, cases, ceilings, circuits, citations, claims, contracts, damage, edits, hosts, model, pictures, published,
+    statements, symbols, tables, ties, whole,
 };
 use std::path::Path;
 use std::process::ExitCode;
+
+/// Whether a program is linked statically: such a one stands in a folder of that name.
+fn linked_statically(program: &Path) -> bool {
+    program.parent().map_or(false, |folder| folder.ends_with("static"))
+}
 
 /// The tests of the pair program; of the one that is linked statically, those that were written by hand and the public files.
 fn pair_tests(program: &Path, own: &Path) -> std::io::Result<Tally> {
@@ -21,14 +27,14 @@ fn pair_tests(program: &Path, own: &Path) -> std::io::Result<Tally> {
     println!("verdicts are compared with {solver}");
     let files = published::files(&own.join("dimacs"))?;
     let [listed, damaged] = damage::groups();
-    let groups = if program.parent().map_or(false, |folder| folder.ends_with("static")) {
+    let groups = if linked_statically(program) {
         vec![cases::group(own, Source::is_whole)?, published::group(&files)]
     } else {
         vec![cases::group(own, |_| true)?, published::group(&files), tables::group(), listed, damaged]
     };
     let mut total = Tally::default();
     for group in groups {
-        total.add(report::run(&group, program, solver)?);
+        total.add(report::run(&group, program, model::answered, solver)?);
     }
     Ok(total)
 }
@@ -36,15 +42,17 @@ fn pair_tests(program: &Path, own: &Path) -> std::io::Result<Tally> {
 /// The tests of a program, which its file's name tells.
 fn program_tests(program: &Path, pair: Option<&Path>) -> std::io::Result<Tally> {
     let fault = |kind, fault: &str| std::io::Error::new(kind, format!("{}: {fault}", program.display()));
-    let whole = program.canonicalize().map_err(|error| fault(error.kind(), &error.to_string()))?;
+    let full = program.canonicalize().map_err(|error| fault(error.kind(), &error.to_string()))?;
+    let pair = || match pair {
+        Some(pair) => pair.canonicalize(),
+        None => Err(fault(std::io::ErrorKind::NotFound, "no pair program to compare with")),
+    };
     let own = Path::new(env!("CARGO_MANIFEST_DIR"));
     match program.file_name().and_then(|name| name.to_str()) {
-        Some("pair") => pair_tests(&whole, own),
-        Some("circuit") => circuits::run(&whole, own),
-        Some("host-c" | "host-rust") => {
-            let pair = pair.ok_or_else(|| fault(std::io::ErrorKind::NotFound, "no pair program to compare with"))?;
-            hosts::run(&whole, &pair.canonicalize()?, own)
-        }
+        Some("pair") => pair_tests(&full, own),
+        Some("circuit") => circuits::run(&full, own),
+        Some("whole") => whole::run(&full, &pair()?, own, linked_statically(program)),
+        Some("host-c" | "host-rust") => hosts::run(&full, &pair()?, own),
         _ => Err(fault(std::io::ErrorKind::InvalidInput, "no program of the project")),
     }
 }

@@ -1,4 +1,4 @@
-//! Both programs as documents 01 and 02 describe them, in plain Rust and for the tests only. Literals stay numbers and a
+//! The programs as documents 01 and 02 describe them, in plain Rust and for the tests only. Literals stay numbers and a
 //! state is a list of truth values: nothing of the product's own words, states or readers stands in here.
 
 use std::cmp::Ordering;
@@ -6,8 +6,10 @@ use std::ops::{Range, RangeInclusive};
 
 pub const TEXT_LIMIT: usize = 65_536;
 pub const LINE_LIMIT: usize = 100;
-/// The greatest ceiling that the circuit program serves.
+/// The greatest ceiling that the programs with a circuit serve.
 pub const SERVED: usize = 5_461;
+/// The greatest budget that is gone through whole.
+pub const WHOLE_BUDGET: u64 = 65_535;
 /// How many variables there may be, how many rows a station may have, and how many the public table.
 pub const VARIABLES: RangeInclusive<u64> = 1..=32;
 pub const STATION: RangeInclusive<u64> = 1..=128;
@@ -494,12 +496,38 @@ pub fn refused(number: u8) -> String {
     format!("c refused {number}\ns UNKNOWN\n")
 }
 
+/// The pair program's answer to these files and this standard input.
+pub fn answered(texts: [Option<&[u8]>; 3], input: &[u8]) -> Result<Answer, u8> {
+    pair(texts, input).map(|read| run(read.size.n, &read.rows, read.budget))
+}
+
 /// What the pair program prints for these files and this standard input.
 pub fn output(texts: [Option<&[u8]>; 3], input: &[u8]) -> String {
-    match pair(texts, input) {
-        Ok(read) => printed(&run(read.size.n, &read.rows, read.budget)),
-        Err(number) => refused(number),
+    answered(texts, input).map_or_else(refused, |answer| printed(&answer))
+}
+
+// ---- The whole program
+
+/// The answer of a run that goes through its whole budget: the plain run's, with the budget for its count.
+pub fn run_whole(n: usize, rows: &[Row], budget: u64) -> Answer {
+    Answer { steps: budget, ..run(n, rows, budget) }
+}
+
+/// What the whole program reads, or the number of the refusal: behind those of the pair program 23, then 7.
+pub fn whole(texts: [Option<&[u8]>; 3], input: &[u8]) -> Result<Read, u8> {
+    let read = pair(texts, input)?;
+    if read.budget > WHOLE_BUDGET {
+        return Err(23);
     }
+    if read.size.ceiling() > SERVED {
+        return Err(7);
+    }
+    Ok(read)
+}
+
+/// The whole program's answer to these files and this standard input.
+pub fn answered_whole(texts: [Option<&[u8]>; 3], input: &[u8]) -> Result<Answer, u8> {
+    whole(texts, input).map(|read| run_whole(read.size.n, &read.rows, read.budget))
 }
 
 // ---- The circuit program

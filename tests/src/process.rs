@@ -164,6 +164,18 @@ impl Room {
         self.finish(command.spawn()?, files)
     }
 
+    /// Runs it under a tool of valgrind's that lists system calls and counts instructions: what it did, and what the tool says of it.
+    pub fn run_traced(&self, files: &[Source; 3], input: &[u8]) -> std::io::Result<(Ran, String)> {
+        let [given, said] = ["stdin", "said"].map(|name| self.folder.join(name));
+        fs::write(&given, input)?;
+        let mut command = Command::new("valgrind");
+        command.args(["--tool=lackey", "--basic-counts=yes", "--trace-syscalls=yes"]);
+        command.arg(format!("--log-file={}", said.display())).arg(&self.program);
+        let child = self.prepared(command, files)?.stdin(File::open(&given)?).spawn()?;
+        let ran = self.finish(child, files)?;
+        Ok((ran, fs::read_to_string(said)?))
+    }
+
     /// What comes through a standard output that holds 4,096 bytes and fails when it is full, read with a pause before each read.
     pub fn run_narrow(&self, input: &[u8], pause: Duration) -> std::io::Result<Vec<u8>> {
         let (mut reader, writer) = narrow_pipe()?;
@@ -188,8 +200,12 @@ impl Room {
 
     /// The program in the folder of these files.
     fn command(&self, files: &[Source; 3]) -> std::io::Result<Command> {
+        self.prepared(Command::new(&self.program), files)
+    }
+
+    /// A command in the folder of these files.
+    fn prepared(&self, mut command: Command, files: &[Source; 3]) -> std::io::Result<Command> {
         let data = self.folder.join("data");
-        let mut command = Command::new(&self.program);
         command.current_dir(&data).stdout(Stdio::piped()).stderr(Stdio::piped());
         for (name, source) in NAMES.iter().zip(files) {
             place(&data.join(name), source)?;

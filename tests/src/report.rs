@@ -1,7 +1,7 @@
-//! The counting of tests and their running on two threads; a test of the pair program.
+//! The counting of tests and their running on two threads; a test of a program that reads three files and a budget.
 
 use crate::layout;
-use crate::model::{self, Row, Standing};
+use crate::model::{self, Answer, Row, Standing};
 use crate::process::{Input, Ran, Room, Source, NAMES};
 use std::collections::{BTreeMap, BTreeSet};
 use std::path::Path;
@@ -12,7 +12,10 @@ const THREADS: usize = 2;
 const SHOWN_FAILURES: usize = 10;
 const SHOWN_BYTES: usize = 3_000;
 
-/// Files and standard input for the pair program, and what else is known of the answer.
+/// The model's answer to three texts and a standard input, or the number of the refusal: that of the program which is tested.
+pub type Model = fn([Option<&[u8]>; 3], &[u8]) -> Result<Answer, u8>;
+
+/// Files and standard input for a program, and what else is known of the answer.
 #[derive(Clone)]
 pub struct Test {
     pub name: String,
@@ -129,11 +132,11 @@ pub fn spread<const N: usize>(
 }
 
 /// Runs a group's tests and prints what it came to.
-pub fn run(group: &Group, program: &Path, solver: &str) -> std::io::Result<Tally> {
+pub fn run(group: &Group, program: &Path, model: Model, solver: &str) -> std::io::Result<Tally> {
     let ledger = Ledger::default();
     spread([program], group.count, |number, [room]| {
         for test in (group.make)(number) {
-            let (kind, failure) = judge(&test, room, solver);
+            let (kind, failure) = judge(&test, room, model, solver);
             ledger.kind(&kind, 1);
             ledger.test(failure.map(|failure| format!("{}: {failure}\n{}", test.name, shown(&test))));
         }
@@ -142,9 +145,8 @@ pub fn run(group: &Group, program: &Path, solver: &str) -> std::io::Result<Tally
 }
 
 /// The kind of answer that the model gives, and what is wrong with the program's.
-fn judge(test: &Test, room: &Room, solver: &str) -> (String, Option<String>) {
-    let read = model::pair(test.texts(), &test.input);
-    let answer = read.map(|read| model::run(read.size.n, &read.rows, read.budget));
+fn judge(test: &Test, room: &Room, model: Model, solver: &str) -> (String, Option<String>) {
+    let answer = model(test.texts(), &test.input);
     let (kind, output) = match &answer {
         Ok(answer) => (format!("{:?}", answer.standing).to_lowercase(), model::printed(answer)),
         Err(number) => (format!("refused {number}"), model::refused(*number)),
