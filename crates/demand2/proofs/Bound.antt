@@ -31,7 +31,7 @@ allChosen p [] = true
 allChosen p (l ∷ ls) = p (l .chosen) && allChosen p ls
 
 -- what the levels have left: for each, the steps after its variable goes to F
-unfoldable leftOver : (ℕ → Bool) → ℕ → List Level → ℕ
+unfoldable pub leftOver : (ℕ → Bool) → ℕ → List Level → ℕ
 unfolding freeAmong
 leftOver p n [] = 0
 leftOver p n (l ∷ ls) = (2 ^ freeAmong p n (l .t) (l .f) - 1) + leftOver p n ls
@@ -51,16 +51,35 @@ module _ (n : ℕ) (p : ℕ → Bool) where
   abbrev among : ℕ → ℕ → ℕ
   among t f = freeAmong p n t f
 
-  abbrev potential : State → ℕ
+  -- the most steps that a state has before it
+  abbrev pub potential : State → ℕ
   potential s = potentialAt p n s (s .standing)
 
   -- of an open state
   abbrev opened : State → ℕ
   opened s = potentialAt p n s Open
 
-  -- what every step keeps
-  abbrev Kept : State → Type 0
+  -- what every step keeps: a well-formed state whose levels' variables pass
+  abbrev pub Kept : State → Type 0
   Kept s = Formed n s × (allChosen p (s .levels) ≡ true)
+
+  -- an open state has a step before it
+  pub open-some : (s : State) → s .standing ≡ Open → 0 < potential s
+  open-some s = go (s .standing)
+    where
+      go : (st : Standing) → st ≡ Open → 0 < potentialAt p n s st
+      go Open e = omega (arith, pow-suc 2 (among (s .t) (s .f)), pow-pos (among (s .t) (s .f)))
+      go Satisfied e = let z : _≡_ {A = ℕ} 0 1 = cc in absurd (omega arith)
+      go Refuted e = let z : _≡_ {A = ℕ} 0 1 = cc in absurd (omega arith)
+
+  -- a closed one has none
+  pub closed-none : (s : State) → (s .standing ≡ Open → ⊥) → potential s ≡ 0
+  closed-none s = go (s .standing)
+    where
+      go : (st : Standing) → (st ≡ Open → ⊥) → potentialAt p n s st ≡ 0
+      go Open h = absurd (h refl)
+      go Satisfied h = refl
+      go Refuted h = refl
 
 -- rows in which only variables that pass occur
 module _ (n : ℕ) (p : ℕ → Bool) (rows : List Row) (may : (v : ℕ) → occurs n rows v ≡ true → p v ≡ true) where
@@ -77,7 +96,8 @@ module _ (n : ℕ) (p : ℕ → Bool) (rows : List Row) (may : (v : ℕ) → occ
   follow-chosen s (Unit v false) w c = c
   follow-chosen s (Choice v) w c = and-i (may v (choice-settable n rows (s .t) (s .f) w .occurring)) c
 
-  step-kept : (ruling : Ruling) → Applies ruling → (s : State) → Kept n p s → Kept n p (stepWith ruling n rows s)
+  -- a step keeps it
+  pub step-kept : (ruling : Ruling) → Applies ruling → (s : State) → Kept n p s → Kept n p (stepWith ruling n rows s)
   unfolding stepWith
   step-kept ruling applies s o = (step-formed-with ruling applies n rows s (o .0), go (s .standing))
     where
@@ -115,7 +135,9 @@ module _ (n : ℕ) (p : ℕ → Bool) (rows : List Row) (may : (v : ℕ) → occ
   follow-falls s (Unit v positive) w o = assign-falls s v positive (unit-settable n rows (s .t) (s .f) w)
   follow-falls s (Choice v) w o = choice-falls s v (choice-settable n rows (s .t) (s .f) w)
 
-  step-falls : (ruling : Ruling) → Applies ruling → (s : State) → Kept n p s → (k : ℕ) → potential n p s ≤ suc k → potential n p (stepWith ruling n rows s) ≤ k
+  -- and lowers the potential, by one at least
+  pub step-falls : (ruling : Ruling) → Applies ruling → (s : State) → Kept n p s → (k : ℕ) → potential n p s ≤ suc k
+      → potential n p (stepWith ruling n rows s) ≤ k
   unfolding stepWith
   step-falls ruling applies s o k = go (s .standing) refl
     where
@@ -124,18 +146,26 @@ module _ (n : ℕ) (p : ℕ → Bool) (rows : List Row) (may : (v : ℕ) → occ
       go Satisfied e h = rw e (omega arith)
       go Refuted e h = rw e (omega arith)
 
+-- ---- from fresh
+
+module _ (n : ℕ) (last : List Row) where
+  -- the fresh state keeps it
+  pub fresh-kept : Kept n (occurs n last) fresh
+  fresh-kept = (fresh-formed n, refl)
+
+  -- and has at most so many steps before it
+  pub fresh-most : potential n (occurs n last) fresh ≤ 2 ^ suc (occurring n last) - 1
+  unfolding leftOver occurring
+  fresh-most =
+      let p : 2 ^ suc (among n (occurs n last) 0 0) ≤ 2 ^ suc (occurring n last) = pow-mono (omega (arith, free-le (occurs n last) n 0 0)) in omega arith
+
 -- ---- so it reaches 0, and no open state has potential 0
 
 module _ (ruling : Ruling) (applies : Applies ruling) where
   closes : (n : ℕ) (p : ℕ → Bool) (k : ℕ) (rows : ℕ → List Row) → ((i : ℕ) → i < k → (v : ℕ) → occurs n (rows i) v ≡ true → p v ≡ true)
       → (s : State) → Kept n p s → potential n p s ≤ k → afterWith ruling n rows k s .standing ≡ Open → ⊥
   unfolding afterWith
-  closes n p zero rows may s o h = go (s .standing) h
-    where
-      go : (st : Standing) → potentialAt p n s st ≤ 0 → st ≡ Open → ⊥
-      go Open h e = omega (arith, pow-suc 2 (among n p (s .t) (s .f)), pow-pos (among n p (s .t) (s .f)))
-      go Satisfied h e = let z : _≡_ {A = ℕ} 0 1 = cc in omega arith
-      go Refuted h e = let z : _≡_ {A = ℕ} 0 1 = cc in omega arith
+  closes n p zero rows may s o h = λ e. omega (arith, open-some n p s e)
   closes n p (suc k) rows may s o h =
       closes n p k (later rows) (λ i b. may (suc i) (suc-le-suc b)) (stepWith ruling n (rows 0) s)
       (step-kept n p (rows 0) (may 0 (omega arith)) ruling applies s o) (step-falls n p (rows 0) (may 0 (omega arith)) ruling applies s o k h)
@@ -144,10 +174,7 @@ module _ (ruling : Ruling) (applies : Applies ruling) where
   pub after-closes : (n : ℕ) (last : List Row) (k : ℕ) (rows : ℕ → List Row)
       → ((i : ℕ) → i < k → (v : ℕ) → occurs n (rows i) v ≡ true → occurs n last v ≡ true)
       → 2 ^ suc (occurring n last) - 1 ≤ k → afterWith ruling n rows k fresh .standing ≡ Open → ⊥
-  unfolding leftOver occurring
-  after-closes n last k rows may h =
-      let p : 2 ^ suc (among n (occurs n last) 0 0) ≤ 2 ^ suc (occurring n last) = pow-mono (omega (arith, free-le (occurs n last) n 0 0)) in
-      closes n (occurs n last) k rows may fresh (fresh-formed n, refl) (omega arith)
+  after-closes n last k rows may h = closes n (occurs n last) k rows may fresh (fresh-kept n last) (omega (arith, fresh-most n last))
 
 -- and there are at most n such variables
 pub occurring-le : (n : ℕ) (last : List Row) → occurring n last ≤ n

@@ -52,9 +52,11 @@ module _ (d : Dimensions) (tables : Tables) (acc : Accepts d tables) (times : �
       ∙ repeats-are d attempts (λ i. tables) (λ i. acc) times s formed o
       ∙ ap (repeated d (λ i. tables) s) (omega (arith, all-long d (whole d bytes wires) long times, run-of (d .n) rows times s .most))
 
+  -- it makes as many repeats
   pub call-count : length calls ≡ taken
   call-count = ap length is ∙ repeated-length d (λ i. tables) s taken
 
+  -- the last of which returned the run of the state after them
   pub call-run : lastRun (runOf (d .n) s) calls ≡ runOf (d .n) (after (d .n) rows taken s)
   call-run = ap (lastRun (runOf (d .n) s)) is ∙ repeated-last d (λ i. tables) s taken
 

@@ -127,6 +127,11 @@ module _ (d : Dimensions) (tables : ℕ → Tables) (acc : AllAccepts d tables) 
       each = λ i none b. ap (λ (h : List Repeat). getD h i none) is ∙ repeated-at d tables fresh k i none (omega (arith, size));
     }
 
+    -- however many attempts there are, no more repeats than the run takes steps
+    pub repeats-few : length whole ≤ answerFor d tables budget .count
+    unfolding answerOf
+    repeats-few = omega (arith, size)
+
     -- repeats that are fewer than the steps have not ended
     unended : k < final .steps → repeatsEnded budget whole ≡ false
     unended h =

@@ -31,6 +31,7 @@ closed-open Open e = refl
 closed-open Satisfied e = absurd (true≢false e)
 closed-open Refuted e = absurd (true≢false e)
 
+-- an open standing is not closed
 pub open-closed : {st : Standing} → st ≡ Open → ifOpen st false true ≡ false
 open-closed e = ap (λ (x : Standing). ifOpen x false true) e
 

@@ -178,6 +178,7 @@ module _ (d : Dimensions) (tables : Tables) (run : Run) (c : Condition) where
         low = not-false (lowRow (d .n) (c .row)) (check-passed (not (lowRow (d .n) (c .row))) RowBit Taken e₂);
       }
 
+  -- a condition that passes all checks has accepted tables and a well-formed run beside it
   pub late-parts : outcome (lateChecks d tables run c) ≡ Taken → Allowed d tables run c
   late-parts e =
       let first = outcome-parts (tableChecks d tables) (stateChecks d run ++ conditionChecks d tables run c) e in
@@ -186,10 +187,12 @@ module _ (d : Dimensions) (tables : Tables) (run : Run) (c : Condition) where
 
   -- ---- the tables afterwards
 
+  -- where it is taken, the tables have the row in its place
   pub after-taken : outcome (lateChecks d tables run c) ≡ Taken → tablesAfter d tables run c ≡ replacedIn d tables c
   unfolding tablesAfter
   after-taken e = rw e
 
+  -- where it is refused, they are as they were
   pub after-refused : (r : Refusal) → outcome (lateChecks d tables run c) ≡ Refused r → tablesAfter d tables run c ≡ tables
   unfolding tablesAfter
   after-refused r e = rw e

@@ -161,6 +161,7 @@ module _ (d : Dimensions) (tables : Tables) (index : List ℕ) (run : Run) (numb
         condition-decides d tables run c tables-taken (stateChecks d run) state-taken
         ∙ sym (condition-decides d tables run c tables-taken asked asked-taken)
 
+    -- the tables are those of the condition without index and number
     pub tables-alike : tablesAfter d tables run c ≡ tablesThen d tables index run number c
     unfolding tablesAfter tablesThen
     tables-alike = ap (λ (o : Outcome). given o (replacedIn d tables c) (λ r. tables)) decided-alike
