@@ -36,9 +36,9 @@
 /* The version, as CHANGES.md numbers it. While the first number is 0, parameters and buffers may change with the second: read there what
  * did, and compile the host anew. With the third they never change. The shared library's soname has the first two. */
 #define FORKHEMIT_VERSION_MAJOR 0
-#define FORKHEMIT_VERSION_MINOR 11
+#define FORKHEMIT_VERSION_MINOR 12
 #define FORKHEMIT_VERSION_PATCH 0
-/* The same as one number that grows, for #if: 0.11.0 is 1100. */
+/* The same as one number that grows, for #if: 0.12.0 is 1200. */
 #define FORKHEMIT_VERSION (FORKHEMIT_VERSION_MAJOR * 10000 + FORKHEMIT_VERSION_MINOR * 100 + FORKHEMIT_VERSION_PATCH)
 
 /* The most bytes that a DIMACS text may have, remarks included, and that a proof may have: one byte more of a file is all that a host need
@@ -152,7 +152,8 @@ uint8_t forkhemit_step(uint64_t n, uint64_t left_rows, uint64_t right_rows, uint
                        const uint32_t *left, size_t left_length, const uint32_t *right, size_t right_length,
                        const uint32_t *public_table, size_t public_length, uint32_t run[FORKHEMIT_RUN_WORDS]);
 
-/* A fresh run until it closes or the budget of steps is spent; 2^(n+1) - 1 steps are always enough.
+/* A fresh run until it closes or the budget of steps is spent; 2^(k+1) - 1 steps are always enough, k being the number of variables in rows
+ * that are no padding, at most n; one step where k is 0.
  * answer: steps taken, verdict (forkhemit_verdict), model as a word, 0 without one.
  * Every call begins afresh and keeps nothing. To go on where a budget ended, keep a run of your own, forkhemit_fresh's, and give it more
  * steps with forkhemit_continue, or more repeats with forkhemit_repeat: it goes on from where it stands, and the counts add up.
@@ -217,8 +218,8 @@ uint8_t forkhemit_solve_indexed(uint64_t n, uint64_t left_rows, uint64_t right_r
  * closed already, it stays as it is. continued: how many steps were taken; 1 if the run is closed then, else 0.
  * Between two calls a host may show how far it is, stop, or take late conditions, and then call again: `a` times and then `b` times leave
  * the run that `a + b` times leave, and the numbers of steps add up. From the fresh run by a budget they are forkhemit_solve's count, and
- * word 1 of the run is its verdict. Each call judges tables and run, and makes its index, once: let it take some hundred steps or more.
- * 1, 2, 4, 3, 12, 13. */
+ * word 1 of the run is its verdict; slices that add up to 2^(k+1) - 1 close it. Each call judges tables and run, and makes its index, once:
+ * let it take some hundred steps or more. 1, 2, 4, 3, 12, 13. */
 uint8_t forkhemit_continue(uint64_t n, uint64_t left_rows, uint64_t right_rows, uint64_t public_rows,
                            const uint32_t *left, size_t left_length, const uint32_t *right, size_t right_length,
                            const uint32_t *public_table, size_t public_length, uint64_t times,
@@ -238,7 +239,7 @@ uint8_t forkhemit_step_weighted(uint64_t n, uint64_t left_rows, uint64_t right_r
                                 const uint32_t *left, size_t left_length, const uint32_t *right, size_t right_length,
                                 const uint32_t *public_table, size_t public_length, uint32_t run[FORKHEMIT_RUN_WORDS]);
 
-/* A fresh run by such steps until it closes or the budget is spent; 2^(n+1) - 1 steps are always enough. It keeps an index as
+/* A fresh run by such steps until it closes or the budget is spent; as many are always enough as for forkhemit_solve. It keeps an index as
  * forkhemit_solve_indexed does, and reads rows to weigh only where it chooses, the unsatisfied ones.
  * answer: steps taken, verdict (forkhemit_verdict), model as a word, 0 without one. 1, 2, 4, 3. */
 uint8_t forkhemit_solve_weighted(uint64_t n, uint64_t left_rows, uint64_t right_rows, uint64_t public_rows,
@@ -257,8 +258,8 @@ uint8_t forkhemit_continue_weighted(uint64_t n, uint64_t left_rows, uint64_t rig
 /*
  * While its run is open, a station may put another row in the place of one of its own padding rows.
  * Steps and repeats read the tables as they stand when they begin, so call these between two of them, never during one. Satisfiable and
- * unsatisfiable are then about the tables as they are when the run closes, and 2^(n+1) - 1 steps from the fresh run are still enough. Row
- * counts do not change, so neither does the circuit: leave padding rows in the tables from the start.
+ * unsatisfiable are then about the tables as they are when the run closes, and 2^(k+1) - 1 steps from the fresh run are still enough, with
+ * k by these tables. Row counts do not change, so neither does the circuit: leave padding rows in the tables from the start.
  *   station   0 the left one, 1 the right one
  *   row       its number, from 1 over all tables: the left rows, then the right ones, then the public ones, which nobody replaces
  */

@@ -1,5 +1,6 @@
 //! Calls of the library as data: the function, its numbers and the memory that it is lent; and how one is made.
 
+use crate::steps;
 use forkhemit_tests::model::Size;
 use std::fmt;
 
@@ -325,7 +326,9 @@ impl Call {
     pub fn make(&self, guard: usize) -> Result<Given, String> {
         let mut rooms: Vec<Room> = self.lent.iter().map(|lent| Room::new(lent, guard)).collect();
         let number = self.pass(&mut rooms);
-        Ok(Given { number, lent: rooms.into_iter().map(Room::back).collect::<Result<_, _>>()? })
+        let given = Given { number, lent: rooms.into_iter().map(Room::back).collect::<Result<_, _>>()? };
+        steps::bounded(self, &given)?;
+        Ok(given)
     }
 
     /// Hands numbers, pointers and lengths to the function.

@@ -8,7 +8,7 @@ use forkhemit_tests::memory;
 use forkhemit_tests::model::{Row, Run, Size};
 use forkhemit_tests::random::Random;
 use forkhemit_tests::report::{Ledger, Tally};
-use forkhemit_tests::states;
+use forkhemit_tests::{states, steps};
 
 const SEED: u64 = 1_707_000;
 /// How many plain steps stand beside a run from the fresh state, and beside one that is handed over.
@@ -121,6 +121,7 @@ impl<'a> Steps<'a> {
             _ => 0,
         };
         let expected = [self.count(), last[1].into(), model];
+        steps::hold(self.rows, self.count(), self.count(), !self.closes())?;
         let budgets = if self.closes() { vec![self.count(), u64::MAX] } else { vec![self.count()] };
         for (function, budget) in budgets.iter().flat_map(|&b| [(Function::Solve, b), (Function::SolveIndexed, b)]) {
             let lent = [&self.tables[..], &[Lent::Numbers(vec![7; 3])]].concat();

@@ -10,7 +10,7 @@ use forkhemit_tests::model::{self, Condition, Row, Run, Size, Standing};
 use forkhemit_tests::process;
 use forkhemit_tests::random::Random;
 use forkhemit_tests::report::{Ledger, Tally};
-use forkhemit_tests::{layout, states, tables};
+use forkhemit_tests::{layout, states, steps, tables};
 
 const SEED: u64 = 606_000;
 /// How many variables, and how many rows in the three tables; with so many runs each, followed for so many steps.
@@ -185,11 +185,7 @@ impl<'a> Ways<'a> {
     fn close(&mut self, satisfiable: bool) -> Result<(), String> {
         self.catch_up()?;
         let live: Vec<&Row> = self.rows.iter().filter(|row| !model::padding(row)).collect();
-        let occurs = |v: i64| live.iter().any(|row| row.contains(&v) || row.contains(&-v));
-        let variables = (1..=self.size.n as i64).filter(|&v| occurs(v)).count() as u32;
-        if self.steps > 2u64.pow(variables + 1) - 1 {
-            return Err(format!("{} steps with {variables} variables", self.steps));
-        }
+        steps::hold(&self.rows, self.steps, self.steps, false)?;
         if satisfiable != (self.run.standing == Standing::Satisfied) {
             return Err(format!("{:?}, and that they are satisfiable is {satisfiable}", self.run.standing));
         }

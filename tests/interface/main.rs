@@ -1,7 +1,7 @@
 //! Tests of the library as hosts call it. Use: interface CALLS [exact]
 //! Every refusal as it was written by hand, alone and two at once, then calls at the limits of size, then rows of every shape judged and
-//! counted, then runs with index and number beside the plain ones, then runs continued in slices, then runs with the weighted choice, then runs
-//! whose steps tell their rules, then clauses by their own bytes, then steps where several literals are forced, then runs in which rows are replaced, whose verdicts are
+//! counted, then runs with index and number beside the plain ones, then runs continued in slices, then runs with the weighted choice, then the
+//! tables that take most steps, then runs whose steps tell their rules, then clauses by their own bytes, then steps where several literals are forced, then runs in which rows are replaced, whose verdicts are
 //! held to another solver's, then proofs that other solvers wrote, as they are and damaged, then runs through
 //! a whole budget, then games of two sides, held to all their
 //! plans and to another solver's verdicts, then random calls over all functions: each result and every lent buffer is held to the model.
@@ -22,6 +22,7 @@ mod judged;
 mod late;
 mod proofs;
 mod refusals;
+mod steps;
 mod ties;
 mod weighted;
 mod whole;
@@ -155,6 +156,7 @@ fn main() -> ExitCode {
     total.add(weighted::runs(guard));
     total.add(weighted::handed_over(guard));
     total.add(weighted::solved(guard));
+    total.add(steps::fullest(guard));
     total.add(explained::written(&circuits, guard));
     total.add(explained::runs(&circuits, guard));
     total.add(explained::handed_over(&circuits, guard));
@@ -181,6 +183,7 @@ fn main() -> ExitCode {
     }
     total.add(drawn(count, &circuits, guard));
     total.add(circuits.close());
+    total.add(forkhemit_tests::steps::close());
     println!("{} passed, {} failed", total.passed, total.failed);
     if total.failed == 0 {
         ExitCode::SUCCESS

@@ -8,7 +8,7 @@ use crate::process::{Room, Source, NAMES, NO_FILES};
 use crate::random::Random;
 use crate::report::{self, Ledger, Tally};
 use crate::ties::{self, Tied};
-use crate::{counts, damage, states, tables, wires};
+use crate::{counts, damage, states, steps, tables, wires};
 use std::collections::BTreeMap;
 use std::fs;
 use std::path::Path;
@@ -181,6 +181,9 @@ fn runs(circuit: &Circuit, n: usize, cases: &[(Vec<Row>, u64)], ledger: &Ledger)
             return Some(format!(
                 "rows {rows:?}, budget {budget}: the repeats give {answer:?}, the model {expected:?}"
             ));
+        }
+        if let Err(failure) = steps::hold(rows, *budget, answer.steps, answer.standing == Standing::Open) {
+            return Some(failure);
         }
         ledger.kind(&format!("runs {:?}", answer.standing).to_lowercase(), 1);
     }

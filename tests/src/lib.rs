@@ -32,6 +32,7 @@ pub mod seen;
 pub mod source;
 pub mod statements;
 pub mod states;
+pub mod steps;
 pub mod symbols;
 pub mod tables;
 pub mod ties;

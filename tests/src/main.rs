@@ -10,8 +10,8 @@
 use forkhemit_tests::process::{self, Source};
 use forkhemit_tests::report::{self, Tally};
 use forkhemit_tests::{
-    assumed, cases, ceilings, circuits, citations, claims, contracts, damage, edits, hosts, model, pictures, published,
-    statements, symbols, tables, ties, whole,
+    assumed, cases, ceilings, circuits, citations, claims, contracts, damage, edits, hosts, pictures, published,
+    statements, steps, symbols, tables, ties, whole,
 };
 use std::path::Path;
 use std::process::ExitCode;
@@ -34,7 +34,7 @@ fn pair_tests(program: &Path, own: &Path) -> std::io::Result<Tally> {
     };
     let mut total = Tally::default();
     for group in groups {
-        total.add(report::run(&group, program, model::answered, solver)?);
+        total.add(report::run(&group, program, &report::PAIR, solver)?);
     }
     Ok(total)
 }
@@ -74,6 +74,9 @@ fn all(arguments: &[String]) -> std::io::Result<Tally> {
     let pair = programs.iter().map(Path::new).find(|program| program.ends_with("pair"));
     for program in programs {
         total.add(program_tests(Path::new(program), pair)?);
+    }
+    if !programs.is_empty() {
+        total.add(steps::close());
     }
     Ok(total)
 }

@@ -496,14 +496,10 @@ pub fn refused(number: u8) -> String {
     format!("c refused {number}\ns UNKNOWN\n")
 }
 
-/// The pair program's answer to these files and this standard input.
-pub fn answered(texts: [Option<&[u8]>; 3], input: &[u8]) -> Result<Answer, u8> {
-    pair(texts, input).map(|read| run(read.size.n, &read.rows, read.budget))
-}
-
 /// What the pair program prints for these files and this standard input.
 pub fn output(texts: [Option<&[u8]>; 3], input: &[u8]) -> String {
-    answered(texts, input).map_or_else(refused, |answer| printed(&answer))
+    let answer = pair(texts, input).map(|read| run(read.size.n, &read.rows, read.budget));
+    answer.map_or_else(refused, |answer| printed(&answer))
 }
 
 // ---- The whole program
@@ -523,11 +519,6 @@ pub fn whole(texts: [Option<&[u8]>; 3], input: &[u8]) -> Result<Read, u8> {
         return Err(7);
     }
     Ok(read)
-}
-
-/// The whole program's answer to these files and this standard input.
-pub fn answered_whole(texts: [Option<&[u8]>; 3], input: &[u8]) -> Result<Answer, u8> {
-    whole(texts, input).map(|read| run_whole(read.size.n, &read.rows, read.budget))
 }
 
 // ---- The circuit program

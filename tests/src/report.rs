@@ -1,8 +1,9 @@
 //! The counting of tests and their running on two threads; a test of a program that reads three files and a budget.
 
 use crate::layout;
-use crate::model::{self, Answer, Row, Standing};
+use crate::model::{self, Answer, Read, Row, Standing};
 use crate::process::{Input, Ran, Room, Source, NAMES};
+use crate::steps;
 use std::collections::{BTreeMap, BTreeSet};
 use std::path::Path;
 use std::sync::atomic::{AtomicUsize, Ordering};
@@ -12,8 +13,29 @@ const THREADS: usize = 2;
 const SHOWN_FAILURES: usize = 10;
 const SHOWN_BYTES: usize = 3_000;
 
-/// The model's answer to three texts and a standard input, or the number of the refusal: that of the program which is tested.
-pub type Model = fn([Option<&[u8]>; 3], &[u8]) -> Result<Answer, u8>;
+/// What a program is held to.
+pub struct Model {
+    /// What it reads of three texts and a standard input, or the number of the refusal.
+    pub read: fn([Option<&[u8]>; 3], &[u8]) -> Result<Read, u8>,
+    /// Its answer over n variables, rows and a budget.
+    pub run: fn(usize, &[Row], u64) -> Answer,
+    /// Where a printed count, and whether the verdict is unknown, break the bound by the variables that occur.
+    pub bound: fn(&Read, u64, bool) -> Result<(), String>,
+}
+
+/// The pair program.
+pub const PAIR: Model = Model {
+    read: model::pair,
+    run: model::run,
+    bound: |read, steps, open| steps::hold(&read.rows, read.budget, steps, open),
+};
+
+/// The whole program, whose count is the budget.
+pub const WHOLE: Model = Model {
+    read: model::whole,
+    run: model::run_whole,
+    bound: |read, _, open| steps::decided(&read.rows, read.budget, open),
+};
 
 /// Files and standard input for a program, and what else is known of the answer.
 #[derive(Clone)]
@@ -132,7 +154,7 @@ pub fn spread<const N: usize>(
 }
 
 /// Runs a group's tests and prints what it came to.
-pub fn run(group: &Group, program: &Path, model: Model, solver: &str) -> std::io::Result<Tally> {
+pub fn run(group: &Group, program: &Path, model: &Model, solver: &str) -> std::io::Result<Tally> {
     let ledger = Ledger::default();
     spread([program], group.count, |number, [room]| {
         for test in (group.make)(number) {
@@ -145,8 +167,10 @@ pub fn run(group: &Group, program: &Path, model: Model, solver: &str) -> std::io
 }
 
 /// The kind of answer that the model gives, and what is wrong with the program's.
-fn judge(test: &Test, room: &Room, model: Model, solver: &str) -> (String, Option<String>) {
-    let answer = model(test.texts(), &test.input);
+fn judge(test: &Test, room: &Room, model: &Model, solver: &str) -> (String, Option<String>) {
+    let read = (model.read)(test.texts(), &test.input);
+    let answer = read.as_ref().map_err(|&number| number);
+    let answer = answer.map(|read| (model.run)(read.size.n, &read.rows, read.budget));
     let (kind, output) = match &answer {
         Ok(answer) => (format!("{:?}", answer.standing).to_lowercase(), model::printed(answer)),
         Err(number) => (format!("refused {number}"), model::refused(*number)),
@@ -158,15 +182,28 @@ fn judge(test: &Test, room: &Room, model: Model, solver: &str) -> (String, Optio
     };
     let failure = match ran {
         Err(error) => Some(format!("it could not be run: {error}")),
-        Ok(ran) => wrong(test, &ran, &output).or_else(|| match (&test.made, &answer) {
-            (Some(_), Err(number)) => Some(format!("an accepted pair is refused with {number}")),
-            (Some(made), Ok(answer)) if answer.standing != Standing::Open => {
-                unlike_others(made, &ran.output, room, solver)
+        Ok(ran) => wrong(test, &ran, &output).or_else(|| unbounded(model, &read, &ran)).or_else(|| {
+            match (&test.made, &answer) {
+                (Some(_), Err(number)) => Some(format!("an accepted pair is refused with {number}")),
+                (Some(made), Ok(answer)) if answer.standing != Standing::Open => {
+                    unlike_others(made, &ran.output, room, solver)
+                }
+                _ => None,
             }
-            _ => None,
         }),
     };
     (kind, failure)
+}
+
+/// Where the printed count breaks the bound by the variables that occur.
+fn unbounded(model: &Model, read: &Result<Read, u8>, ran: &Ran) -> Option<String> {
+    let read = read.as_ref().ok()?;
+    let output = String::from_utf8_lossy(&ran.output);
+    let steps = output.lines().find_map(|line| line.strip_prefix("c steps ")?.parse().ok());
+    match steps {
+        None => Some("it prints no count".into()),
+        Some(steps) => (model.bound)(read, steps, output.contains("UNKNOWN")).err(),
+    }
 }
 
 /// What is wrong with a run, `output` being the model's.

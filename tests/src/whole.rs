@@ -251,7 +251,7 @@ pub fn run(program: &Path, pair: &Path, own: &Path, linked_statically: bool) -> 
     }
     let mut total = Tally::default();
     for group in groups {
-        total.add(report::run(&group, program, model::answered_whole, solver)?);
+        total.add(report::run(&group, program, &report::WHOLE, solver)?);
     }
     total.add(if linked_statically { seen::run(program, pair)? } else { every_size(program, pair)? });
     Ok(total)
