@@ -1,0 +1,10 @@
+pub mod Storing
+pub mod Buffers
+pub mod Inverse
+pub mod Restoring
+pub mod Strays
+pub mod Round
+pub mod Trips
+pub mod Examples
+pub mod Places
+pub mod Consequences
