@@ -34,7 +34,7 @@ lib: target/lib/libforkhemit.a
 
 # what the library has, a crate for each group of functions
 HOSTS := host_runs host_indexed host_solve host_late host_explained host_circuits host_repeats host_texts host_excerpts host_lines
-HOSTS += host_proofs host_game host_weighted host_whole
+HOSTS += host_proofs host_game host_weighted host_whole host_columns
 
 # One after the other: two calls of `rt staticlib` at once spoil each other's notes on the crates that both use. In the crates' object files
 # all names are local but those of the functions that hosts call, so the files stand side by side in one archive.
@@ -144,6 +144,8 @@ bench: target/static/pair target/static/whole target/lib/libforkhemit.a
 	tests/target/release/bench-whole target/static/whole target/static/pair
 	rustc -O --edition 2021 tests/bench/evaluator.rs -L native=target/lib -l static=forkhemit -o target/bench-evaluator
 	target/bench-evaluator
+	rustc -O --edition 2021 tests/bench/columns.rs -L native=target/lib -l static=forkhemit -o target/bench-columns
+	target/bench-columns
 
 checktime:
 	tests/checktime.sh

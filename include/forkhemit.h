@@ -1,7 +1,7 @@
 /*
  * Forkhemit for hosts in C and C++: two stations' clause tables and the public one, the giant step, its circuit and the texts.
  * Every function is proved to meet its contract, which stands in crates/host_runs, host_indexed, host_solve, host_weighted, host_late, host_explained,
- * host_circuits, host_repeats, host_whole, host_texts, host_excerpts, host_lines, host_proofs and host_game.
+ * host_circuits, host_repeats, host_whole, host_texts, host_excerpts, host_lines, host_proofs, host_game and host_columns.
  * `make lib` writes the archive to link, target/lib/libforkhemit.a, for x86-64 Linux; it needs C's memcpy and memset and nothing else. docs/GUIDE.md
  * has the calls in the order in which a host makes them, examples/host hosts in C, in Rust and in Python.
  *
@@ -36,15 +36,15 @@
 /* The version, as CHANGES.md numbers it. While the first number is 0, parameters and buffers may change with the second: read there what
  * did, and compile the host anew. With the third they never change. The shared library's soname has the first two. */
 #define FORKHEMIT_VERSION_MAJOR 0
-#define FORKHEMIT_VERSION_MINOR 12
+#define FORKHEMIT_VERSION_MINOR 13
 #define FORKHEMIT_VERSION_PATCH 0
-/* The same as one number that grows, for #if: 0.12.0 is 1200. */
+/* The same as one number that grows, for #if: 0.13.0 is 1300. */
 #define FORKHEMIT_VERSION (FORKHEMIT_VERSION_MAJOR * 10000 + FORKHEMIT_VERSION_MINOR * 100 + FORKHEMIT_VERSION_PATCH)
 
 /* The most bytes that a DIMACS text may have, remarks included, and that a proof may have: one byte more of a file is all that a host need
  * read. */
 #define FORKHEMIT_TEXT_BYTES 65536
-/* The words of a table of 128 rows, which are enough for any table. */
+/* The words of a table of 128 rows, which are enough for any table, and for the planes of any. */
 #define FORKHEMIT_TABLE_WORDS 256
 /* Bytes that take any one line of the circuit text. */
 #define FORKHEMIT_LINE_BYTES 128
@@ -66,7 +66,7 @@ enum forkhemit_refusal_number {
     FORKHEMIT_VARIABLES = 1,        /* n outside 1 to 32 */
     FORKHEMIT_ROW_COUNT = 2,        /* a station's row count outside 1 to 128, or a public one above 128 */
     FORKHEMIT_ROW_BIT = 3,          /* a row bit at or above n */
-    FORKHEMIT_ROW_BUFFER = 4,       /* a row buffer shorter than 2 * rows words */
+    FORKHEMIT_ROW_BUFFER = 4,       /* a row buffer shorter than 2 * rows words, or planes shorter than their squares */
     FORKHEMIT_TEXT = 5,             /* malformed or overlong DIMACS text */
     FORKHEMIT_TEXTS_DIFFER = 6,     /* two of the texts differ in n */
     FORKHEMIT_GATE_BUFFER = 7,      /* gate buffer below three words for each gate of the ceiling */
@@ -85,7 +85,8 @@ enum forkhemit_refusal_number {
     FORKHEMIT_NO_EMPTY_CLAUSE = 20, /* no empty clause added */
     FORKHEMIT_GAME_VARIABLES = 21,  /* a game of more than 12 variables */
     FORKHEMIT_LINE_VARIABLES = 22,  /* a variable on the lines of a game's text twice or outside 1 to n */
-    FORKHEMIT_WHOLE_BUDGET = 23     /* a budget above 65,535 that is to be gone through whole */
+    FORKHEMIT_WHOLE_BUDGET = 23,    /* a budget above 65,535 that is to be gone through whole */
+    FORKHEMIT_PLANE_BITS = 24       /* a bit in the planes beyond the row count or beyond n */
 };
 
 /*
@@ -350,6 +351,19 @@ uint8_t forkhemit_check_proof(uint64_t n, uint64_t left_rows, uint64_t right_row
  * answer: the winner, one of forkhemit_side; the first variable in that order, from 1, where the winner fixes it, else 0; a value with which
  * the winner still wins, 1 if both serve, 0 where there is no variable. 5 for an overlong text, then 1, 2, 21, 5, 22. */
 uint8_t forkhemit_game(const uint8_t *text, size_t text_length, uint64_t answer[3]);
+
+/* ---- a table by columns */
+
+/* planes: one table of 0 to 128 rows in squares of 32 rows by 32 variables, so that a word holds one variable over 32 rows. A square is 64 words,
+ * 32 of its positive plane and then 32 of its negative one, variable 1's word first in each, the first row in the lowest bit; squares follow
+ * in row order, (rows + 31) / 32 of them, and rows past the last are zero bits. Counted from 0, variable v of row r is bit r % 32 of word
+ * 64 * (r / 32) + v where it is positive, and of the word 32 further on where it is negative. No rows have no square. Words past the squares
+ * stay, and words of the table past its rows are not looked at. 1, 2 (above 128), 4 for either buffer, 3. */
+uint8_t forkhemit_columns(uint64_t n, uint64_t rows, const uint32_t *table, size_t table_length, uint32_t *planes, size_t planes_length);
+
+/* table: the rows of such planes, two words a row: the inverse of forkhemit_columns, for every table and for all planes that are taken. Words
+ * past the rows stay, and words of the planes past the squares are not looked at. 1, 2 (above 128), 4 for either buffer, 24. */
+uint8_t forkhemit_rows(uint64_t n, uint64_t rows, const uint32_t *planes, size_t planes_length, uint32_t *table, size_t table_length);
 
 /* ---- the circuit */
 

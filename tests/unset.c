@@ -51,6 +51,14 @@ int main(void)
     TAKEN(forkhemit_count_free(TABLES, run, counts, 6));
     same(memcmp(counts, "\2\2\2\2\2\2", 6) == 0, "free literals counted");
 
+    /* the left table by columns and back: three rows, one square */
+    UNSET(uint32_t, planes, FORKHEMIT_TABLE_WORDS);
+    UNSET(uint32_t, again, 6);
+    TAKEN(forkhemit_columns(d[0], d[1], left, FORKHEMIT_TABLE_WORDS, planes, FORKHEMIT_TABLE_WORDS));
+    same(planes[0] == 1 && planes[1] == 5 && planes[2] == 2 && planes[32] == 2 && planes[33] == 4 && planes[63] == 0, "a table by columns");
+    TAKEN(forkhemit_rows(d[0], d[1], planes, FORKHEMIT_TABLE_WORDS, again, 6));
+    same(memcmp(left, again, 6 * sizeof *left) == 0, "its rows again");
+
     /* the answer, by the scan and with an index; a step of each */
     UNSET(uint64_t, answer, 3);
     TAKEN(forkhemit_solve(TABLES, 1000, answer));

@@ -59,6 +59,8 @@ mod library {
             left_text_length: usize, right_text: *const u8, right_text_length: usize, row: u64, bytes: *mut u8, bytes_length: usize,
             length: *mut u64) -> u8;
         pub fn forkhemit_game(text: *const u8, text_length: usize, answer: *mut u64) -> u8;
+        pub fn forkhemit_columns(n: u64, rows: u64, table: *const u32, table_length: usize, planes: *mut u32, planes_length: usize) -> u8;
+        pub fn forkhemit_rows(n: u64, rows: u64, planes: *const u32, planes_length: usize, table: *mut u32, table_length: usize) -> u8;
         pub fn forkhemit_model(run: *const u32, model: *mut u64) -> u8;
         pub fn forkhemit_check_proof(n: u64, left_rows: u64, right_rows: u64, public_rows: u64, left: *const u32, left_length: usize,
             right: *const u32, right_length: usize, public_table: *const u32, public_length: usize, text: *const u8, text_length: usize) -> u8;
@@ -119,6 +121,8 @@ pub enum Function {
     Clause,
     Excerpt,
     Game,
+    Columns,
+    Rows,
     Model,
     CheckProof,
     Generate,
@@ -133,7 +137,7 @@ pub enum Function {
     Answer,
 }
 
-pub const ALL: [Function; 34] = [
+pub const ALL: [Function; 36] = [
     Function::Sizes,
     Function::ReadTables,
     Function::Accept,
@@ -156,6 +160,8 @@ pub const ALL: [Function; 34] = [
     Function::Clause,
     Function::Excerpt,
     Function::Game,
+    Function::Columns,
+    Function::Rows,
     Function::Model,
     Function::CheckProof,
     Function::Generate,
@@ -372,6 +378,8 @@ impl Call {
                 Function::Excerpt => forkhemit_excerpt(x(0), x(1), x(2), x(3), w(0), l(0), w(1), l(1), w(2), l(2), b(3), l(3), b(4), l(4),
                     x(4), b(5), l(5), n(6)),
                 Function::Game => forkhemit_game(b(0), l(0), n(1)),
+                Function::Columns => forkhemit_columns(x(0), x(1), w(0), l(0), w(1), l(1)),
+                Function::Rows => forkhemit_rows(x(0), x(1), w(0), l(0), w(1), l(1)),
                 Function::Model => forkhemit_model(w(0), n(1)),
                 Function::CheckProof => forkhemit_check_proof(x(0), x(1), x(2), x(3), w(0), l(0), w(1), l(1), w(2), l(2), b(3), l(3)),
                 Function::Generate => forkhemit_generate(x(0), x(1), x(2), x(3), w(0), l(0), n(1)),

@@ -5,7 +5,7 @@ use crate::circuits::Circuits;
 use forkhemit_tests::memory::{self, INDEX_WORDS, RUN_WORDS};
 use forkhemit_tests::model::{self, Row, Size, TEXT_LIMIT};
 use forkhemit_tests::random::Random;
-use forkhemit_tests::{damage, game, layout, proofs, states, tables, wires};
+use forkhemit_tests::{columns, damage, game, layout, proofs, states, tables, wires};
 
 /// Numbers at the limits, and numbers that look like others when they are cut to fewer bits.
 const ODD: [u64; 18] = [
@@ -485,6 +485,29 @@ fn proved(size: Size, random: &mut Random) -> Vec<Lent> {
     [lent_tables(size, &rows, random), vec![Lent::Bytes(text)]].concat()
 }
 
+/// So many rows of n variables as words, with many literals, few, or none.
+pub fn row_words(n: usize, rows: usize, random: &mut Random) -> Vec<u32> {
+    let (held, kind) = (u32::MAX >> (32 - n), random.below(4));
+    let word = |random: &mut Random| match kind {
+        0 => random.number() & random.number() & random.number(),
+        1 => one(&[0, u64::MAX, random.number()], random),
+        _ => random.number(),
+    };
+    (0..2 * rows).map(|_| word(random) as u32 & held).collect()
+}
+
+/// A row count from 0 on, and a table or planes with room for the other of the two.
+fn by_columns(function: Function, size: Size, random: &mut Random) -> (Vec<u64>, Vec<Lent>) {
+    let rows = one(&[0, size.left, size.right, size.public, 128, random.between(0, 128)], random);
+    let numbers = vec![size.n as u64, rows as u64];
+    let (table, space) = (row_words(size.n, rows, random), 64 * columns::squares(rows));
+    if function == Function::Columns {
+        return (numbers, vec![words_with_more(table, random), words_for(space, random)]);
+    }
+    let planes = columns::planes(numbers[0], numbers[1], &table, space).expect("the table is accepted");
+    (numbers, vec![words_with_more(planes, random), words_for(2 * rows, random)])
+}
+
 /// A call that is right, but for what texts, line numbers and answers bring along.
 fn right(function: Function, circuits: &Circuits, random: &mut Random) -> Result<Call, String> {
     let size = match function {
@@ -545,6 +568,10 @@ pub fn of_size(function: Function, size: Size, circuits: &Circuits, random: &mut
         }
         Function::CheckProof => call(numbers(size), proved(size, random)),
         Function::Game => call(vec![], vec![game_text(size, random), numbers_for(3, random)]),
+        Function::Columns | Function::Rows => {
+            let (numbers, lent) = by_columns(function, size, random);
+            call(numbers, lent)
+        }
         Function::Model => {
             let run = memory::run_words(&states::random(size.n, random));
             call(vec![], vec![Lent::Run(run), numbers_for(1, random)])

@@ -3,6 +3,7 @@
 use crate::calls::{Call, Function, Given, Lent};
 use crate::circuits::Circuits;
 use forkhemit_tests::bristol::Gate;
+use forkhemit_tests::columns;
 use forkhemit_tests::game;
 use forkhemit_tests::memory;
 use forkhemit_tests::model::{self, Answer, Condition, Row, Run, Size, Ties};
@@ -111,6 +112,10 @@ impl Call {
             Function::Clause => self.clause(),
             Function::Excerpt => self.excerpt(),
             Function::Game => self.game(),
+            Function::Columns => columns::planes(self.numbers[0], self.numbers[1], self.words(0), self.words(1).len())
+                .map(|planes| vec![(1, Lent::Words(planes))]),
+            Function::Rows => columns::table(self.numbers[0], self.numbers[1], self.words(0), self.words(1).len())
+                .map(|table| vec![(1, Lent::Words(table))]),
             Function::Model => self.model(),
             Function::CheckProof => self.check_proof(),
             Function::Generate => match self.size().and_then(|size| self.room_for_gates(size, 0)) {

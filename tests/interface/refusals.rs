@@ -81,6 +81,26 @@ const PROOF: &[u8] = b"1 0\nd 1 2 0\n0\n";
 /// A game's text.
 const GAME_TEXT: &[u8] = b"p cnf 2 2\na 1 0\ne 2 0\n1 -2 0\n-1 2 0\n";
 
+/// A table of 33 rows by columns: (1 −2) and (2) first, and (−1) as row 33.
+const COLUMN_ROWS: u64 = 33;
+
+/// Its words.
+fn column_table() -> Vec<u32> {
+    let mut words = vec![0; 66];
+    words[..3].copy_from_slice(&[0b01, 0b10, 0b10]);
+    words[65] = 0b01;
+    words
+}
+
+/// Its two squares: in the first variable 1 is positive in row 1, variable 2 positive in row 2 and negative in row 1.
+fn column_planes() -> Vec<u32> {
+    let mut words = vec![0; 128];
+    words[..2].copy_from_slice(&[0b01, 0b10]);
+    words[33] = 0b01;
+    words[96] = 0b01;
+    words
+}
+
 /// A call of the function that is taken.
 fn base(function: Function, circuits: &Circuits) -> Result<Call, String> {
     let d = numbers(SIZE);
@@ -140,6 +160,8 @@ fn base(function: Function, circuits: &Circuits) -> Result<Call, String> {
         }
         // the universal side fixes 1, then the existential one 2
         Function::Game => (vec![], vec![Lent::Bytes(GAME_TEXT.to_vec()), numbers(3)]),
+        Function::Columns => (vec![2, COLUMN_ROWS], vec![Lent::Words(column_table()), words(128)]),
+        Function::Rows => (vec![2, COLUMN_ROWS], vec![Lent::Words(column_planes()), words(66)]),
         Function::Model => (vec![], vec![Lent::Run(satisfied), numbers(1)]),
         Function::CheckProof => {
             let tables = PROOF_TABLES.map(|table| Lent::Words(table.to_vec())).to_vec();
@@ -783,6 +805,46 @@ fn game(list: &mut Changes) {
     }
 }
 
+/// 1, 2 and 4 of a table and its planes: a row count from 0 on is taken.
+fn by_columns(list: &mut Changes) {
+    variables(list);
+    for rows in [129, 255, 256, 289, 65_569, (1 << 32) + 33, (1 << 63) + 33, u64::MAX] {
+        add(list, &format!("{rows} rows"), 2, number(1, rows));
+    }
+    for k in [0, 1] {
+        add(list, &format!("buffer {k} a word short"), 4, shorter(k));
+        add(list, &format!("buffer {k} with room for 32 rows"), 4, cut(k, 64));
+        add(list, &format!("buffer {k} empty"), 4, cut(k, 0));
+    }
+}
+
+/// 3, in the rows and not behind them.
+fn columns(list: &mut Changes) {
+    for at in [0, 1, 63, 64, 65] {
+        for bit in [2, 31] {
+            add(list, &format!("bit {bit} in word {at}"), 3, word(0, at, 1 << bit));
+        }
+    }
+}
+
+/// 24: a row past the last one, a variable past n.
+fn rows(list: &mut Changes) {
+    for (what, at, to) in [
+        ("variable 3 in the first row", 2, 0b01),
+        ("variable 3 negative in row 32", 34, 1 << 31),
+        ("variable 32 in the first row", 31, 0b01),
+        ("variable 32 negative in row 33", 127, 0b01),
+        ("variable 3 in row 33", 66, 0b01),
+        ("variable 1 in row 34", 64, 0b10),
+        ("variable 2 in row 64", 65, 1 << 31),
+        ("variable 1 negative in row 34", 96, 0b11),
+        ("variable 32 in row 64", 95, 1 << 31),
+    ] {
+        add(list, what, 24, word(0, at, to));
+    }
+    add(list, "a variable past n of a row past the last", 24, both(word(0, 2, 1), word(0, 64, 0b10)));
+}
+
 /// The changes of a function, with the number that each leads to.
 fn changes(function: Function) -> Changes {
     let groups: &[fn(&mut Changes)] = match function {
@@ -806,6 +868,8 @@ fn changes(function: Function) -> Changes {
         Function::Clause => &[sizes, tables, clause],
         Function::Excerpt => &[sizes, tables, excerpt],
         Function::Game => &[game],
+        Function::Columns => &[by_columns, columns],
+        Function::Rows => &[by_columns, rows],
         Function::Model => &[model_wanted],
         Function::CheckProof => &[sizes, tables, check_proof],
         Function::Generate => &[sizes, generate],
@@ -964,6 +1028,24 @@ fn harmless(function: Function) -> Vec<(String, Change)> {
                 ("65,536 bytes of a line", text(3, [&vec![b' '; TEXT_LIMIT - 5][..], b"1 0\n0"].concat())),
             ]
         }
+        Function::Columns => vec![
+            ("no rows and no words", both(number(1, 0), both(cut(0, 0), cut(1, 0)))),
+            ("no rows, and words of some", number(1, 0)),
+            (
+                "32 rows, one square and a bit at n behind them",
+                both(number(1, 32), both(cut(1, 64), word(0, 65, 1 << 31))),
+            ),
+            ("words behind rows and squares", both(longer(0, &[7, u32::MAX]), longer(1, &[7, u32::MAX]))),
+            ("n 32 and a full row", both(number(0, 32), word(0, 64, u32::MAX))),
+        ],
+        Function::Rows => vec![
+            ("no rows and no words", both(number(1, 0), both(cut(0, 0), cut(1, 0)))),
+            ("no rows, and planes of some", number(1, 0)),
+            ("32 rows, and a square behind them", both(number(1, 32), both(cut(1, 64), word(0, 64, u32::MAX)))),
+            ("words behind squares and rows", both(longer(0, &[7, u32::MAX]), longer(1, &[7, u32::MAX]))),
+            ("n 32 and variable 32 in row 33", both(number(0, 32), word(0, 95, 0b01))),
+            ("64 rows and a row 64", both(number(1, 64), both(longer(1, &[7; 62]), word(0, 64, 1 << 31)))),
+        ],
         Function::ReadTables => vec![
             ("no public rows", none()),
             ("no public rows and no words", both(none(), cut(5, 0))),

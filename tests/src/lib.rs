@@ -10,6 +10,7 @@ pub mod circuits;
 pub mod citations;
 pub mod claims;
 pub mod clock;
+pub mod columns;
 pub mod contracts;
 pub mod counts;
 pub mod damage;
