@@ -34,7 +34,7 @@ lib: target/lib/libforkhemit.a
 
 # what the library has, a crate for each group of functions
 HOSTS := host_runs host_indexed host_solve host_late host_explained host_circuits host_repeats host_texts host_excerpts host_lines
-HOSTS += host_proofs host_game host_weighted host_whole host_columns
+HOSTS += host_proofs host_game host_weighted host_whole host_columns host_page
 
 # One after the other: two calls of `rt staticlib` at once spoil each other's notes on the crates that both use. In the crates' object files
 # all names are local but those of the functions that hosts call, so the files stand side by side in one archive.
@@ -108,15 +108,19 @@ target/examples/turns-c: examples/host/turns.c examples/host/texts.h include/for
 	mkdir -p target/examples
 	cc -std=c11 -O2 -Wall -Wextra -Wpedantic -Werror -Iinclude -o $@ $< -Ltarget/lib -lforkhemit
 
+target/examples/page-c: examples/host/page.c examples/host/texts.h include/forkhemit.h target/lib/libforkhemit.a
+	mkdir -p target/examples
+	cc -std=c11 -O2 -Wall -Wextra -Wpedantic -Werror -Iinclude -o $@ $< -Ltarget/lib -lforkhemit
+
 target/examples/host-rust: examples/host/host.rs target/lib/libforkhemit.a
 	mkdir -p target/examples
 	rustc --edition 2021 -O -D warnings -o $@ $< -L native=target/lib
 
 # The two hosts answer as the pair program; the third is told of a late condition, in each of the stories of examples/harbour/late; the fourth lists
-# a run step by step, by rule 4 and weighted; the fifth checks a proof of cadical's, of examples/harbour/unsatisfiable; the last says who can force the roster, in each way of
-# taking turns of examples/harbour/turns.
+# a run step by step, by rule 4 and weighted; the fifth checks a proof of cadical's, of examples/harbour/unsatisfiable; the sixth says who can force the roster, in each way of
+# taking turns of examples/harbour/turns; the last prints the roster as a page.
 examples: target/examples/host-c target/examples/host-rust target/examples/late-c target/examples/desk target/examples/proof-c
-examples: target/examples/turns-c
+examples: target/examples/turns-c target/examples/page-c
 	cd examples/harbour && for host in host-c host-rust; do \
 	  echo "$$host left.cnf right.cnf public.cnf $$(cat budget)"; \
 	  ../../target/examples/$$host left.cnf right.cnf public.cnf $$(cat budget) | tee ../../target/examples/$$host.out && cmp ../../target/examples/$$host.out answer || exit 1; \
@@ -132,6 +136,7 @@ examples: target/examples/turns-c
 	  echo "turns-c $$way.qdimacs"; \
 	  ../../../target/examples/turns-c $$way.qdimacs | tee ../../../target/examples/turns-$$way.out && cmp ../../../target/examples/turns-$$way.out $$way.answer || exit 1; \
 	done
+	cd examples/harbour && ../../target/examples/page-c left.cnf right.cnf public.cnf $$(cat budget) 4 3 | tee ../../target/examples/page.out && cmp ../../target/examples/page.out page
 
 bench: target/static/pair target/static/whole target/lib/libforkhemit.a
 	cargo build --quiet --release --bins --offline --locked --manifest-path tests/Cargo.toml

@@ -1,7 +1,8 @@
 /*
  * Forkhemit for hosts in C and C++: two stations' clause tables and the public one, the giant step, its circuit and the texts.
  * Every function is proved to meet its contract, which stands in crates/host_runs, host_indexed, host_solve, host_weighted, host_late, host_explained,
- * host_circuits, host_repeats, host_whole, host_texts, host_excerpts, host_lines, host_proofs, host_game and host_columns.
+ * host_circuits, host_repeats, host_whole, host_texts, host_excerpts, host_lines, host_proofs, host_game, host_columns and
+ * host_page.
  * `make lib` writes the archive to link, target/lib/libforkhemit.a, for x86-64 Linux; it needs C's memcpy and memset and nothing else. docs/GUIDE.md
  * has the calls in the order in which a host makes them, examples/host hosts in C, in Rust and in Python.
  *
@@ -36,9 +37,9 @@
 /* The version, as CHANGES.md numbers it. While the first number is 0, parameters and buffers may change with the second: read there what
  * did, and compile the host anew. With the third they never change. The shared library's soname has the first two. */
 #define FORKHEMIT_VERSION_MAJOR 0
-#define FORKHEMIT_VERSION_MINOR 13
+#define FORKHEMIT_VERSION_MINOR 14
 #define FORKHEMIT_VERSION_PATCH 0
-/* The same as one number that grows, for #if: 0.13.0 is 1300. */
+/* The same as one number that grows, for #if: 0.14.0 is 1400. */
 #define FORKHEMIT_VERSION (FORKHEMIT_VERSION_MAJOR * 10000 + FORKHEMIT_VERSION_MINOR * 100 + FORKHEMIT_VERSION_PATCH)
 
 /* The most bytes that a DIMACS text may have, remarks included, and that a proof may have: one byte more of a file is all that a host need
@@ -52,6 +53,8 @@
 #define FORKHEMIT_ANSWER_BYTES 256
 /* The greatest budget that forkhemit_solve_whole goes through. */
 #define FORKHEMIT_MOST_WHOLE 65535
+/* Bytes of a line of the watch page: its 79 columns and a line feed. */
+#define FORKHEMIT_PAGE_LINE_BYTES 80
 
 #ifdef __cplusplus
 extern "C" {
@@ -86,7 +89,10 @@ enum forkhemit_refusal_number {
     FORKHEMIT_GAME_VARIABLES = 21,  /* a game of more than 12 variables */
     FORKHEMIT_LINE_VARIABLES = 22,  /* a variable on the lines of a game's text twice or outside 1 to n */
     FORKHEMIT_WHOLE_BUDGET = 23,    /* a budget above 65,535 that is to be gone through whole */
-    FORKHEMIT_PLANE_BITS = 24       /* a bit in the planes beyond the row count or beyond n */
+    FORKHEMIT_PLANE_BITS = 24,      /* a bit in the planes beyond the row count or beyond n */
+    FORKHEMIT_WATCH_COUNT = 25,     /* pilots times watches is not n */
+    FORKHEMIT_PAGE_BUFFER = 26,     /* page of fewer than 80 bytes a pilot */
+    FORKHEMIT_PAGE_FORM = 27        /* bytes that are no watch page */
 };
 
 /*
@@ -433,6 +439,23 @@ uint8_t forkhemit_read_budget(const uint8_t *line, size_t line_length, uint64_t 
  * that is no forkhemit_verdict is unknown; with satisfiable, the first n variables of the model are printed. 1. */
 uint8_t forkhemit_answer(uint64_t n, uint64_t count, uint64_t verdict, uint64_t model, uint8_t text[FORKHEMIT_ANSWER_BYTES],
                          uint64_t length[1]);
+
+/* ---- the watch page */
+
+/*
+ * The roster as pilots read it. For p pilots and s watches with p * s = n, variable (i - 1) * s + j stands for pilot i on watch j. A line for
+ * each pilot: the number right-aligned in 3 columns, for each watch a space and `#` for true or `.` for false, spaces up to column 79, and a
+ * line feed. The page is FORKHEMIT_PAGE_LINE_BYTES times p bytes, without a closing 0. The two calls undo each other: the model that is read
+ * off a page is the one that it was made from, and bytes that are read as a model are that model's page.
+ */
+
+/* page: that of the run's model, over the front of the lent bytes; a variable that the run left free is false. 12, 14 (the run is open or
+ * refuted), 25 (pilots times watches, as numbers, is not the run's n), 26 (fewer bytes are lent). */
+uint8_t forkhemit_page(const uint32_t run[FORKHEMIT_RUN_WORDS], uint64_t pilots, uint64_t watches, uint8_t *page, size_t page_length);
+
+/* model: the variables that the page shows as true, as a word. Bytes behind the page are not looked at. 1, 25, 26, 27 (the first 80 bytes a
+ * pilot are no page of this form: every number, mark, space and line feed counts). */
+uint8_t forkhemit_read_page(uint64_t n, uint64_t pilots, uint64_t watches, const uint8_t *page, size_t page_length, uint64_t model[1]);
 
 #ifdef __cplusplus
 }

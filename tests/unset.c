@@ -152,6 +152,14 @@ int main(void)
     TAKEN(forkhemit_model(run, model));
     same(model[0] == answer[2], "the same model");
 
+    /* its page, two pilots with two watches each, and the model on it */
+    UNSET(uint8_t, page, 2 * FORKHEMIT_PAGE_LINE_BYTES);
+    TAKEN(forkhemit_page(run, 2, 2, page, 2 * FORKHEMIT_PAGE_LINE_BYTES));
+    fwrite(page, 1, 2 * FORKHEMIT_PAGE_LINE_BYTES, stdout);
+    UNSET(uint64_t, shown, 1);
+    TAKEN(forkhemit_read_page(d[0], 2, 2, page, 2 * FORKHEMIT_PAGE_LINE_BYTES, shown));
+    same(shown[0] == model[0], "the model on its page");
+
     /* texts */
     UNSET(uint8_t, text, FORKHEMIT_ANSWER_BYTES);
     UNSET(uint64_t, length, 1);

@@ -1,5 +1,5 @@
-//! Times the library as a host calls it: the giant step, runs in one call and in many, free literals counted, the reader, the game and the
-//! writer beside plain Rust, and the making of circuits.
+//! Times the library as a host calls it: the giant step, runs in one call and in many, free literals counted, the reader, the game, the
+//! watch page and the writer beside plain Rust, and the making of circuits.
 //! All times are the processor's. Linked with the archive that `make lib` writes.
 
 mod plain;
@@ -39,6 +39,8 @@ extern "C" {
         right: *const u32, right_length: usize, public_table: *const u32, public_length: usize, times: u64, run: &mut [u32; 101],
         continued: &mut [u64; 2]) -> u8;
     fn forkhemit_game(text: *const u8, text_length: usize, answer: &mut [u64; 3]) -> u8;
+    fn forkhemit_page(run: &[u32; 101], pilots: u64, watches: u64, page: *mut u8, page_length: usize) -> u8;
+    fn forkhemit_read_page(n: u64, pilots: u64, watches: u64, page: *const u8, page_length: usize, model: &mut [u64; 1]) -> u8;
     fn forkhemit_generate(n: u64, left_rows: u64, right_rows: u64, public_rows: u64, gates: *mut u32, gates_length: usize,
         count: &mut [u64; 1]) -> u8;
     fn forkhemit_write_lines(n: u64, left_rows: u64, right_rows: u64, public_rows: u64, gates: *const u32, gates_length: usize,
@@ -407,6 +409,53 @@ fn game(what: &str, lines: &str, rows: &[Row]) {
     println!("game, n = 12, m = 128, {what}: {a:.0} us, plain Rust {b:.0} us, ratio {:.2} (answer {answer:?})", a / b);
 }
 
+// ---- The watch page
+
+/// How many pages are timed at once.
+const PAGES: usize = 2_000;
+
+/// Times pages of random models, made and read, beside plain Rust.
+fn page(shape: [usize; 2]) {
+    let (n, [pilots, watches]) = (shape[0] * shape[1], shape.map(|number| number as u64));
+    let random = &mut Random::new(SEED);
+    let mut run = [0; 101];
+    (run[0], run[1]) = (n as u32, 1);
+    let (mut made, mut other) = (vec![0; 80 * shape[0]], vec![0; 80 * shape[0]]);
+    let mut times = [vec![], vec![], vec![], vec![]];
+    for _ in 0..RUNS {
+        run[2] = (random.number() & u64::MAX >> (64 - n)) as u32;
+        let model = std::hint::black_box(u64::from(run[2]));
+        let mut read = [0];
+        // The run, the page and the number are lent for the call.
+        let make = || {
+            (0..PAGES).for_each(|_| {
+                assert_eq!(unsafe { forkhemit_page(&run, pilots, watches, made.as_mut_ptr(), made.len()) }, 0);
+            })
+        };
+        times[0].push(clock::of(make).1);
+        let make =
+            || (0..PAGES).for_each(|_| assert_eq!(plain::page(model, n, std::hint::black_box(shape), &mut other), 0));
+        times[1].push(clock::of(make).1);
+        assert_eq!(made, other, "both make the same page");
+        let back = || {
+            (0..PAGES).for_each(|_| {
+                let number =
+                    unsafe { forkhemit_read_page(n as u64, pilots, watches, made.as_ptr(), made.len(), &mut read) };
+                assert_eq!((number, read), (0, [model]));
+            })
+        };
+        times[2].push(clock::of(back).1);
+        let back = || {
+            (0..PAGES).for_each(|_| {
+                assert_eq!(plain::read_page(n, std::hint::black_box(shape), std::hint::black_box(&other)), Ok(model));
+            })
+        };
+        times[3].push(clock::of(back).1);
+    }
+    let [a, b, c, d] = times.map(|times| median(times) / PAGES as f64 * 1e3);
+    println!("page of {pilots} pilots and {watches} watches: {a:.0} ns, plain Rust {b:.0} ns, ratio {:.2}; read: {c:.0} ns, plain Rust {d:.0} ns, ratio {:.2}", a / b, c / d);
+}
+
 // ---- Circuits
 
 /// Makes the circuit of a size into words that have room for it; how many gates.
@@ -520,6 +569,9 @@ fn main() {
         "e 1 0\na 2 0\ne 3 0\na 4 0\ne 5 0\na 6 0\ne 7 0\na 8 0\ne 9 0\na 10 0\ne 11 0\na 12 0\n",
         &last_seven(),
     );
+    page([4, 3]);
+    page([8, 4]);
+    page([32, 1]);
     circuit_heading();
     for (n, m) in [(1, 2), (2, 4), (4, 12), (8, 32), (16, 64), (20, 91), (32, 256), (32, 384)] {
         circuit(n, m);

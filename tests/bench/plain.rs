@@ -386,3 +386,51 @@ pub fn game(text: &[u8], plain: &mut Vec<u8>, words: &mut Vec<u32>) -> Result<[u
     let variable = u64::from(bit.trailing_zeros() + 1);
     Ok(if wins { [side, variable, u64::from(yes != universal)] } else { [side, 0, 0] })
 }
+
+// ---- The watch page
+
+/// Writes the page of a model, line by line: 25, 26.
+pub fn page(model: u64, n: usize, [pilots, watches]: [usize; 2], page: &mut [u8]) -> u8 {
+    if pilots.checked_mul(watches) != Some(n) {
+        return 25;
+    }
+    let Some(page) = page.get_mut(..80 * pilots) else {
+        return 26;
+    };
+    for (i, line) in page.chunks_exact_mut(80).enumerate() {
+        line.fill(b' ');
+        if i >= 9 {
+            line[1] = b'0' + (i as u8 + 1) / 10;
+        }
+        line[2] = b'0' + (i as u8 + 1) % 10;
+        for j in 0..watches {
+            line[4 + 2 * j] = if model >> (i * watches + j) & 1 == 1 { b'#' } else { b'.' };
+        }
+        line[79] = b'\n';
+    }
+    0
+}
+
+/// The model on a page, line by line: 25, 26, 27.
+pub fn read_page(n: usize, [pilots, watches]: [usize; 2], page: &[u8]) -> Result<u64, u8> {
+    if pilots.checked_mul(watches) != Some(n) {
+        return Err(25);
+    }
+    let mut model = 0;
+    for (i, line) in page.get(..80 * pilots).ok_or(26u8)?.chunks_exact(80).enumerate() {
+        let tens = if i >= 9 { b'0' + (i as u8 + 1) / 10 } else { b' ' };
+        let (marks, rest) = line[3..].split_at(2 * watches);
+        let spaces = rest[..rest.len() - 1].iter().all(|&byte| byte == b' ');
+        if line[..3] != [b' ', tens, b'0' + (i as u8 + 1) % 10] || !spaces || line[79] != b'\n' {
+            return Err(27);
+        }
+        for (j, mark) in marks.chunks_exact(2).enumerate() {
+            match mark {
+                b" #" => model |= 1 << (i * watches + j),
+                b" ." => (),
+                _ => return Err(27),
+            }
+        }
+    }
+    Ok(model)
+}

@@ -62,6 +62,8 @@ mod library {
         pub fn forkhemit_columns(n: u64, rows: u64, table: *const u32, table_length: usize, planes: *mut u32, planes_length: usize) -> u8;
         pub fn forkhemit_rows(n: u64, rows: u64, planes: *const u32, planes_length: usize, table: *mut u32, table_length: usize) -> u8;
         pub fn forkhemit_model(run: *const u32, model: *mut u64) -> u8;
+        pub fn forkhemit_page(run: *const u32, pilots: u64, watches: u64, page: *mut u8, page_length: usize) -> u8;
+        pub fn forkhemit_read_page(n: u64, pilots: u64, watches: u64, page: *const u8, page_length: usize, model: *mut u64) -> u8;
         pub fn forkhemit_check_proof(n: u64, left_rows: u64, right_rows: u64, public_rows: u64, left: *const u32, left_length: usize,
             right: *const u32, right_length: usize, public_table: *const u32, public_length: usize, text: *const u8, text_length: usize) -> u8;
         pub fn forkhemit_generate(n: u64, left_rows: u64, right_rows: u64, public_rows: u64, gates: *mut u32, gates_length: usize,
@@ -124,6 +126,8 @@ pub enum Function {
     Columns,
     Rows,
     Model,
+    Page,
+    ReadPage,
     CheckProof,
     Generate,
     Pack,
@@ -137,7 +141,7 @@ pub enum Function {
     Answer,
 }
 
-pub const ALL: [Function; 36] = [
+pub const ALL: [Function; 38] = [
     Function::Sizes,
     Function::ReadTables,
     Function::Accept,
@@ -163,6 +167,8 @@ pub const ALL: [Function; 36] = [
     Function::Columns,
     Function::Rows,
     Function::Model,
+    Function::Page,
+    Function::ReadPage,
     Function::CheckProof,
     Function::Generate,
     Function::Pack,
@@ -381,6 +387,8 @@ impl Call {
                 Function::Columns => forkhemit_columns(x(0), x(1), w(0), l(0), w(1), l(1)),
                 Function::Rows => forkhemit_rows(x(0), x(1), w(0), l(0), w(1), l(1)),
                 Function::Model => forkhemit_model(w(0), n(1)),
+                Function::Page => forkhemit_page(w(0), x(0), x(1), b(1), l(1)),
+                Function::ReadPage => forkhemit_read_page(x(0), x(1), x(2), b(0), l(0), n(1)),
                 Function::CheckProof => forkhemit_check_proof(x(0), x(1), x(2), x(3), w(0), l(0), w(1), l(1), w(2), l(2), b(3), l(3)),
                 Function::Generate => forkhemit_generate(x(0), x(1), x(2), x(3), w(0), l(0), n(1)),
                 Function::Pack => forkhemit_pack(x(0), x(1), x(2), x(3), w(0), l(0), w(1), l(1), w(2), l(2), w(3), b(4), l(4)),

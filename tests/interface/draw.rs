@@ -5,7 +5,7 @@ use crate::circuits::Circuits;
 use forkhemit_tests::memory::{self, INDEX_WORDS, RUN_WORDS};
 use forkhemit_tests::model::{self, Row, Size, TEXT_LIMIT};
 use forkhemit_tests::random::Random;
-use forkhemit_tests::{columns, damage, game, layout, proofs, states, tables, wires};
+use forkhemit_tests::{columns, damage, game, layout, proofs, states, tables, watch_page, wires};
 
 /// Numbers at the limits, and numbers that look like others when they are cut to fewer bits.
 const ODD: [u64; 18] = [
@@ -233,6 +233,41 @@ fn game_text(size: Size, random: &mut Random) -> Lent {
         damage::strike(&mut text, random);
     }
     Lent::Bytes(text)
+}
+
+/// Numbers of pilots and watches for n variables; now and then two whose product is n as machine words alone, or any two.
+fn pilots_and_watches(n: usize, random: &mut Random) -> [u64; 2] {
+    match random.below(12) {
+        0 => watch_page::wrapped(n, random),
+        1 => [one(&ODD, random), one(&ODD, random)],
+        _ => one(&watch_page::shapes(n), random),
+    }
+}
+
+/// A run, satisfied three times in four, the numbers of its page, and room for it.
+fn page_call(n: usize, random: &mut Random) -> (Vec<u64>, Vec<Lent>) {
+    let mut run = memory::run_words(&states::random(n, random));
+    if !random.once_in(4) {
+        run[1] = 1;
+    }
+    let numbers = pilots_and_watches(n, random);
+    let room = bytes_for(watch_page::LINE * numbers[0].min(32) as usize, random);
+    (numbers.to_vec(), vec![Lent::Run(run), room])
+}
+
+/// A page, now and then with bytes of another or of none, and something behind it.
+fn page_to_read(n: usize, random: &mut Random) -> (Vec<u64>, Vec<Lent>) {
+    let (numbers, shapes) = (pilots_and_watches(n, random), watch_page::shapes(n));
+    let own = shapes.contains(&numbers) && !random.once_in(8);
+    let shape = if own { numbers } else { one(&shapes, random) };
+    let mut page = watch_page::page(shape.map(|number| number as usize), random.number());
+    for _ in 0..one(&[0, 0, 0, 1, 2], random) {
+        let at = random.below(page.len());
+        page[at] = one(b" #.\n\t0123x", random);
+    }
+    let more = slack(0, random);
+    page.extend(some_bytes(more, random));
+    ([vec![n as u64], numbers.to_vec()].concat(), vec![Lent::Bytes(page), numbers_for(1, random)])
 }
 
 /// Rows to be solved, and a budget in which the model comes to an end.
@@ -575,6 +610,14 @@ pub fn of_size(function: Function, size: Size, circuits: &Circuits, random: &mut
         Function::Model => {
             let run = memory::run_words(&states::random(size.n, random));
             call(vec![], vec![Lent::Run(run), numbers_for(1, random)])
+        }
+        Function::Page => {
+            let (numbers, lent) = page_call(size.n, random);
+            call(numbers, lent)
+        }
+        Function::ReadPage => {
+            let (numbers, lent) = page_to_read(size.n, random);
+            call(numbers, lent)
         }
         Function::Generate => call(numbers(size), vec![words_for(3 * size.ceiling(), random), numbers_for(1, random)]),
         Function::Evaluate => call(vec![], evaluation(size, circuits, random)?),

@@ -8,6 +8,7 @@ use forkhemit_tests::game;
 use forkhemit_tests::memory;
 use forkhemit_tests::model::{self, Answer, Condition, Row, Run, Size, Ties};
 use forkhemit_tests::proofs;
+use forkhemit_tests::watch_page;
 use forkhemit_tests::weighted;
 use forkhemit_tests::wires;
 use std::ops::Range;
@@ -116,7 +117,9 @@ impl Call {
                 .map(|planes| vec![(1, Lent::Words(planes))]),
             Function::Rows => columns::table(self.numbers[0], self.numbers[1], self.words(0), self.words(1).len())
                 .map(|table| vec![(1, Lent::Words(table))]),
-            Function::Model => self.model(),
+            Function::Model => self.model().map(|model| vec![(1, Lent::Numbers(vec![model]))]),
+            Function::Page => self.page(),
+            Function::ReadPage => self.read_page(),
             Function::CheckProof => self.check_proof(),
             Function::Generate => match self.size().and_then(|size| self.room_for_gates(size, 0)) {
                 Ok(size) => {
@@ -361,13 +364,28 @@ impl Call {
     }
 
     /// The model as a word; 12, 14.
-    fn model(&self) -> Result<Writes, u8> {
+    fn model(&self) -> Result<u64, u8> {
         let run = memory::run_of(self.words(0))?;
         if run.standing != model::Standing::Satisfied {
             return Err(14);
         }
         let truth = run.values.iter().enumerate().filter(|(_, &value)| value == Some(true));
-        Ok(vec![(1, Lent::Numbers(vec![truth.fold(0, |word, (v, _)| word | 1 << v)]))])
+        Ok(truth.fold(0, |word, (v, _)| word | 1 << v))
+    }
+
+    /// The page of the run's model: 12, 14, 25, 26.
+    fn page(&self) -> Result<Writes, u8> {
+        let model = self.model()?;
+        let n = memory::run_of(self.words(0))?.values.len();
+        let shape = watch_page::shape(n, [0, 1].map(|k| self.numbers[k]), self.bytes(1).len())?;
+        Ok(vec![(1, Lent::Bytes(watch_page::page(shape, model)))])
+    }
+
+    /// The model on a page: 1, 25, 26, 27.
+    fn read_page(&self) -> Result<Writes, u8> {
+        let n = memory::variables(self.numbers[0])?;
+        let shape = watch_page::shape(n, [1, 2].map(|k| self.numbers[k]), self.bytes(0).len())?;
+        Ok(vec![(1, Lent::Numbers(vec![watch_page::read(shape, self.bytes(0))?]))])
     }
 
     /// Nothing is written: 4, 3, 18, 19, 20.

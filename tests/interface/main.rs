@@ -4,8 +4,8 @@
 //! tables that take most steps, then runs whose steps tell their rules, then clauses by their own bytes, then steps where several literals are forced, then runs in which rows are replaced, whose verdicts are
 //! held to another solver's, then proofs that other solvers wrote, as they are and damaged, then runs through
 //! a whole budget, then games of two sides, held to all their
-//! plans and to another solver's verdicts, then tables by columns and back, then random calls over all functions: each result and every lent
-//! buffer is held to the model.
+//! plans and to another solver's verdicts, then tables by columns and back, then watch pages made, read and damaged, then random calls over
+//! all functions: each result and every lent buffer is held to the model.
 //! With `exact` each buffer has an allocation of its own of exactly its length, for a memory checker; else it stands between guards. The
 //! last line is `N passed, M failed`, and the status 0 where M is 0.
 
@@ -22,6 +22,7 @@ mod game;
 mod indexed;
 mod judged;
 mod late;
+mod page;
 mod proofs;
 mod refusals;
 mod steps;
@@ -80,7 +81,7 @@ fn refused(circuits: &Circuits, guard: usize) -> Tally {
                 ledger.kind(&format!("refused {}", case.number), 1);
                 ledger.test(failure.map(|failure| format!("{}: {failure}\n  {}", case.what, shown(&case.call))));
             }
-            let missing = (0..=24).find(|&number| !cases.iter().any(|case| case.number == number));
+            let missing = (0..=27).find(|&number| !cases.iter().any(|case| case.number == number));
             ledger.test(missing.map(|number| format!("no case is refused with {number}")));
         }
     }
@@ -185,6 +186,10 @@ fn main() -> ExitCode {
     total.add(columns::bits(&circuits, guard));
     total.add(columns::lengths(&circuits, guard));
     total.add(columns::refused(&circuits, guard));
+    total.add(page::made(&circuits, guard));
+    total.add(page::every(&circuits, guard));
+    total.add(page::refused(&circuits, guard));
+    total.add(page::damaged(&circuits, guard));
     if guard > 0 {
         total.add(circuits.known());
     }

@@ -100,6 +100,11 @@ fn column_planes() -> Vec<u32> {
     words[96] = 0b01;
     words
 }
+/// The page of two pilots with a watch each, the first one's on.
+fn page_text() -> Vec<u8> {
+    let spaces = " ".repeat(74);
+    format!("  1 #{spaces}\n  2 .{spaces}\n").into_bytes()
+}
 
 /// A call of the function that is taken.
 fn base(function: Function, circuits: &Circuits) -> Result<Call, String> {
@@ -163,6 +168,9 @@ fn base(function: Function, circuits: &Circuits) -> Result<Call, String> {
         Function::Columns => (vec![2, COLUMN_ROWS], vec![Lent::Words(column_table()), words(128)]),
         Function::Rows => (vec![2, COLUMN_ROWS], vec![Lent::Words(column_planes()), words(66)]),
         Function::Model => (vec![], vec![Lent::Run(satisfied), numbers(1)]),
+        // two pilots with a watch each
+        Function::Page => (vec![2, 1], vec![Lent::Run(satisfied), bytes(160)]),
+        Function::ReadPage => (vec![2, 2, 1], vec![Lent::Bytes(page_text()), numbers(1)]),
         Function::CheckProof => {
             let tables = PROOF_TABLES.map(|table| Lent::Words(table.to_vec())).to_vec();
             (proof_numbers, [tables, vec![Lent::Bytes(PROOF.to_vec())]].concat())
@@ -712,6 +720,53 @@ fn model_wanted(list: &mut Changes) {
     states(0, list);
 }
 
+/// 25 of pilots and watches, the numbers at k and behind it: products that are not 2, or are 2 as machine words alone; then 26 of the page
+/// at place p.
+fn page_shape(k: usize, p: usize, list: &mut Changes) {
+    for to in [0, 1, 3, 258, (1 << 32) + 2, (1 << 63) + 2, u64::MAX] {
+        add(list, &format!("{to} pilots"), 25, number(k, to));
+    }
+    for to in [0, 2, 257, (1 << 32) + 1, (1 << 63) + 1, u64::MAX] {
+        add(list, &format!("{to} watches"), 25, number(k + 1, to));
+    }
+    add(list, "2^63 pilots with two watches", 25, both(number(k, 1 << 63), number(k + 1, 2)));
+    add(list, "2^32 pilots with as many watches", 25, both(number(k, 1 << 32), number(k + 1, 1 << 32)));
+    add(list, "a page a byte short", 26, shorter(p));
+    add(list, "a page of one line", 26, cut(p, 80));
+    add(list, "no page", 26, cut(p, 0));
+}
+
+/// 25 and 26.
+fn page(list: &mut Changes) {
+    page_shape(0, 1, list);
+}
+
+/// 25, 26 and 27.
+fn read_page(list: &mut Changes) {
+    add(list, "n 1", 25, number(0, 1));
+    add(list, "n 3", 25, number(0, 3));
+    page_shape(1, 0, list);
+    for (what, at, to) in [
+        ("a digit in the first column", 0, b'0'),
+        ("a zero before the number", 1, b'0'),
+        ("another number", 2, b'2'),
+        ("no number", 82, b' '),
+        ("no space before the mark", 3, b'.'),
+        ("another mark", 4, b'x'),
+        ("no mark", 84, b' '),
+        ("a mark more", 6, b'.'),
+        ("a tab", 40, b'\t'),
+        ("a carriage return", 78, b'\r'),
+        ("a line feed in column 79", 158, b'\n'),
+        ("no line feed", 79, b' '),
+        ("no last line feed", 159, 0),
+    ] {
+        add(list, what, 27, byte(0, at, to));
+    }
+    let crossed = |page: Vec<u8>| [&page[80..], &page[..80]].concat();
+    add(list, "the lines exchanged", 27, text(0, crossed(page_text())));
+}
+
 /// 7.
 fn generate(list: &mut Changes) {
     add(list, "a word short", 7, shorter(0));
@@ -871,6 +926,8 @@ fn changes(function: Function) -> Changes {
         Function::Columns => &[by_columns, columns],
         Function::Rows => &[by_columns, rows],
         Function::Model => &[model_wanted],
+        Function::Page => &[model_wanted, page],
+        Function::ReadPage => &[variables, read_page],
         Function::CheckProof => &[sizes, tables, check_proof],
         Function::Generate => &[sizes, generate],
         Function::Pack => &[sizes, tables, pack],
@@ -985,6 +1042,16 @@ fn harmless(function: Function) -> Vec<(String, Change)> {
             ("a refuted run", word(3, 1, 2)),
             ("a refuted run and no steps", both(number(4, 0), word(3, 1, 2))),
             ("words behind the tables", both(longer(0, &[7, u32::MAX]), longer(1, &[7, u32::MAX]))),
+        ],
+        Function::Page => vec![
+            ("a longer page", text(1, vec![7; 161])),
+            ("one pilot with two watches", both(number(0, 1), number(1, 2))),
+            ("one pilot with two watches in 80 bytes", both(both(number(0, 1), number(1, 2)), cut(1, 80))),
+        ],
+        Function::ReadPage => vec![
+            ("something behind the page", text(0, [page_text(), vec![b'x'; 9]].concat())),
+            ("no watch", byte(0, 4, b'.')),
+            ("both watches", byte(0, 84, b'#')),
         ],
         Function::Clause => asked_clauses(),
         Function::Excerpt => {

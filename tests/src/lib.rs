@@ -37,6 +37,7 @@ pub mod steps;
 pub mod symbols;
 pub mod tables;
 pub mod ties;
+pub mod watch_page;
 pub mod weighted;
 pub mod whole;
 pub mod wires;
