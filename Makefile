@@ -5,24 +5,37 @@
 # make checktime: how long each crate's check takes, from nothing. make pictures: draws docs/pictures anew.
 # make statements: writes tests/statements.txt, in a commit that changes what is proved.
 # make fmt: puts every file in its layout. make fmt-check: says which are not.
-.PHONY: all test run lib install absolute uninstall examples bench checktime pictures statements fmt fmt-check
+# make drill: two stations and a back end, each in a folder of its own, on the example.
+# make dist: target/dist/forkhemit-VERSION-x86_64-linux.tar.gz, what make install copies, with checksums; to unpack anywhere, without the kit.
+# make help: this text. README.md has a table with what each command needs.
+.PHONY: all test run lib install absolute uninstall examples drill dist help bench checktime pictures statements fmt fmt-check
 # `rt` keeps notes in target: one call at a time.
 .NOTPARALLEL:
 
 PROGRAMS := pair circuit whole
 
+# the first line of a recipe that proves or compiles Rattle
+KIT = @command -v rt >/dev/null || { echo 'the Rattle kit is missing: there is no rt in the path. It brings compiler and prover, is no part of' \
+  'this repository and in no package registry: ask whoever gave you the repository. README.md says which kit proved this tree.' >&2; exit 1; }
+
 # all that `make install` copies
 all: $(PROGRAMS:%=target/static/%) target/lib/libforkhemit.a target/shared/libforkhemit.so
 
+help:
+	@sed -n '/^\.PHONY/q; s/^# //p' Makefile
+
 test:
+	$(KIT)
 	.ci/run
 
 $(PROGRAMS:%=target/obj/%.o): target/obj/%.o: crates.txt $(shell find crates -name '*.rt' -o -name '*.antt')
+	$(KIT)
 	rt check $*
 	touch $@
 
 # Linked statically, with the kit's C code that opens files: to load a shared C library takes longer than to solve.
 $(PROGRAMS:%=target/static/%): target/static/%: target/obj/%.o
+	$(KIT)
 	mkdir -p target/static
 	cc -static -o $@ $< $(dir $(shell rt doc))../lib/libos_c.a
 
@@ -34,11 +47,12 @@ lib: target/lib/libforkhemit.a
 
 # what the library has, a crate for each group of functions
 HOSTS := host_runs host_indexed host_solve host_late host_explained host_circuits host_repeats host_texts host_excerpts host_lines
-HOSTS += host_proofs host_game host_weighted host_whole host_columns host_page
+HOSTS += host_proofs host_game host_weighted host_whole host_columns host_page host_version
 
 # One after the other: two calls of `rt staticlib` at once spoil each other's notes on the crates that both use. In the crates' object files
 # all names are local but those of the functions that hosts call, so the files stand side by side in one archive.
 target/lib/libforkhemit.a: crates.txt $(shell find crates -name '*.rt' -o -name '*.antt')
+	$(KIT)
 	for crate in $(HOSTS); do rt staticlib $$crate || exit 1; done
 	mkdir -p target/lib
 	printf '%s\n' 'create $@' $(HOSTS:%='addlib target/staticlib/lib%.a') save end | ar -M
@@ -53,6 +67,7 @@ SONAME := libforkhemit.so.$(basename $(VERSION))
 MAN := $(DESTDIR)$(PREFIX)/share/man/man1
 DOC := $(DESTDIR)$(PREFIX)/share/doc/forkhemit
 LIB := $(DESTDIR)$(LIBDIR)
+PYTHON := $(DESTDIR)$(PREFIX)/share/forkhemit/python
 FILLED := sed -e 's|@VERSION@|$(VERSION)|' -e 's|@PREFIX@|$(PREFIX)|' -e 's|@LIBDIR@|$(LIBDIR)|'
 
 # The archive's code is position independent (`text`) and asks for nothing that C's library has not (`defs`). Without C's start files nothing
@@ -64,7 +79,7 @@ target/shared/libforkhemit.so: target/lib/libforkhemit.a include/forkhemit.h
 
 # `pair`, `circuit` and `whole` are too general as names of commands: there they begin with the product's.
 install: absolute all
-	install -d $(DESTDIR)$(PREFIX)/bin $(DESTDIR)$(PREFIX)/include $(LIB)/pkgconfig $(MAN) $(DOC)
+	install -d $(DESTDIR)$(PREFIX)/bin $(DESTDIR)$(PREFIX)/include $(LIB)/pkgconfig $(MAN) $(DOC) $(PYTHON)
 	for program in $(PROGRAMS); do \
 	  install -m 755 target/static/$$program $(DESTDIR)$(PREFIX)/bin/forkhemit-$$program && \
 	  $(FILLED) man/forkhemit-$$program.1 | install -m 644 /dev/stdin $(MAN)/forkhemit-$$program.1 || exit 1; \
@@ -75,24 +90,52 @@ install: absolute all
 	ln -sf libforkhemit.so.$(VERSION) $(LIB)/$(SONAME)
 	ln -sf $(SONAME) $(LIB)/libforkhemit.so
 	$(FILLED) forkhemit.pc.in | install -m 644 /dev/stdin $(LIB)/pkgconfig/forkhemit.pc
+	install -m 644 python/forkhemit.py $(PYTHON)
 	install -m 644 LICENSE CHANGES.md docs/GUIDE.md $(DOC)
 	find examples -type f -exec install -D -m 644 {} $(DOC)/{} \;
-	@echo 'installed. Before a host over the shared library runs: ldconfig, or LD_LIBRARY_PATH=$(LIBDIR)'
+	@echo 'installed. Before a host over the shared library runs: ldconfig, or LD_LIBRARY_PATH=$(LIBDIR). For Python: PYTHONPATH=$(PREFIX)/share/forkhemit/python'
 
-# The pkg-config file and the man pages' readers go by it, wherever they stand.
+# The pkg-config file and the man pages' readers go by these paths, wherever they stand. Recipes hand them to the shell as they are, and
+# `rm -rf` of half a path takes away something else: a path has nothing in it that a shell does not take as it stands, and no blank.
+absolute: export GIVEN_PREFIX := $(value PREFIX)
+absolute: export GIVEN_LIBDIR := $(LIBDIR)
+absolute: export GIVEN_DESTDIR := $(value DESTDIR)
 absolute:
-	@case '$(PREFIX)' in /*) ;; *) echo "PREFIX is a whole path, as /usr/local, and not '$(PREFIX)'" >&2; exit 1 ;; esac
+	@case $$GIVEN_PREFIX in /*) ;; *) echo "PREFIX is a whole path, as /usr/local, and not '$$GIVEN_PREFIX'" >&2; exit 1 ;; esac
+	@case $$GIVEN_LIBDIR in /*) ;; *) echo "LIBDIR is a whole path, as /usr/local/lib, and not '$$GIVEN_LIBDIR'" >&2; exit 1 ;; esac
+	@case $$GIVEN_PREFIX$$GIVEN_LIBDIR$$GIVEN_DESTDIR in *[!A-Za-z0-9/._+@:,=~-]*) \
+	  echo "PREFIX, LIBDIR and DESTDIR have letters, digits and / . _ + @ : , = ~ - alone, no blank:" \
+	    "'$$GIVEN_PREFIX' '$$GIVEN_LIBDIR' '$$GIVEN_DESTDIR'" >&2; exit 1 ;; esac
 
 uninstall: absolute
 	rm -f $(PROGRAMS:%=$(DESTDIR)$(PREFIX)/bin/forkhemit-%) $(PROGRAMS:%=$(MAN)/forkhemit-%.1) $(DESTDIR)$(PREFIX)/include/forkhemit.h
 	rm -f $(LIB)/libforkhemit.a $(LIB)/libforkhemit.so $(LIB)/$(SONAME) $(LIB)/libforkhemit.so.$(VERSION) $(LIB)/pkgconfig/forkhemit.pc
-	rm -rf $(DOC)
+	rm -rf $(DOC) $(DESTDIR)$(PREFIX)/share/forkhemit
 
-target/examples/host-c: examples/host/host.c examples/host/texts.h include/forkhemit.h target/lib/libforkhemit.a
+# ---- make dist
+
+NAME := forkhemit-$(VERSION)
+DIST := target/dist/$(NAME)
+
+# What `make install` copies, in a folder of its own that works wherever it lies. Of one tree and one `make` it has the same bytes each time.
+dist: all
+	rm -rf target/dist
+	$(MAKE) --silent install DESTDIR=target/dist PREFIX=/$(NAME) LIBDIR=/$(NAME)/lib >/dev/null
+	sed -i -e 's|^prefix=.*|prefix=$${pcfiledir}/../..|' -e 's|^libdir=.*|libdir=$${prefix}/lib|' $(DIST)/lib/pkgconfig/forkhemit.pc
+	install -m 644 docs/DIST.md $(DIST)/README.md
+	install -m 644 docs/PROOFS.md docs/DECISIONS.md docs/SPEED.md $(DIST)/share/doc/forkhemit
+	cd $(DIST) && find . -type f ! -name SHA256SUMS | LC_ALL=C sort | xargs sha256sum >SHA256SUMS
+	tar --sort=name --mtime=@0 --owner=0 --group=0 --numeric-owner --format=ustar -C target/dist -c $(NAME) | gzip -n >$(DIST)-x86_64-linux.tar.gz
+	cd target/dist && sha256sum $(NAME)-x86_64-linux.tar.gz >$(NAME)-x86_64-linux.tar.gz.sha256
+	@cat $(DIST)-x86_64-linux.tar.gz.sha256
+
+# ---- make examples, make drill
+
+target/examples/host-c: examples/host/host.c examples/host/texts.h examples/host/host.h include/forkhemit.h target/lib/libforkhemit.a
 	mkdir -p target/examples
 	cc -std=c11 -O2 -Wall -Wextra -Wpedantic -Werror -Iinclude -o $@ $< -Ltarget/lib -lforkhemit
 
-target/examples/late-c: examples/host/late.c examples/host/texts.h include/forkhemit.h target/lib/libforkhemit.a
+target/examples/late-c: examples/host/late.c examples/host/texts.h examples/host/host.h include/forkhemit.h target/lib/libforkhemit.a
 	mkdir -p target/examples
 	cc -std=c11 -O2 -Wall -Wextra -Wpedantic -Werror -Iinclude -o $@ $< -Ltarget/lib -lforkhemit
 
@@ -100,17 +143,25 @@ target/examples/desk: examples/desk/desk.c examples/host/texts.h include/forkhem
 	mkdir -p target/examples
 	cc -std=c11 -O2 -Wall -Wextra -Wpedantic -Werror -Iinclude -o $@ $< -Ltarget/lib -lforkhemit
 
-target/examples/proof-c: examples/host/proof.c examples/host/texts.h include/forkhemit.h target/lib/libforkhemit.a
+target/examples/proof-c: examples/host/proof.c examples/host/texts.h examples/host/host.h include/forkhemit.h target/lib/libforkhemit.a
 	mkdir -p target/examples
 	cc -std=c11 -O2 -Wall -Wextra -Wpedantic -Werror -Iinclude -o $@ $< -Ltarget/lib -lforkhemit
 
-target/examples/turns-c: examples/host/turns.c examples/host/texts.h include/forkhemit.h target/lib/libforkhemit.a
+target/examples/turns-c: examples/host/turns.c examples/host/texts.h examples/host/host.h include/forkhemit.h target/lib/libforkhemit.a
 	mkdir -p target/examples
 	cc -std=c11 -O2 -Wall -Wextra -Wpedantic -Werror -Iinclude -o $@ $< -Ltarget/lib -lforkhemit
 
-target/examples/page-c: examples/host/page.c examples/host/texts.h include/forkhemit.h target/lib/libforkhemit.a
+target/examples/page-c: examples/host/page.c examples/host/texts.h examples/host/host.h include/forkhemit.h target/lib/libforkhemit.a
 	mkdir -p target/examples
 	cc -std=c11 -O2 -Wall -Wextra -Wpedantic -Werror -Iinclude -o $@ $< -Ltarget/lib -lforkhemit
+
+target/examples/backend: examples/backend/backend.c examples/host/texts.h examples/host/host.h include/forkhemit.h target/lib/libforkhemit.a
+	mkdir -p target/examples
+	cc -std=c11 -O2 -Wall -Wextra -Wpedantic -Werror -Iinclude -o $@ $< -Ltarget/lib -lforkhemit
+
+# The folders stay in target/drill, to look at.
+drill: target/examples/backend target/static/pair
+	@sh examples/backend/drill.sh '$(CURDIR)/target/examples/backend' '$(CURDIR)/target/static/pair' '$(CURDIR)/examples/harbour' '$(CURDIR)/target/drill'
 
 target/examples/host-rust: examples/host/host.rs target/lib/libforkhemit.a
 	mkdir -p target/examples
@@ -120,7 +171,7 @@ target/examples/host-rust: examples/host/host.rs target/lib/libforkhemit.a
 # a run step by step, by rule 4 and weighted; the fifth checks a proof of cadical's, of examples/harbour/unsatisfiable; the sixth says who can force the roster, in each way of
 # taking turns of examples/harbour/turns; the last prints the roster as a page.
 examples: target/examples/host-c target/examples/host-rust target/examples/late-c target/examples/desk target/examples/proof-c
-examples: target/examples/turns-c target/examples/page-c
+examples: target/examples/turns-c target/examples/page-c target/examples/backend
 	cd examples/harbour && for host in host-c host-rust; do \
 	  echo "$$host left.cnf right.cnf public.cnf $$(cat budget)"; \
 	  ../../target/examples/$$host left.cnf right.cnf public.cnf $$(cat budget) | tee ../../target/examples/$$host.out && cmp ../../target/examples/$$host.out answer || exit 1; \
@@ -165,11 +216,13 @@ statements:
 	mv tests/statements.new tests/statements.txt
 
 fmt:
+	$(KIT)
 	rt fmt
 	cargo fmt --manifest-path tests/Cargo.toml
 	rustfmt --edition 2021 --config-path tests/rustfmt.toml examples/host/host.rs
 
 fmt-check:
+	$(KIT)
 	rt fmt --check
 	cargo fmt --check --manifest-path tests/Cargo.toml
 	rustfmt --check --edition 2021 --config-path tests/rustfmt.toml examples/host/host.rs

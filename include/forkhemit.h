@@ -1,10 +1,11 @@
 /*
  * Forkhemit for hosts in C and C++: two stations' clause tables and the public one, the giant step, its circuit and the texts.
  * Every function is proved to meet its contract, which stands in crates/host_runs, host_indexed, host_solve, host_weighted, host_late, host_explained,
- * host_circuits, host_repeats, host_whole, host_texts, host_excerpts, host_lines, host_proofs, host_game, host_columns and
- * host_page.
+ * host_circuits, host_repeats, host_whole, host_texts, host_excerpts, host_lines, host_proofs, host_game, host_columns,
+ * host_page and host_version.
  * `make lib` writes the archive to link, target/lib/libforkhemit.a, for x86-64 Linux; it needs C's memcpy and memset and nothing else. docs/GUIDE.md
- * has the calls in the order in which a host makes them, examples/host hosts in C, in Rust and in Python.
+ * has the calls in the order in which a host makes them, examples/host hosts in C, in Rust and in Python. For Python there is a module over
+ * the shared library, python/forkhemit.py.
  *
  * `make install PREFIX=/DIR` puts this header, archive and shared library there. `pkg-config --cflags --libs forkhemit` then says how to compile
  * and link, and the guide and the examples stand in share/doc/forkhemit. With these flags the shared library is taken, which the loader must
@@ -14,7 +15,8 @@
  * - An array, as `uint64_t sizes[4]`, is lent as a pointer: it has at least so many elements. Any other buffer is lent as a pointer and
  *   then its length, counted in elements. Give a pointer that is not null and is aligned for its type, with length 0 too. A buffer that
  *   a call writes may overlap no other buffer of the same call.
- * - The function returns 0 where the call was taken, else one number of forkhemit_refusal_number. On a refusal nothing is written.
+ * - The function returns 0 where the call was taken, else one number of forkhemit_refusal_number. On a refusal nothing is written. There is
+ *   one exception, forkhemit_version, which takes nothing and returns the version.
  * - A taken call fills an array of numbers whole (a text its front), and the front of a buffer with a length; the rest stays as it was.
  * - What a call only writes, results and scratch alike, need not be set beforehand, and may be used again for the next call as it is.
  * - No function keeps a pointer, allocates memory or has a state of its own: calls in several threads over different buffers are safe.
@@ -38,8 +40,8 @@
  * did, and compile the host anew. With the third they never change. The shared library's soname has the first two. */
 #define FORKHEMIT_VERSION_MAJOR 0
 #define FORKHEMIT_VERSION_MINOR 14
-#define FORKHEMIT_VERSION_PATCH 0
-/* The same as one number that grows, for #if: 0.14.0 is 1400. */
+#define FORKHEMIT_VERSION_PATCH 1
+/* The same as one number that grows, for #if: 0.14.1 is 1401. */
 #define FORKHEMIT_VERSION (FORKHEMIT_VERSION_MAJOR * 10000 + FORKHEMIT_VERSION_MINOR * 100 + FORKHEMIT_VERSION_PATCH)
 
 /* The most bytes that a DIMACS text may have, remarks included, and that a proof may have: one byte more of a file is all that a host need
@@ -55,6 +57,44 @@
 #define FORKHEMIT_MOST_WHOLE 65535
 /* Bytes of a line of the watch page: its 79 columns and a line feed. */
 #define FORKHEMIT_PAGE_LINE_BYTES 80
+
+/* The ten arguments that name the tables, of the four sizes that forkhemit_read_tables fills in and three buffers of FORKHEMIT_TABLE_WORDS:
+ * forkhemit_solve(FORKHEMIT_TABLES(sizes, left, right, public_table), budget, answer). */
+#define FORKHEMIT_TABLES(sizes, left, right, public_table)                                                                                  \
+    (sizes)[0], (sizes)[1], (sizes)[2], (sizes)[3], (left), FORKHEMIT_TABLE_WORDS, (right), FORKHEMIT_TABLE_WORDS, (public_table),          \
+        FORKHEMIT_TABLE_WORDS
+
+/* A sentence for each number of forkhemit_refusal_number but 0, for hosts to show: FORKHEMIT_REFUSALS(X) is X(1, "..") X(2, "..") and so on.
+ *   #define SENTENCE(number, sentence) case number: return sentence;
+ *   const char *sentence(uint8_t number) { switch (number) { FORKHEMIT_REFUSALS(SENTENCE) } return "taken"; } */
+#define FORKHEMIT_REFUSALS(X)                                                                                                               \
+    X(1, "the number of variables is not 1 to 32")                                                                                          \
+    X(2, "a station's row count is not 1 to 128, or the public one is above 128")                                                           \
+    X(3, "a row has a variable above n")                                                                                                    \
+    X(4, "a buffer is too short for its rows")                                                                                              \
+    X(5, "a text is malformed, longer than 65,536 bytes or cannot be read")                                                                 \
+    X(6, "the texts do not have the same number of variables")                                                                              \
+    X(7, "the gate buffer is too short for the circuit")                                                                                    \
+    X(8, "a number is not digits alone, up to 18446744073709551615, or its line is malformed")                                              \
+    X(9, "the words are no gates of a circuit")                                                                                             \
+    X(10, "a buffer of wires or counts is too short, or an input byte is not 0 or 1")                                                       \
+    X(11, "a line or a clause is longer than the lent bytes")                                                                               \
+    X(12, "the run is not well-formed, or the index or the number of unsatisfied rows is not that of tables and run")                       \
+    X(13, "the run was made for another number of variables")                                                                               \
+    X(14, "a run that is open or refuted has no model")                                                                                     \
+    X(15, "the row is no padding row of that station")                                                                                      \
+    X(16, "the run is closed, and no row can be replaced")                                                                                  \
+    X(17, "the row is neither station's, or a text is not the one that its table was read from")                                            \
+    X(18, "the proof is malformed or too long, or has more than 256 additions")                                                             \
+    X(19, "an addition of the proof does not follow")                                                                                       \
+    X(20, "the proof does not add the empty clause")                                                                                        \
+    X(21, "a game has at most 12 variables")                                                                                                \
+    X(22, "a variable stands on the lines of a game's text twice, or is not 1 to n")                                                        \
+    X(23, "the budget of a run through the whole of it is above 65,535")                                                                    \
+    X(24, "the planes have a bit beyond the rows or beyond n")                                                                              \
+    X(25, "pilots times watches is not the number of variables")                                                                            \
+    X(26, "the page is shorter than 80 bytes a pilot")                                                                                      \
+    X(27, "the bytes are no watch page")
 
 #ifdef __cplusplus
 extern "C" {
@@ -123,6 +163,12 @@ enum forkhemit_side {
     FORKHEMIT_EXISTENTIAL = 1,
     FORKHEMIT_UNIVERSAL = 2
 };
+
+/* ---- version */
+
+/* FORKHEMIT_VERSION of the library that is linked or loaded. It is no refusal's number: compare it with the header's, which the host was
+ * compiled with. With the shared library the third number of the version may be another one. */
+uint64_t forkhemit_version(void);
 
 /* ---- tables */
 
@@ -385,7 +431,16 @@ uint8_t forkhemit_pack(uint64_t n, uint64_t left_rows, uint64_t right_rows, uint
                        const uint32_t *public_table, size_t public_length,
                        const uint32_t run[FORKHEMIT_RUN_WORDS], uint8_t *bytes, size_t bytes_length);
 
-/* wires: the inputs, then each gate's value, a byte each. All of inputs are inputs, and wires has room for inputs and gates. 9, 10. */
+/* wires: the inputs, then each gate's value, a byte each. All of inputs are inputs, and wires has room for inputs and gates.
+ * With the giant step's circuit, i inputs, g gates and s state wires (forkhemit_sizes, forkhemit_generate):
+ *   wires 0 to i - 1                  the inputs, as forkhemit_pack writes them. Left rows, right rows, public rows: for each row n wires for the
+ *                                     variables that it holds positive, then n for those that it holds negative, variable 1 first. Then the state:
+ *                                     T and F (n each); the depth (n + 1 wires, one of them 1, depth 0 first); for each of n levels T, F and the
+ *                                     chosen variable (n each, of the last one wire is 1 where the level is used); satisfied, refuted
+ *   wires i to i + g - 1              the gates' values, in the order of the gates
+ *   wires i + g - s - 1 to i + g - 2  the next state, in the same order: lend it to forkhemit_read_back, or as the last s inputs once more
+ *   wire i + g - 1                    the mark: 1 if the next state is closed, else 0.
+ * 9, 10. */
 uint8_t forkhemit_evaluate(const uint32_t *gates, size_t gates_length, const uint8_t *inputs, size_t inputs_length,
                            uint8_t *wires, size_t wires_length);
 

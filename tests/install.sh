@@ -1,8 +1,9 @@
 #!/usr/bin/env bash
 # Tries `make install`: into a folder of its own, where programs, example hosts and man pages are then used as a user would, with nothing of
-# the source tree. The last line counts the trials, `N passed, M failed`. Use: tests/install.sh
+# the source tree; then `make dist`, unpacked elsewhere. The last line counts the trials, `N passed, M failed`. Use: tests/install.sh
 set -uo pipefail
 cd "$(dirname "$0")/.." || exit
+tree=$PWD
 room=$(mktemp -d)
 trap 'rm -rf "$room"' EXIT
 prefix=$room/prefix
@@ -46,6 +47,14 @@ answers() { # COMMAND..
     "$@" <budget | diff - answer
 }
 
+# every `make GOAL` of README's table stands in what `make help` prints
+helped() {
+    local goal
+    for goal in $(grep -oE '^\| `make [a-z-]+[` ]' README.md | tr -d '`' | sed 's/^| make //'); do
+        make --silent help | grep -q "make $goal\b" || { echo "make $goal" && return 1; }
+    done
+}
+
 # ---- what a file says of itself
 
 declared() { grep -oE 'forkhemit_[a-z_]+\(' "$1" | tr -d '(' | sort -u; }
@@ -69,6 +78,17 @@ if [ "$failed" -gt 0 ]; then end; fi
 trial 'everybody can read all of it' prints '' find "$prefix" ! -type l ! -perm -o=r -o -type d ! -perm -o=x
 relative() { ! make --silent install PREFIX=prefix && [ ! -e prefix ]; }
 trial 'a PREFIX that is no whole path is turned back' relative
+# A path with a blank, or with what a shell takes otherwise, is turned back whole: nothing is made, and nothing taken away.
+mkdir -p "$room/half/share/doc/forkhemit" "$room/half way"
+touch "$room/half/share/doc/forkhemit/kept"
+kept() { ! "$@" && [ -e "$room/half/share/doc/forkhemit/kept" ] && [ -z "$(ls -A "$room/half way")" ]; }
+for goal in install uninstall; do
+    for path in "$room/half way" "$room/half way " "$room/half;way" "$room/half'way" "$room/h*f" "$room/half"$'\t'"way"; do
+        trial "$goal: PREFIX=${path#"$room/"} is turned back" kept make --silent "$goal" PREFIX="$path"
+        trial "$goal: DESTDIR=${path#"$room/"} is turned back" kept make --silent "$goal" PREFIX=/usr DESTDIR="$path"
+        trial "$goal: LIBDIR=${path#"$room/"} is turned back" kept make --silent "$goal" PREFIX="$prefix" LIBDIR="$path"
+    done
+done
 trial 'installed below DESTDIR' make --silent install PREFIX="$prefix" DESTDIR="$room/stage"
 trial 'with the same files' diff -r --no-dereference "$prefix" "$room/stage$prefix"
 trial 'nothing is left to be filled in' prints '' grep -rnI '@[A-Z]*@' "$prefix"
@@ -85,10 +105,15 @@ version=$(sed -n 's/^## \([0-9]*\.[0-9]*\.[0-9]*\)\. .*/\1/p' CHANGES.md | head 
 cat >"$room/version.c" <<'EOF'
 #include <forkhemit.h>
 #include <stdio.h>
-int main(void) { return printf("%d.%d.%d\n", FORKHEMIT_VERSION / 10000, FORKHEMIT_VERSION / 100 % 100, FORKHEMIT_VERSION % 100) < 0; }
+int main(void)
+{
+    if (forkhemit_version() != FORKHEMIT_VERSION)
+        puts("the library's version is another one");
+    return printf("%d.%d.%d\n", FORKHEMIT_VERSION / 10000, FORKHEMIT_VERSION / 100 % 100, FORKHEMIT_VERSION % 100) < 0;
+}
 EOF
-trial 'a program that prints the version is built' cc "${strict[@]}" -o "$room/version" "$room/version.c"
-trial "$version in CHANGES.md and in the header" prints "$version" "$room/version"
+trial 'a program that prints the version is built' cc "${strict[@]}" -o "$room/version" "$room/version.c" "${linked[@]}"
+trial "$version in CHANGES.md, in the header and in the library" prints "$version" "$room/version"
 trial 'in the pkg-config file' prints "$version" pkg-config --modversion forkhemit
 trial 'in the soname' prints "libforkhemit.so.${version%.*}" soname "$library.so"
 trial "in the shared library's name" cmp "$library.so.${version%.*}" "$library.so.$version"
@@ -133,13 +158,70 @@ trial 'a host in C with the archive is built' cc -std=c11 "${strict[@]}" -static
 trial 'and answers' answers env -u LD_LIBRARY_PATH "$room/static" "${texts[@]}"
 trial 'a host in Rust with the archive is built' rustc --edition 2021 -D warnings -o "$room/rust" $host.rs -L "native=${library%/*}"
 trial 'and answers' answers env -u LD_LIBRARY_PATH "$room/rust" "${texts[@]}"
+export PYTHONPATH=$prefix/share/forkhemit/python
+trial 'the module for Python stands where pkg-config says' prints "$PYTHONPATH" pkg-config --variable=pythondir forkhemit
 trial 'a host in Python answers' answers python3 -B $host.py "${texts[@]}"
-trial 'and is refused a text that is missing' prints $'c refused 5\ns UNKNOWN' python3 -B $host.py none.cnf right.cnf public.cnf 9
+trial 'with the library beside the module' answers env -u LD_LIBRARY_PATH python3 -B $host.py "${texts[@]}"
+refused() { python3 -B $host.py none.cnf right.cnf public.cnf 9 2>/dev/null; }
+trial 'and is refused a text that is missing' prints $'c refused 5\ns UNKNOWN' refused
+backend=../backend
+trial 'the kit for back ends is built' cc -std=c11 "${strict[@]}" -o "$room/backend" $backend/backend.c "${linked[@]}"
+drilled() { sh $backend/drill.sh "$room/backend" "$prefix/bin/forkhemit-pair" "$PWD" "$room/drill" | tail -n 3 | diff - answer; }
+trial 'and a drill with it gives the answer' drilled
 trial 'the header is C++ too' c++ -x c++ "${strict[@]}" -fsyntax-only -include forkhemit.h /dev/null
 cd "$OLDPWD" || end
+
+# ---- the module for Python, as it is installed
+
+trial 'the module is held to the header' env FORKHEMIT_HEADER="$prefix/include/forkhemit.h" python3 -B tests/module.py
 
 # ---- taken away
 
 trial 'uninstalled' make --silent uninstall PREFIX="$prefix"
 trial 'with no file left' prints '' find "$prefix" ! -type d
+
+# ---- the archive to unpack anywhere
+
+unset PKG_CONFIG_LIBDIR LD_LIBRARY_PATH PYTHONPATH
+packed=forkhemit-$version-x86_64-linux.tar.gz
+trial 'packed' make --silent dist
+cp "target/dist/$packed" "target/dist/$packed.sha256" "$room"
+trial 'packed once more' make --silent dist
+trial 'to the same bytes' cmp "target/dist/$packed" "$room/$packed"
+cd "$room" || end
+trial 'its checksum' sha256sum --check --quiet "$packed.sha256"
+mkdir "un packed"
+cd "un packed" || end
+trial 'unpacked' tar -xzf "$room/$packed"
+cd "forkhemit-$version" || end
+unpacked=$PWD
+summed() { cut -c 67- SHA256SUMS | sort; }
+trial 'the checksums of its files' sha256sum --check --quiet SHA256SUMS
+trial 'which are all of its files' prints "$(find . -type f ! -name SHA256SUMS | sort)" summed
+trial 'nothing in it names the tree that it was made in' prints '' grep -rlF "$tree" .
+cd share/doc/forkhemit/examples/harbour || end
+trial 'its pair program answers' answers "$unpacked/bin/forkhemit-pair"
+export PKG_CONFIG_PATH=$unpacked/lib/pkgconfig
+flags() { pkg-config "$1" forkhemit | xargs printf '%s\n'; }
+mapfile -t compiled < <(flags --cflags)
+mapfile -t linked < <(flags --libs)
+trial 'a host with its shared library is built' cc -std=c11 -Wall -Wextra -Werror "${compiled[@]}" -o "$room/dist-shared" $host.c "${linked[@]}"
+trial 'and answers' answers env LD_LIBRARY_PATH="$unpacked/lib" "$room/dist-shared" "${texts[@]}"
+trial 'a host with its archive is built' cc -std=c11 -Wall -Wextra -Werror -I"$unpacked/include" -o "$room/dist-static" $host.c "$unpacked/lib/libforkhemit.a"
+trial 'and answers' answers "$room/dist-static" "${texts[@]}"
+trial 'a host in Python answers' answers env PYTHONPATH="$unpacked/share/forkhemit/python" python3 -B $host.py "${texts[@]}"
+cd "$tree" || end
+
+# ---- without the kit
+
+# a copy of the tree's rules with no target, and a path with no rt
+mkdir -p "$room/bare/crates" "$room/tools"
+cp Makefile crates.txt "$room/bare"
+cp -r include "$room/bare"
+for tool in make sh find sed paste cc; do ln -s "$(command -v "$tool")" "$room/tools"; done
+missing() { # GOAL
+    ! env PATH="$room/tools" make --silent -C "$room/bare" "$1" >"$room/said" 2>&1 && grep -q '^the Rattle kit is missing: ' "$room/said"
+}
+for goal in all run lib install dist test fmt; do trial "make $goal without the kit says what is missing" missing "$goal"; done
+trial 'make help names every command of README.md' helped
 end

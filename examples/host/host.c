@@ -5,17 +5,14 @@
  * Use: host-c LEFT RIGHT PUBLIC BUDGET. `make examples` builds it.
  */
 #include "forkhemit.h"
+#include "host.h"
 #include "texts.h"
 #include <stdio.h>
 #include <stdlib.h>
 #include <string.h>
 
-/* A refusal as the pair program prints it, which is an answer too: the status is 0. What was lent is freed as the process ends. */
-static int refused(uint8_t number)
-{
-    printf("c refused %u\ns UNKNOWN\n", number);
-    return 0;
-}
+/* How every call names the tables. */
+#define TABLES FORKHEMIT_TABLES(d, left, right, public_table)
 
 /* What a proved library never brings about. */
 static int wrong(const char *what)
@@ -30,8 +27,7 @@ int main(int count, char **arguments)
         fputs("use: host-c LEFT RIGHT PUBLIC BUDGET\n", stderr);
         return 1;
     }
-    /* A host that is given the budget as a line would have forkhemit_read_budget judge it. */
-    uint64_t budget = strtoull(arguments[4], NULL, 10);
+    uint64_t budget = number_of("BUDGET", arguments[4]);
 
     /* The texts become tables: two words a row, positive then negative. */
     uint8_t *left_text = room(TEXT_LIMIT + 1, 1), *right_text = room(TEXT_LIMIT + 1, 1), *public_text = room(TEXT_LIMIT + 1, 1);
@@ -42,7 +38,7 @@ int main(int count, char **arguments)
     uint8_t refusal = forkhemit_read_tables(left_text, left_length, right_text, right_length, public_text, public_length,
                                             left, ROW_WORDS, right, ROW_WORDS, public_table, ROW_WORDS, d);
     if (refusal != 0)
-        return refused(refusal);
+        return refused(refusal); /* what was lent is freed as the process ends */
 
     /* Room for the circuit, for the packed inputs and for all wires: what n and the row counts alone tell. */
     uint64_t sizes[4] = {0}; /* gate ceiling, words for its gates, input wires, state wires */
@@ -60,8 +56,7 @@ int main(int count, char **arguments)
         return refused(refusal);
     memcpy(plain, run, sizeof run);
     uint64_t repeated[2] = {0}; /* repeats, last mark */
-    refusal = forkhemit_repeat(d[0], d[1], d[2], d[3], left, ROW_WORDS, right, ROW_WORDS, public_table, ROW_WORDS, budget,
-                               gates, gate_words, bytes, inputs, wires, wire_count, run, repeated);
+    refusal = forkhemit_repeat(TABLES, budget, gates, gate_words, bytes, inputs, wires, wire_count, run, repeated);
     if (refusal != 0)
         return refused(refusal);
 
@@ -69,8 +64,7 @@ int main(int count, char **arguments)
     uint64_t steps = 0, continued[2] = {0}; /* steps taken, 1 if the run is closed */
     while (steps < budget && continued[1] == 0) {
         uint64_t times = budget - steps < 10 ? budget - steps : 10;
-        refusal = forkhemit_continue(d[0], d[1], d[2], d[3], left, ROW_WORDS, right, ROW_WORDS, public_table, ROW_WORDS, times,
-                                     plain, continued);
+        refusal = forkhemit_continue(TABLES, times, plain, continued);
         if (refusal != 0)
             return refused(refusal);
         steps += continued[0];
@@ -88,7 +82,7 @@ int main(int count, char **arguments)
 
     /* The budgeted run gives the same. */
     uint64_t answer[3] = {0};
-    refusal = forkhemit_solve(d[0], d[1], d[2], d[3], left, ROW_WORDS, right, ROW_WORDS, public_table, ROW_WORDS, budget, answer);
+    refusal = forkhemit_solve(TABLES, budget, answer);
     if (refusal != 0)
         return refused(refusal);
     if (answer[0] != repeated[0] || answer[1] != verdict || answer[2] != model[0])
@@ -107,5 +101,5 @@ int main(int count, char **arguments)
     free(public_text);
     free(right_text);
     free(left_text);
-    return 0;
+    return finished();
 }

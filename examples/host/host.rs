@@ -2,7 +2,11 @@
 //! closing mark or the budget, and prints the answer as the pair program does. It then steps a plain run as often, solves at once, and
 //! compares. Use: host-rust LEFT RIGHT PUBLIC BUDGET. `make examples` builds it.
 
-use std::io::Write;
+use std::ffi::{OsStr, OsString};
+use std::fs::File;
+use std::io::{Read, Write};
+use std::os::unix::ffi::OsStrExt;
+use std::process::ExitCode;
 
 /// The library, as include/forkhemit.h has it: an array passes as a reference, a slice as its pointer and then its length.
 #[rustfmt::skip]
@@ -24,6 +28,7 @@ mod library {
             right: *const u32, right_length: usize, public_table: *const u32, public_length: usize, times: u64,
             gates: *mut u32, gates_length: usize, bytes: *mut u8, bytes_length: usize, wires: *mut u8, wires_length: usize,
             run: &mut [u32; 101], repeated: &mut [u64; 2]) -> u8;
+        pub fn forkhemit_read_budget(line: *const u8, line_length: usize, budget: &mut [u64; 1]) -> u8;
         pub fn forkhemit_answer(n: u64, count: u64, verdict: u64, model: u64, text: &mut [u8; 256], length: &mut [u64; 1]) -> u8;
     }
 }
@@ -124,17 +129,52 @@ fn answer_of(texts: [&[u8]; 3], budget: u64) -> Result<Vec<u8>, Fault> {
     Ok(text[..length[0] as usize].to_vec())
 }
 
-fn main() {
-    let arguments: Vec<String> = std::env::args().collect();
-    let budget =
-        arguments.get(4).and_then(|budget| budget.parse().ok()).expect("use: host-rust LEFT RIGHT PUBLIC BUDGET");
-    // a file that cannot be read counts as one byte more than a text may have, which the library refuses with 5
-    let text = |path: &String| std::fs::read(path).unwrap_or_else(|_| vec![0; TEXT_LIMIT + 1]);
-    let (left, right, public) = (text(&arguments[1]), text(&arguments[2]), text(&arguments[3]));
+/// The number that an argument gives, judged by the library as it judges a budget line.
+fn budget_of(argument: &OsStr) -> Result<u64, Fault> {
+    let (line, mut budget) = ([argument.as_bytes(), b"\n"].concat(), [0]);
+    taken(unsafe { forkhemit_read_budget(line.as_ptr(), line.len(), &mut budget) }).map(|()| budget[0])
+}
+
+/// At most one byte more of a file than a text may have. A file that cannot be read counts as so long too, which the library refuses with 5.
+fn text_of(path: &OsStr) -> Vec<u8> {
+    let mut text = vec![];
+    let read = File::open(path).and_then(|file| file.take(TEXT_LIMIT as u64 + 1).read_to_end(&mut text));
+    read.map_or_else(|_| vec![0; TEXT_LIMIT + 1], |_| text)
+}
+
+/// Prints the answer, a refusal too.
+fn print_answer(paths: [&OsStr; 3], budget: u64) -> Result<(), String> {
+    let [left, right, public] = paths.map(text_of);
     let printed = match answer_of([&left, &right, &public], budget) {
         Ok(text) => text,
-        Err(Fault::Refused(number)) => format!("c refused {number}\ns UNKNOWN\n").into_bytes(),
-        Err(Fault::Wrong(what)) => panic!("{what}"),
+        Err(Fault::Refused(number)) => {
+            eprintln!("refused {number}: include/forkhemit.h has the sentence");
+            format!("c refused {number}\ns UNKNOWN\n").into_bytes()
+        }
+        Err(Fault::Wrong(what)) => return Err(what.into()),
     };
-    std::io::stdout().write_all(&printed).expect("standard output takes the answer");
+    let mut output = std::io::stdout();
+    let written = output.write_all(&printed).and_then(|()| output.flush());
+    written.map_err(|error| format!("the output cannot be written: {error}"))
+}
+
+/// What the arguments ask for; else what is wrong with them, with the library or with the output.
+fn host(arguments: &[OsString]) -> Result<(), String> {
+    match arguments {
+        [_, left, right, public, budget] => match budget_of(budget) {
+            Ok(number) => print_answer([left, right, public], number),
+            Err(_) => Err(format!("BUDGET {budget:?}: refused 8: a number is digits alone, up to {}", u64::MAX)),
+        },
+        _ => Err("use: host-rust LEFT RIGHT PUBLIC BUDGET".into()),
+    }
+}
+
+fn main() -> ExitCode {
+    match host(&std::env::args_os().collect::<Vec<_>>()) {
+        Ok(()) => ExitCode::SUCCESS,
+        Err(what) => {
+            eprintln!("{what}");
+            ExitCode::FAILURE
+        }
+    }
 }

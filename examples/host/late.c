@@ -6,6 +6,7 @@
  * `make examples` builds it.
  */
 #include "forkhemit.h"
+#include "host.h"
 #include "texts.h"
 #include <inttypes.h>
 #include <stdio.h>
@@ -13,16 +14,14 @@
 #include <string.h>
 
 /* How every call names the tables, first those of the circuit's run, then those of the run with the index. */
-#define TABLES d[0], d[1], d[2], d[3], left, ROW_WORDS, right, ROW_WORDS, public_table, ROW_WORDS
-#define OTHER_TABLES d[0], d[1], d[2], d[3], other_left, ROW_WORDS, other_right, ROW_WORDS, public_table, ROW_WORDS
+#define TABLES FORKHEMIT_TABLES(d, left, right, public_table)
+#define OTHER_TABLES FORKHEMIT_TABLES(d, other_left, other_right, public_table)
 
 /* Ends the host where a call is refused that should be taken. */
 static void taken(uint8_t refusal)
 {
-    if (refusal != 0) {
-        printf("c refused %u\ns UNKNOWN\n", refusal);
-        exit(0);
-    }
+    if (refusal != 0)
+        exit(refused(refusal));
 }
 
 /* Ends the host where something is what a proved library never brings about. */
@@ -40,16 +39,21 @@ int main(int count, char **arguments)
         fputs("use: late-c LEFT RIGHT PUBLIC STEPS STATION ROW LITERAL..\n", stderr);
         return 1;
     }
-    uint64_t late = strtoull(arguments[4], NULL, 10), row = strtoull(arguments[6], NULL, 10);
-    uint64_t station = strcmp(arguments[5], "left") == 0 ? 0 : strcmp(arguments[5], "right") == 0 ? 1 : 2;
+    uint64_t late = number_of("STEPS", arguments[4]), row = number_of("ROW", arguments[6]);
+    uint64_t station = strcmp(arguments[5], "right") == 0;
+    if (station == 0 && strcmp(arguments[5], "left") != 0) {
+        fprintf(stderr, "STATION is left or right, and not '%s'\n", arguments[5]);
+        return 1;
+    }
     uint32_t clause[2] = {0}; /* positive, negative */
     for (int k = 7; k < count; k++) {
-        long literal = strtol(arguments[k], NULL, 10);
-        if (literal == 0 || literal < -32 || literal > 32) {
-            fprintf(stderr, "%s is no literal\n", arguments[k]);
+        int negative = arguments[k][0] == '-';
+        uint64_t variable = number_of("LITERAL", arguments[k] + negative);
+        if (variable < 1 || variable > 32) {
+            fprintf(stderr, "'%s' is no literal\n", arguments[k]);
             return 1;
         }
-        clause[literal < 0] |= (uint32_t)1 << (labs(literal) - 1);
+        clause[negative] |= (uint32_t)1 << (variable - 1);
     }
 
     /* The texts become tables. */
@@ -90,7 +94,7 @@ int main(int count, char **arguments)
             if (forkhemit_replace_indexed(OTHER_TABLES, other_run, station, row, clause[0], clause[1], index, other_number) != refusal)
                 return 1;
             if (refusal != 0) {
-                printf("c row %" PRIu64 " stays as it is: refused %u\n", row, refusal);
+                printf("c row %" PRIu64 " stays as it is: refused %u, %s\n", row, refusal, sentence(refusal));
             } else {
                 taken(forkhemit_unsatisfied(TABLES, run, number));
                 printf("c the %s station has a clause for its padding row %" PRIu64 ": rows not met %" PRIu64 "\n", arguments[5], row,
@@ -121,5 +125,5 @@ int main(int count, char **arguments)
     free(gates);
     for (int k = 0; k < 3; k++)
         free(texts[k]);
-    return 0;
+    return finished();
 }

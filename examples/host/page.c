@@ -5,16 +5,10 @@
  * Use: page-c LEFT RIGHT PUBLIC BUDGET PILOTS WATCHES. `make examples` builds it.
  */
 #include "forkhemit.h"
+#include "host.h"
 #include "texts.h"
 #include <stdio.h>
 #include <stdlib.h>
-
-/* A refusal as the pair program prints it, which is an answer too. Without a roster it is 14. */
-static int refused(uint8_t number)
-{
-    printf("c refused %u\ns UNKNOWN\n", number);
-    return 0;
-}
 
 int main(int count, char **arguments)
 {
@@ -22,8 +16,8 @@ int main(int count, char **arguments)
         fputs("use: page-c LEFT RIGHT PUBLIC BUDGET PILOTS WATCHES\n", stderr);
         return 1;
     }
-    uint64_t budget = strtoull(arguments[4], NULL, 10);
-    uint64_t pilots = strtoull(arguments[5], NULL, 10), watches = strtoull(arguments[6], NULL, 10);
+    uint64_t budget = number_of("BUDGET", arguments[4]);
+    uint64_t pilots = number_of("PILOTS", arguments[5]), watches = number_of("WATCHES", arguments[6]);
 
     /* The texts become tables, and a run over them is closed or ends with its budget. */
     uint8_t *texts[3] = {0};
@@ -53,7 +47,7 @@ int main(int count, char **arguments)
     uint8_t page[32 * FORKHEMIT_PAGE_LINE_BYTES] = {0};
     refusal = forkhemit_page(run, pilots, watches, page, sizeof page);
     if (refusal != 0)
-        return refused(refusal);
+        return refused(refusal); /* without a roster 14 */
     fwrite(page, FORKHEMIT_PAGE_LINE_BYTES, pilots, stdout);
 
     /* What is read off the page is the run's model. */
@@ -62,5 +56,5 @@ int main(int count, char **arguments)
         fputs("the page shows another model\n", stderr);
         return 1;
     }
-    return 0;
+    return finished();
 }

@@ -5,6 +5,7 @@
  * `make examples` builds it.
  */
 #include "forkhemit.h"
+#include "host.h"
 #include "texts.h"
 #include <inttypes.h>
 #include <stdio.h>
@@ -31,14 +32,11 @@ int main(int count, char **arguments)
 
     /* The tables are lent as they are, and nothing is written: a proof that is accepted shows that no assignment makes all rows true. */
     if (refusal == 0)
-        refusal = forkhemit_check_proof(d[0], d[1], d[2], d[3], left, ROW_WORDS, right, ROW_WORDS, public_table, ROW_WORDS, texts[3],
-                                        lengths[3]);
-    if (refusal == 0)
-        printf("c %s: accepted, no roster meets all %" PRIu64 " rows\ns UNSATISFIABLE\n", arguments[4], d[1] + d[2] + d[3]);
-    else
-        printf("c refused %u\ns UNKNOWN\n", refusal);
-
+        refusal = forkhemit_check_proof(FORKHEMIT_TABLES(d, left, right, public_table), texts[3], lengths[3]);
     for (int k = 0; k < 4; k++)
         free(texts[k]);
-    return 0;
+    if (refusal != 0)
+        return refused(refusal);
+    printf("c %s: accepted, no roster meets all %" PRIu64 " rows\ns UNSATISFIABLE\n", arguments[4], d[1] + d[2] + d[3]);
+    return finished();
 }

@@ -4,6 +4,7 @@
  * Use: turns-c TEXT. `make examples` builds it.
  */
 #include "forkhemit.h"
+#include "host.h"
 #include "texts.h"
 #include <inttypes.h>
 #include <stdio.h>
@@ -20,12 +21,10 @@ int main(int count, char **arguments)
     uint64_t answer[3] = {0}; /* winner, first variable, its value */
     uint8_t refusal = forkhemit_game(text, length, answer);
     free(text);
-    if (refusal != 0) {
-        printf("c refused %u\ns UNKNOWN\n", refusal);
-        return 0;
-    }
+    if (refusal != 0)
+        return refused(refusal);
     printf("s %s\n", answer[0] == FORKHEMIT_EXISTENTIAL ? "EXISTENTIAL" : "UNIVERSAL");
     if (answer[1] != 0)
         printf("v %s%" PRIu64 " 0\n", answer[2] == 1 ? "" : "-", answer[1]);
-    return 0;
+    return finished();
 }

@@ -1,4 +1,5 @@
-//! The example hosts: each prints what the pair program prints for the same texts and budget.
+//! The example hosts: each prints what the pair program prints for the same texts and budget, and says on standard error why texts were
+//! refused. What they do with a wrong use is tried by tests/hosts.sh.
 
 use crate::model::{self, Standing};
 use crate::process::{Input, Room, Source, NAMES};
@@ -34,6 +35,12 @@ fn published_files(own: &Path) -> std::io::Result<Vec<Test>> {
     Ok(tests)
 }
 
+/// What the host's words on standard error begin with, given what the pair program prints; None where it says nothing.
+fn words(printed: &[u8]) -> Option<String> {
+    let line = String::from_utf8_lossy(printed);
+    line.lines().next()?.strip_prefix("c ").filter(|rest| rest.starts_with("refused ")).map(|rest| format!("{rest}: "))
+}
+
 /// What is wrong with what the host does, `pair` being a room of the pair program.
 fn wrong(test: &Test, host: &Room, pair: &Room) -> std::io::Result<Option<String>> {
     let budget = String::from_utf8_lossy(&test.input);
@@ -41,8 +48,13 @@ fn wrong(test: &Test, host: &Room, pair: &Room) -> std::io::Result<Option<String
     let [left, right, public] = NAMES;
     let ran = host.run_with(&[left, right, public, budget], &test.files, b"")?;
     let printed = pair.run(&test.files, &test.input)?;
-    Ok(match ran.fault.or(printed.fault) {
+    let told = match words(&printed.output) {
+        Some(words) => ran.said.starts_with(words.as_bytes()) && ran.said.len() > words.len() + 1,
+        None => ran.said.is_empty(),
+    };
+    Ok(match ran.ended.or(printed.fault) {
         Some(fault) => Some(fault),
+        None if !told => Some(format!("the host says {}", report::quoted(&ran.said))),
         None if ran.output == printed.output => None,
         None => Some(format!(
             "the host prints {}, the pair program {}",

@@ -96,6 +96,10 @@ pub struct Ran {
     pub output: Vec<u8>,
     /// How many bytes of standard input it took, where that can be seen.
     pub taken: Option<u64>,
+    /// What it wrote to standard error.
+    pub said: Vec<u8>,
+    /// A bad end, or none.
+    pub ended: Option<String>,
     /// What went wrong besides: a bad end, words on standard error, no end.
     pub fault: Option<String>,
 }
@@ -434,16 +438,17 @@ fn gather(mut child: Child) -> std::io::Result<Ran> {
         if let Some(fault) = watch.look(child.id())? {
             child.kill()?;
             child.wait()?;
-            return Ok(Ran { output: vec![], taken: None, fault: Some(fault) });
+            return Ok(Ran {
+                output: vec![],
+                taken: None,
+                said: vec![],
+                ended: Some(fault.clone()),
+                fault: Some(fault),
+            });
         }
     };
     let status = child.wait()?;
-    let fault = if !status.success() {
-        Some(format!("ended with {status}"))
-    } else if !said.is_empty() {
-        Some(format!("wrote to standard error: {}", said.escape_ascii()))
-    } else {
-        None
-    };
-    Ok(Ran { output, taken: None, fault })
+    let ended = (!status.success()).then(|| format!("ended with {status}"));
+    let words = (!said.is_empty()).then(|| format!("wrote to standard error: {}", said.escape_ascii()));
+    Ok(Ran { output, taken: None, said, ended: ended.clone(), fault: ended.or(words) })
 }
