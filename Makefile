@@ -19,7 +19,7 @@ KIT = @command -v rt >/dev/null || { echo 'the Rattle kit is missing: there is n
   'this repository and in no package registry: ask whoever gave you the repository. README.md says which kit proved this tree.' >&2; exit 1; }
 
 # all that `make install` copies
-all: $(PROGRAMS:%=target/static/%) target/lib/libforkhemit.a target/shared/libforkhemit.so
+all: $(PROGRAMS:%=target/static/%) target/lib/libforkhemit.a target/shared/libforkhemit.so target/examples/desk
 
 help:
 	@sed -n '/^\.PHONY/q; s/^# //p' Makefile
@@ -84,6 +84,9 @@ install: absolute all
 	  install -m 755 target/static/$$program $(DESTDIR)$(PREFIX)/bin/forkhemit-$$program && \
 	  $(FILLED) man/forkhemit-$$program.1 | install -m 644 /dev/stdin $(MAN)/forkhemit-$$program.1 || exit 1; \
 	done
+	install -m 755 tools/forkhemit-plan $(DESTDIR)$(PREFIX)/bin
+	install -D -m 755 target/examples/desk $(DESTDIR)$(PREFIX)/libexec/forkhemit/desk
+	$(FILLED) man/forkhemit-plan.1 | install -m 644 /dev/stdin $(MAN)/forkhemit-plan.1
 	install -m 644 include/forkhemit.h $(DESTDIR)$(PREFIX)/include
 	install -m 644 target/lib/libforkhemit.a $(LIB)
 	install -m 755 target/shared/libforkhemit.so $(LIB)/libforkhemit.so.$(VERSION)
@@ -108,6 +111,7 @@ absolute:
 	    "'$$GIVEN_PREFIX' '$$GIVEN_LIBDIR' '$$GIVEN_DESTDIR'" >&2; exit 1 ;; esac
 
 uninstall: absolute
+	rm -f $(DESTDIR)$(PREFIX)/bin/forkhemit-plan $(MAN)/forkhemit-plan.1 $(DESTDIR)$(PREFIX)/libexec/forkhemit/desk
 	rm -f $(PROGRAMS:%=$(DESTDIR)$(PREFIX)/bin/forkhemit-%) $(PROGRAMS:%=$(MAN)/forkhemit-%.1) $(DESTDIR)$(PREFIX)/include/forkhemit.h
 	rm -f $(LIB)/libforkhemit.a $(LIB)/libforkhemit.so $(LIB)/$(SONAME) $(LIB)/libforkhemit.so.$(VERSION) $(LIB)/pkgconfig/forkhemit.pc
 	rm -rf $(DOC) $(DESTDIR)$(PREFIX)/share/forkhemit
@@ -139,7 +143,7 @@ target/examples/late-c: examples/host/late.c examples/host/texts.h examples/host
 	mkdir -p target/examples
 	cc -std=c11 -O2 -Wall -Wextra -Wpedantic -Werror -Iinclude -o $@ $< -Ltarget/lib -lforkhemit
 
-target/examples/desk: examples/desk/desk.c examples/host/texts.h include/forkhemit.h target/lib/libforkhemit.a
+target/examples/desk: examples/desk/desk.c examples/host/texts.h examples/host/host.h include/forkhemit.h target/lib/libforkhemit.a
 	mkdir -p target/examples
 	cc -std=c11 -O2 -Wall -Wextra -Wpedantic -Werror -Iinclude -o $@ $< -Ltarget/lib -lforkhemit
 

@@ -117,7 +117,7 @@ trial "$version in CHANGES.md, in the header and in the library" prints "$versio
 trial 'in the pkg-config file' prints "$version" pkg-config --modversion forkhemit
 trial 'in the soname' prints "libforkhemit.so.${version%.*}" soname "$library.so"
 trial "in the shared library's name" cmp "$library.so.${version%.*}" "$library.so.$version"
-for program in forkhemit-pair forkhemit-circuit forkhemit-whole; do
+for program in forkhemit-pair forkhemit-circuit forkhemit-whole forkhemit-plan; do
     page=$prefix/share/man/man1/$program.1
     trial "in the page of $program" prints "$version" titled "$page"
     trial 'which is well-formed' prints '' groff -man -Tutf8 -ww -z "$page"
@@ -151,6 +151,13 @@ trial 'the circuit program prints' prints $'3 2 2 9\n2 9 1' smallest
 trial 'the whole program answers with its budget for the count' prints $'c steps 9\ns SATISFIABLE\nv -1 2 0' through 0009
 trial 'and takes no larger one' prints $'c refused 23\ns UNKNOWN' through 65536
 trial 'nor the example, which is too large' prints $'c refused 7\ns UNKNOWN' harbour
+
+planner=(env -u LD_LIBRARY_PATH "$prefix/bin/forkhemit-plan")
+roster='2 Ahlgren late, 5 Brandt late, 7 Costa early, 12 Duarte night'
+followed() { "${planner[@]}" follow | tail -n 1; }
+trial "the planner's tool finds the pair program beside it" prints "roster 1: $roster"$'\nno more rosters' "${planner[@]}" rosters
+trial 'the desk tool' prints "roster: $roster" followed
+trial 'and the library' prints 'turns/by-turns.qdimacs: the e side can force a roster, and begins with 1 Ahlgren early on' "${planner[@]}" force turns/by-turns.qdimacs
 trial 'a host in C with the shared library is built' cc -std=c11 "${strict[@]}" -o "$room/shared" $host.c "${linked[@]}"
 trial 'asks for it by its soname' prints "libforkhemit.so.${version%.*}"$'\nlibc.so.6' libraries "$room/shared"
 trial 'and answers' answers "$room/shared" "${texts[@]}"

@@ -3,8 +3,11 @@
  * pair program show none of this.
  * Use: desk [-w] LEFT RIGHT PUBLIC BUDGET; with -w the run has the weighted choice. `make examples` builds it, and holds what it prints of
  * examples/harbour to the files `listing` and `listing-weighted`.
+ * Status: 0 for a listing, whatever the verdict, and for texts that are turned back; 1 for wrong arguments, or where the output could not be
+ * written.
  */
 #include "forkhemit.h"
+#include "../host/host.h"
 #include "../host/texts.h"
 #include <inttypes.h>
 #include <stdio.h>
@@ -15,6 +18,7 @@
 #define DEPTH 4
 #define LEVELS 5
 #define CHOSEN 5 /* the number of rule 4 in the explanation of a step */
+#define CLAUSE_COLUMNS 120 /* what is shown of a clause at most: 32 literals typed with single spaces have 119 bytes */
 
 /* How every call names the tables. */
 #define TABLES d[0], d[1], d[2], d[3], left, ROW_WORDS, right, ROW_WORDS, public_table, ROW_WORDS
@@ -40,8 +44,30 @@ static void print_literals(const uint32_t *words)
     putchar(')');
 }
 
-/* The clause as it was typed, a line's end shown as a space. A public row has no clause in the stations' texts, and a row that was replaced
- * has another now than its text: both are shown as the table has them. */
+/* A space, a tab or another byte that moves a terminal on. */
+static int is_blank(uint8_t byte)
+{
+    return byte == ' ' || (byte >= '\t' && byte <= '\r');
+}
+
+/* The bytes of a clause that a terminal may be sent. A remark inside a clause can hold anything: what is no letter, digit or sign of ASCII is
+ * a `?`, blanks and line ends between words are one space, so that no remark looks like a row of the listing, and what is long is cut. */
+static void print_bytes(const uint8_t *bytes, uint64_t length)
+{
+    unsigned columns = 0;
+    for (uint64_t i = 0; i < length; i++) {
+        if (is_blank(bytes[i]) && i + 1 < length && is_blank(bytes[i + 1]))
+            continue;
+        if (columns++ == CLAUSE_COLUMNS) {
+            printf("...");
+            return;
+        }
+        putchar(is_blank(bytes[i]) ? ' ' : bytes[i] > ' ' && bytes[i] <= '~' ? bytes[i] : '?');
+    }
+}
+
+/* The clause as it was typed. A public row has no clause in the stations' texts, and a row that was replaced has another now than its text:
+ * both are shown as the table has them. */
 static void print_clause(uint64_t row)
 {
     static uint8_t clause[TEXT_LIMIT];
@@ -62,8 +88,7 @@ static void print_clause(uint64_t row)
         return;
     }
     printf("  ");
-    for (uint64_t i = 0; i < length[0]; i++)
-        putchar(clause[i] < ' ' ? ' ' : clause[i]);
+    print_bytes(clause, length[0]);
 }
 
 /* One line a step: its number, how deep the run is then, the rule, what was set, the row and its clause. */
@@ -92,23 +117,25 @@ static uint8_t step_weighted(uint32_t *run, uint64_t *told)
     return refusal;
 }
 
-int main(int count, char **arguments)
+/* How the run ended, and the roster if it is satisfied. */
+static void print_end(const uint32_t *run)
 {
-    int weighted = count > 1 && strcmp(arguments[1], "-w") == 0;
-    arguments += weighted;
-    if (count - weighted != 5) {
-        fputs("use: desk [-w] LEFT RIGHT PUBLIC BUDGET\n", stderr);
-        return 1;
-    }
-    uint64_t budget = strtoull(arguments[4], NULL, 10);
-    left_length = read_text(arguments[1], left_text);
-    right_length = read_text(arguments[2], right_text);
-    public_length = read_text(arguments[3], public_text);
+    static const char *const standings[] = {"open after the budget", "satisfiable", "unsatisfiable"};
+    uint64_t model[1] = {0};
+    puts(standings[run[STANDING]]);
+    if (forkhemit_model(run, model) != 0)
+        return;
+    putchar('v');
+    for (unsigned variable = 1; variable <= d[0]; variable++)
+        printf(" %s%u", model[0] >> (variable - 1) & 1 ? "" : "-", variable);
+    puts(" 0");
+}
+
+/* The run step by step, a line each; a refusal's number, or 0. */
+static uint8_t list(int weighted, uint64_t budget)
+{
     uint32_t run[FORKHEMIT_RUN_WORDS] = {0};
-    uint8_t refusal = forkhemit_read_tables(left_text, left_length, right_text, right_length, public_text, public_length,
-                                            left, ROW_WORDS, right, ROW_WORDS, public_table, ROW_WORDS, d);
-    if (refusal == 0)
-        refusal = forkhemit_fresh(d[0], run);
+    uint8_t refusal = forkhemit_fresh(d[0], run);
     if (refusal == 0)
         puts("step depth  rule      set       row and clause as typed");
     for (uint64_t step = 1; refusal == 0 && step <= budget && run[STANDING] == FORKHEMIT_OPEN; step++) {
@@ -117,11 +144,26 @@ int main(int count, char **arguments)
         if (refusal == 0)
             print_step(step, run, told);
     }
-    if (refusal != 0) {
-        printf("c refused %u\n", refusal);
-        return 0;
+    if (refusal == 0)
+        print_end(run);
+    return refusal;
+}
+
+int main(int count, char **arguments)
+{
+    int weighted = count > 1 && strcmp(arguments[1], "-w") == 0;
+    arguments += weighted;
+    if (count - weighted != 5) {
+        fputs("use: desk [-w] LEFT RIGHT PUBLIC BUDGET\n", stderr);
+        return 1;
     }
-    static const char *const standings[] = {"open after the budget", "satisfiable", "unsatisfiable"};
-    puts(standings[run[STANDING]]);
-    return 0;
+    uint64_t budget = number_of("budget", arguments[4]);
+    left_length = read_text(arguments[1], left_text);
+    right_length = read_text(arguments[2], right_text);
+    public_length = read_text(arguments[3], public_text);
+    uint8_t refusal = forkhemit_read_tables(left_text, left_length, right_text, right_length, public_text, public_length,
+                                            left, ROW_WORDS, right, ROW_WORDS, public_table, ROW_WORDS, d);
+    if (refusal == 0)
+        refusal = list(weighted, budget);
+    return refusal == 0 ? finished() : refused(refusal);
 }
