@@ -100,6 +100,7 @@ module _ (d : Dimensions) (tables : Tables) (leftText rightText : List ℕ) (num
     pub least : 1 ≤ number
     pub most : number ≤ d .left + d .right
 
+  -- a request that passes its checks has these
   pub asked : outcome (excerptChecks d tables leftText rightText number) ≡ Taken → Asked
   asked e =
       let parts = outcome-parts (tableChecks d tables) (textChecks d l r number) (checks-taken (overlong leftText || overlong rightText) Text _ e) in

@@ -1,0 +1,14 @@
+pub mod Calls
+pub mod Demand1
+pub mod Named
+pub mod Examples
+pub mod Runs
+pub mod Indexed
+pub mod Late
+pub mod Circuits
+pub mod Columns
+pub mod Pages
+pub mod Texts
+pub mod Checking
+pub mod Programs
+pub mod Every
