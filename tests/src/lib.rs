@@ -14,6 +14,7 @@ pub mod columns;
 pub mod contracts;
 pub mod counts;
 pub mod damage;
+pub mod demand1;
 pub mod edits;
 pub mod game;
 pub mod hosts;

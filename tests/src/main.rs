@@ -10,8 +10,8 @@
 use forkhemit_tests::process::{self, Source};
 use forkhemit_tests::report::{self, Tally};
 use forkhemit_tests::{
-    assumed, cases, ceilings, circuits, citations, claims, contracts, damage, edits, hosts, pictures, published,
-    statements, steps, symbols, tables, ties, whole,
+    assumed, cases, ceilings, circuits, citations, claims, contracts, damage, demand1, edits, hosts, pictures,
+    published, statements, steps, symbols, tables, ties, whole,
 };
 use std::path::Path;
 use std::process::ExitCode;
@@ -67,6 +67,7 @@ fn all(arguments: &[String]) -> std::io::Result<Tally> {
     total.add(claims::run(Path::new(crates))?);
     total.add(statements::run(Path::new(crates))?);
     total.add(citations::run(Path::new(crates))?);
+    total.add(demand1::run(Path::new(crates))?);
     total.add(ceilings::run(Path::new(crates))?);
     let own = Path::new(env!("CARGO_MANIFEST_DIR"));
     total.add(pictures::run(&own.join(".."))?);
