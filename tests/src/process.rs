@@ -265,10 +265,10 @@ impl Drop for Room {
 /// Solvers of Debian's packages whose verdicts are asked for.
 const SOLVERS: [&str; 2] = ["cadical", "picosat"];
 
-/// Whether a solver is installed.
+/// Whether a solver is installed. It is looked for in the path: under a memory checker a program that is not there seems to start.
 pub fn installed(solver: &str) -> bool {
-    let mut asked = Command::new(solver);
-    asked.arg("--version").stdin(Stdio::null()).stdout(Stdio::null()).stderr(Stdio::null()).status().is_ok()
+    let path = std::env::var_os("PATH").unwrap_or_default();
+    std::env::split_paths(&path).any(|folder| folder.join(solver).is_file())
 }
 
 /// The first of them that is installed.
