@@ -66,5 +66,12 @@ full "$built/proof-c" "${proof[@]}"
 wrong 'use: ' "$built/proof-c" "${texts[@]}"
 full "$built/turns-c" $turns
 wrong 'use: ' "$built/turns-c"
+for number in "${numbers[@]}"; do
+    wrong BUDGET "$built/page-c" "${texts[@]}" "$number" 4 3
+    wrong PILOTS "$built/page-c" "${texts[@]}" 1000 "$number" 3
+    wrong WATCHES "$built/page-c" "${texts[@]}" 1000 4 "$number"
+done
+full "$built/page-c" "${texts[@]}" 1000 4 3
+wrong 'use: ' "$built/page-c" "${texts[@]}" 1000
 echo "$passed passed, $failed failed"
 [ "$failed" -eq 0 ] && [ "$passed" -gt 0 ]
