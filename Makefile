@@ -2,7 +2,7 @@
 # make lib: the library for hosts, target/lib/libforkhemit.a.
 # make install PREFIX=/DIR: programs, library, header, man pages and documents there (below DESTDIR); make uninstall takes them away.
 # make examples: builds the example hosts and runs them. make bench: compares with other solvers and with plain Rust.
-# make checktime: how long each crate's check takes, from nothing. make pictures: draws docs/pictures anew.
+# make checktime: how long each crate's check takes, from nothing. make pictures: draws docs/pictures.
 # make statements: writes tests/statements.txt, in a commit that changes what is proved.
 # make fmt: puts every file in its layout. make fmt-check: says which are not.
 # make drill: two stations and a back end, each in a folder of its own, on the example.

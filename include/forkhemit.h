@@ -37,7 +37,7 @@
 #include <stdint.h>
 
 /* The version, as CHANGES.md numbers it. While the first number is 0, parameters and buffers may change with the second: read there what
- * did, and compile the host anew. With the third they never change. The shared library's soname has the first two. */
+ * did, and compile the host again. With the third they never change. The shared library's soname has the first two. */
 #define FORKHEMIT_VERSION_MAJOR 0
 #define FORKHEMIT_VERSION_MINOR 14
 #define FORKHEMIT_VERSION_PATCH 1
