@@ -594,7 +594,7 @@ def games():
         (b"c var 1 Costa\np cnf 2 1\ne 1 0\na 2 1 0\n1 0\n", ":4: variable 1 (Costa) has a turn already", 22),
         (b"p cnf 2 1\ne 1\n1 0\n", ":2: a turn is closed by 0 on its own line", 5),
         (b"p cnf 2 1\na 0\n1 0\n", ":2: a turn without a variable", 5),
-        (b"p cnf 2 1\ne1 0\n1 0\n", ":2: no blank stands behind the `e`", 5),
+        (b"p cnf 2 1\ne1 0\n1 0\n", ":2: no blank follows the `e`", 5),
         (b"p cnf 2 1\ne 01 0\n1 0\n", ":2: `01` in a turn is no variable (no leading zeros)", 5),
         (b"p cnf 2 1\n1 0\ne 2 0\n", ":3: `e` begins a turn, and turns stand before the clauses", 5),
         (b"p cnf 2 1\n1 3 0\n", ":2: variable 3 is above the header's 2", 5),
