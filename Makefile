@@ -135,33 +135,15 @@ dist: all
 
 # ---- make examples, make drill
 
-target/examples/host-c: examples/host/host.c examples/host/texts.h examples/host/host.h include/forkhemit.h target/lib/libforkhemit.a
-	mkdir -p target/examples
-	cc -std=c11 -O2 -Wall -Wextra -Wpedantic -Werror -Iinclude -o $@ $< -Ltarget/lib -lforkhemit
+C_HOSTS := host-c late-c proof-c turns-c page-c desk backend
+C_HOST_FILES := examples/host/texts.h examples/host/host.h include/forkhemit.h target/lib/libforkhemit.a
 
-target/examples/late-c: examples/host/late.c examples/host/texts.h examples/host/host.h include/forkhemit.h target/lib/libforkhemit.a
+$(filter %-c,$(C_HOSTS:%=target/examples/%)): target/examples/%-c: examples/host/%.c
+target/examples/desk: examples/desk/desk.c
+target/examples/backend: examples/backend/backend.c
+$(C_HOSTS:%=target/examples/%): $(C_HOST_FILES)
 	mkdir -p target/examples
-	cc -std=c11 -O2 -Wall -Wextra -Wpedantic -Werror -Iinclude -o $@ $< -Ltarget/lib -lforkhemit
-
-target/examples/desk: examples/desk/desk.c examples/host/texts.h examples/host/host.h include/forkhemit.h target/lib/libforkhemit.a
-	mkdir -p target/examples
-	cc -std=c11 -O2 -Wall -Wextra -Wpedantic -Werror -Iinclude -o $@ $< -Ltarget/lib -lforkhemit
-
-target/examples/proof-c: examples/host/proof.c examples/host/texts.h examples/host/host.h include/forkhemit.h target/lib/libforkhemit.a
-	mkdir -p target/examples
-	cc -std=c11 -O2 -Wall -Wextra -Wpedantic -Werror -Iinclude -o $@ $< -Ltarget/lib -lforkhemit
-
-target/examples/turns-c: examples/host/turns.c examples/host/texts.h examples/host/host.h include/forkhemit.h target/lib/libforkhemit.a
-	mkdir -p target/examples
-	cc -std=c11 -O2 -Wall -Wextra -Wpedantic -Werror -Iinclude -o $@ $< -Ltarget/lib -lforkhemit
-
-target/examples/page-c: examples/host/page.c examples/host/texts.h examples/host/host.h include/forkhemit.h target/lib/libforkhemit.a
-	mkdir -p target/examples
-	cc -std=c11 -O2 -Wall -Wextra -Wpedantic -Werror -Iinclude -o $@ $< -Ltarget/lib -lforkhemit
-
-target/examples/backend: examples/backend/backend.c examples/host/texts.h examples/host/host.h include/forkhemit.h target/lib/libforkhemit.a
-	mkdir -p target/examples
-	cc -std=c11 -O2 -Wall -Wextra -Wpedantic -Werror -Iinclude -o $@ $< -Ltarget/lib -lforkhemit
+	cc -std=c11 -O2 -Wall -Wextra -Wpedantic -Werror -Iinclude -o $@ $(filter %.c,$^) -Ltarget/lib -lforkhemit
 
 # The folders stay in target/drill, to look at.
 drill: target/examples/backend target/static/pair
