@@ -17,7 +17,7 @@ ghost use Rattle.refusals.specs.Checks.{outcome};
 ghost use Rattle.refusals.specs.Numbers.{codeOf, said};
 ghost use Rattle.refusals.specs.declared.Outcome.the-variants.{Taken};
 ghost use Rattle.lexer.specs.Pieces.{linesFrom};
-ghost use Rattle.tables.specs.Tables.{allTables};
+ghost use Rattle.tables.specs.Tables.{allTables, lentTables};
 ghost use Rattle.tables.specs.Rows.{rowsFrom, rowsOf};
 ghost use Rattle.tables.specs.Acceptance.{tableChecks};
 ghost use Rattle.drat_line.specs.Lines.{lineSaid};
@@ -142,8 +142,7 @@ fn check_lines(words: &mut [u32], count: usize, text: &[u8], n: u8) -> Outcome
 fn fill(words: &mut [u32], d: Dimensions, left: &[u32], right: &[u32], public: &[u32]) -> usize
     requires { ⌜ outcome (tableChecks d (allTables (now left) (now right) (now public))) ≡ Taken ⌝ }
     requires { ⌜ 1280 ≤ length (now words) ⌝ }
-    ensures { λ r.
-        ⌜ rowsFrom (now (words .exit)) 0 r ≡ rowsOf d (allTables (now (left .entry)) (now (right .entry)) (now (public .entry))) ⌝ }
+    ensures { λ r. ⌜ rowsFrom (now (words .exit)) 0 r ≡ rowsOf d (lentTables left right public) ⌝ }
     ensures { λ r. ⌜ r ≤ 384 ⌝ }
 {
     let first = rup::append(words, 0, left, d.left as usize);
@@ -154,12 +153,8 @@ fn fill(words: &mut [u32], d: Dimensions, left: &[u32], right: &[u32], public: &
 // Whether the text proves that no assignment makes all rows of the tables true: if not, the tables' 1, 2, 4 or 3, then 18, 19 or 20. The
 // tables have 384 rows at most, and 256 are added.
 pub fn check(d: Dimensions, left: &[u32], right: &[u32], public: &[u32], text: &[u8]) -> Outcome
-    ensures { λ r.
-        ⌜ r ≡ outcome (proofChecks d (allTables (now (left .entry)) (now (right .entry)) (now (public .entry))) (now (text .entry))) ⌝ }
-    ensures { λ r.
-        ⌜ codeOf r ∷ []
-        ≡ said (outcome (proofChecks d (allTables (now (left .entry)) (now (right .entry)) (now (public .entry)))
-        (now (text .entry)))) [] ⌝ }
+    ensures { λ r. ⌜ r ≡ outcome (proofChecks d (lentTables left right public) (now (text .entry))) ⌝ }
+    ensures { λ r. ⌜ codeOf r ∷ [] ≡ said (outcome (proofChecks d (lentTables left right public) (now (text .entry)))) [] ⌝ }
 {
     let accepted = tables::accept(d, left, right, public);
     if let Outcome::Refused(refusal) = accepted {

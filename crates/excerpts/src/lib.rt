@@ -12,7 +12,7 @@ ghost use lib.ListN.{length};
 ghost use Rattle.refusals.specs.Numbers.{said, codeOf};
 ghost use Rattle.refusals.specs.Checks.{outcome};
 ghost use Rattle.clauses.specs.First.{clausesFrom, first};
-ghost use Rattle.tables.specs.Tables.{allTables};
+ghost use Rattle.tables.specs.Tables.{lentTables};
 ghost use Rattle.excerpts.specs.Excerpts.{hasClause, textChecks, excerptChecks, skip, clauseOf, between, placeOf, clausePlace};
 ghost use Rattle.excerpts.specs.Excerpts.{placed, placedCode, placeNumbers, placedNumbers, clauseBytes};
 ghost use Rattle.excerpts.specs.Held.{placeHeld, Ordered};
@@ -76,12 +76,10 @@ pub fn check(
     number: u64,
 ) -> Outcome
     ensures { λ r.
-        ⌜ r ≡ outcome (excerptChecks d (allTables (now (left .entry)) (now (right .entry)) (now (public .entry))) (now («left_text» .entry))
-        (now («right_text» .entry)) number) ⌝ }
+        ⌜ r ≡ outcome (excerptChecks d (lentTables left right public) (now («left_text» .entry)) (now («right_text» .entry)) number) ⌝ }
     ensures { λ r.
-        ⌜ codeOf r ∷ []
-        ≡ said (outcome (excerptChecks d (allTables (now (left .entry)) (now (right .entry)) (now (public .entry)))
-        (now («left_text» .entry)) (now («right_text» .entry)) number)) [] ⌝ }
+        ⌜ codeOf r ∷ [] ≡ said (outcome (excerptChecks d (lentTables left right public) (now («left_text» .entry))
+        (now («right_text» .entry)) number)) [] ⌝ }
 {
     if (65536 < left_text.len()) | (65536 < right_text.len()) {
         return Outcome::Refused(Refusal::Text);
@@ -177,14 +175,10 @@ pub fn clause_place(
     right_text: &[u8],
     number: u64,
 ) -> Placed
+    ensures { λ r. ⌜ r ≡ placed d (lentTables left right public) (now («left_text» .entry)) (now («right_text» .entry)) number ⌝ }
     ensures { λ r.
-        ⌜ r ≡ placed d (allTables (now (left .entry)) (now (right .entry)) (now (public .entry))) (now («left_text» .entry))
-        (now («right_text» .entry)) number ⌝ }
-    ensures { λ r.
-        ⌜ placedCode r ∷ placedNumbers r
-        ≡ said (outcome (excerptChecks d (allTables (now (left .entry)) (now (right .entry)) (now (public .entry)))
-        (now («left_text» .entry)) (now («right_text» .entry)) number))
-        (placeNumbers (clausePlace d (allTables (now (left .entry)) (now (right .entry)) (now (public .entry))) (now («left_text» .entry))
+        ⌜ placedCode r ∷ placedNumbers r ≡ said (outcome (excerptChecks d (lentTables left right public) (now («left_text» .entry))
+        (now («right_text» .entry)) number)) (placeNumbers (clausePlace d (lentTables left right public) (now («left_text» .entry))
         (now («right_text» .entry)) number)) ⌝ }
 {
     let checked = check(d, left, right, public, left_text, right_text, number);
@@ -212,9 +206,7 @@ pub fn clause_bytes<'a>(
     right_text: &'a [u8],
     number: u64,
 ) -> &'a [u8]
-    ensures { λ r.
-        ⌜ now r ≡ clauseBytes d (allTables (now (left .entry)) (now (right .entry)) (now (public .entry))) (now («left_text» .entry))
-        (now («right_text» .entry)) number ⌝ }
+    ensures { λ r. ⌜ now r ≡ clauseBytes d (lentTables left right public) (now («left_text» .entry)) (now («right_text» .entry)) number ⌝ }
 {
     let asked = clause_place(d, left, right, public, left_text, right_text, number);
     let Placed::Of(place) = asked else {

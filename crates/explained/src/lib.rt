@@ -14,7 +14,7 @@ ghost use lib.ListN.{length};
 ghost use Rattle.refusals.specs.Checks.{outcome};
 ghost use Rattle.refusals.specs.Numbers.{said};
 ghost use Rattle.refusals.specs.declared.Outcome.the-variants.{Taken};
-ghost use Rattle.tables.specs.Tables.{allTables};
+ghost use Rattle.tables.specs.Tables.{allTables, lentTables};
 ghost use Rattle.tables.specs.Acceptance.{tableChecks};
 ghost use Rattle.tables.specs.Rows.{rowsOf};
 ghost use Rattle.scan.specs.Rules as Rules;
@@ -101,8 +101,7 @@ fn tell(left: &[u32], right: &[u32], public: &[u32], run: Run) -> Told
 fn explain(d: Dimensions, left: &[u32], right: &[u32], public: &[u32], run: Run) -> Told
     requires { ⌜ outcome (tableChecks d (allTables (now left) (now right) (now public))) ≡ Taken ⌝ }
     requires { ⌜ wellFormed run ≡ true ⌝ }
-    ensures { λ r.
-        ⌜ r ≡ explanation (d .n) (rowsOf d (allTables (now (left .entry)) (now (right .entry)) (now (public .entry)))) (stateOf run) ⌝ }
+    ensures { λ r. ⌜ r ≡ explanation (d .n) (rowsOf d (lentTables left right public)) (stateOf run) ⌝ }
 {
     let standing = run.standing;
     match standing {
@@ -130,11 +129,10 @@ pub fn step_explained(
     public: &[u32],
     run: Run,
 ) -> Explained
-    ensures { λ r. ⌜ r ≡ explained d (allTables (now (left .entry)) (now (right .entry)) (now (public .entry))) run ⌝ }
+    ensures { λ r. ⌜ r ≡ explained d (lentTables left right public) run ⌝ }
     ensures { λ r.
-        ⌜ explainedSaid r ≡ said (outcome (tableChecks d (allTables (now (left .entry)) (now (right .entry)) (now (public .entry)))
-        ++ stateChecks d run)) (toldNumbers (explanation (d .n)
-        (rowsOf d (allTables (now (left .entry)) (now (right .entry)) (now (public .entry)))) (stateOf run))) ⌝ }
+        ⌜ explainedSaid r ≡ said (outcome (tableChecks d (lentTables left right public) ++ stateChecks d run))
+        (toldNumbers (explanation (d .n) (rowsOf d (lentTables left right public)) (stateOf run))) ⌝ }
 {
     let stepped = solver::step(d, left, right, public, run);
     let outcome = stepped.outcome;

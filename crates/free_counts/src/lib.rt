@@ -11,7 +11,7 @@ ghost use lib.ListN.{length};
 ghost use lib.Seq.{sets};
 ghost use Rattle.refusals.specs.Checks.{outcome};
 ghost use Rattle.refusals.specs.Numbers.{codeOf, said};
-ghost use Rattle.tables.specs.Tables.{allTables};
+ghost use Rattle.tables.specs.Tables.{lentTables};
 ghost use Rattle.tables.specs.Rows.{rowsFrom};
 ghost use Rattle.free_counts.specs.Counts.{freeCounts, countChecks, countsAfter};
 
@@ -24,7 +24,7 @@ fn check(
     run: Run,
     room: usize,
 ) -> Outcome
-    ensures { λ r. ⌜ r ≡ outcome (countChecks d (allTables (now (left .entry)) (now (right .entry)) (now (public .entry))) run room) ⌝ }
+    ensures { λ r. ⌜ r ≡ outcome (countChecks d (lentTables left right public) run room) ⌝ }
 {
     match tables::accept(d, left, right, public) {
         Outcome::Taken => {}
@@ -66,16 +66,9 @@ pub fn count_free(
     run: Run,
     counts: &mut [u8],
 ) -> Outcome
-    ensures { λ r.
-        ⌜ r ≡ outcome (countChecks d (allTables (now (left .entry)) (now (right .entry)) (now (public .entry))) run
-        (length (now (counts .entry)))) ⌝ }
-    ensures { λ _.
-        ⌜ now (counts .exit) ≡ countsAfter d (allTables (now (left .entry)) (now (right .entry)) (now (public .entry)))
-        run (now (counts .entry)) ⌝ }
-    ensures { λ r.
-        ⌜ codeOf r ∷ []
-        ≡ said (outcome (countChecks d (allTables (now (left .entry)) (now (right .entry)) (now (public .entry))) run
-        (length (now (counts .entry))))) [] ⌝ }
+    ensures { λ r. ⌜ r ≡ outcome (countChecks d (lentTables left right public) run (length (now (counts .entry)))) ⌝ }
+    ensures { λ _. ⌜ now (counts .exit) ≡ countsAfter d (lentTables left right public) run (now (counts .entry)) ⌝ }
+    ensures { λ r. ⌜ codeOf r ∷ [] ≡ said (outcome (countChecks d (lentTables left right public) run (length (now (counts .entry))))) [] ⌝ }
 {
     match check(d, left, right, public, run, counts.len()) {
         Outcome::Taken => {}

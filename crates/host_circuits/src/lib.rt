@@ -14,7 +14,7 @@ ghost use Rattle.wires.specs.Packing.{packChecks, packed};
 ghost use Rattle.readback.specs.Reading.{readBack};
 ghost use Rattle.stored.specs.Words.{runIn};
 ghost use Rattle.refusals.specs.Numbers.{codeOf};
-ghost use Rattle.tables.specs.Tables.{allTables};
+ghost use Rattle.tables.specs.Tables.{lentTables};
 ghost use Rattle.lent.specs.Lent.{numbersOr};
 ghost use Rattle.host_circuits.specs.Circuits.{sizesGiven, readStored};
 
@@ -92,12 +92,11 @@ pub extern "C" fn forkhemit_pack(
     bytes: &mut [u8],
 ) -> u8
     ensures { λ r.
-        ⌜ r ≡ codeOf (outcome (packChecks (dimensions n «left_rows» «right_rows» «public_rows»)
-        (allTables (now (left .entry)) (now (right .entry)) (now (public .entry))) (runIn (now (run .entry)))
-        (length (now (bytes .entry))))) ⌝ }
+        ⌜ r ≡ codeOf (outcome (packChecks (dimensions n «left_rows» «right_rows» «public_rows») (lentTables left right public)
+        (runIn (now (run .entry))) (length (now (bytes .entry))))) ⌝ }
     ensures { λ _.
-        ⌜ now (bytes .exit) ≡ packed (dimensions n «left_rows» «right_rows» «public_rows»)
-        (allTables (now (left .entry)) (now (right .entry)) (now (public .entry))) (runIn (now (run .entry))) (now (bytes .entry)) ⌝ }
+        ⌜ now (bytes .exit) ≡ packed (dimensions n «left_rows» «right_rows» «public_rows») (lentTables left right public)
+        (runIn (now (run .entry))) (now (bytes .entry)) ⌝ }
 {
     let d = codes::dimensions(n, left_rows, right_rows, public_rows);
     codes::code(wires::pack(d, left, right, public, stored::load(*run), bytes))

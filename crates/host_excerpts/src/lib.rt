@@ -6,7 +6,7 @@ use refusals::Outcome;
 use refusals::Refusal;
 ghost use mathlib.Core.Path.{_≡_};
 ghost use Rattle.dimensions.specs.Sizes.{dimensions};
-ghost use Rattle.tables.specs.Tables.{allTables};
+ghost use Rattle.tables.specs.Tables.{lentTables};
 ghost use Rattle.refusals.specs.Numbers.{codeOf};
 ghost use Rattle.refusals.specs.Checks.{outcome};
 ghost use Rattle.excerpts.specs.Excerpts.{placed, placedCode, placedNumbers, clauseBytes};
@@ -30,14 +30,11 @@ pub extern "C" fn forkhemit_clause(
     place: &mut [u64; 3],
 ) -> u8
     ensures { λ r.
-        ⌜ r ≡ placedCode (placed (dimensions n «left_rows» «right_rows» «public_rows»)
-        (allTables (now (left .entry)) (now (right .entry)) (now (public .entry))) (now («left_text» .entry))
-        (now («right_text» .entry)) row) ⌝ }
+        ⌜ r ≡ placedCode (placed (dimensions n «left_rows» «right_rows» «public_rows») (lentTables left right public)
+        (now («left_text» .entry)) (now («right_text» .entry)) row) ⌝ }
     ensures { λ _.
-        ⌜ now (place .exit) ≡ numbersOr
-        (placedNumbers (placed (dimensions n «left_rows» «right_rows» «public_rows»)
-        (allTables (now (left .entry)) (now (right .entry)) (now (public .entry))) (now («left_text» .entry)) (now («right_text» .entry))
-        row)) (now (place .entry)) ⌝ }
+        ⌜ now (place .exit) ≡ numbersOr (placedNumbers (placed (dimensions n «left_rows» «right_rows» «public_rows»)
+        (lentTables left right public) (now («left_text» .entry)) (now («right_text» .entry)) row)) (now (place .entry)) ⌝ }
 {
     let d = codes::dimensions(n, left_rows, right_rows, public_rows);
     match excerpts::clause_place(d, left, right, public, left_text, right_text, row) {
@@ -89,25 +86,18 @@ pub extern "C" fn forkhemit_excerpt<'a>(
     length: &mut [u64; 1],
 ) -> u8
     ensures { λ r.
-        ⌜ r ≡ codeOf (excerptIn (dimensions n «left_rows» «right_rows» «public_rows»)
-        (allTables (now (left .entry)) (now (right .entry)) (now (public .entry))) (now («left_text» .entry))
-        (now («right_text» .entry)) row (now (bytes .entry))) ⌝ }
+        ⌜ r ≡ codeOf (excerptIn (dimensions n «left_rows» «right_rows» «public_rows») (lentTables left right public)
+        (now («left_text» .entry)) (now («right_text» .entry)) row (now (bytes .entry))) ⌝ }
     ensures { λ _.
-        ⌜ now (bytes .exit) ≡ partAfter (excerptIn (dimensions n «left_rows» «right_rows» «public_rows»)
-        (allTables (now (left .entry)) (now (right .entry)) (now (public .entry))) (now («left_text» .entry))
-        (now («right_text» .entry)) row (now (bytes .entry)))
-        (clauseBytes (dimensions n «left_rows» «right_rows» «public_rows»)
-        (allTables (now (left .entry)) (now (right .entry)) (now (public .entry))) (now («left_text» .entry))
-        (now («right_text» .entry)) row)
-        (now (bytes .entry)) ⌝ }
+        ⌜ now (bytes .exit) ≡ partAfter (excerptIn (dimensions n «left_rows» «right_rows» «public_rows») (lentTables left right public)
+        (now («left_text» .entry)) (now («right_text» .entry)) row (now (bytes .entry)))
+        (clauseBytes (dimensions n «left_rows» «right_rows» «public_rows») (lentTables left right public) (now («left_text» .entry))
+        (now («right_text» .entry)) row) (now (bytes .entry)) ⌝ }
     ensures { λ _.
-        ⌜ now (length .exit) ≡ lengthAfter (excerptIn (dimensions n «left_rows» «right_rows» «public_rows»)
-        (allTables (now (left .entry)) (now (right .entry)) (now (public .entry))) (now («left_text» .entry))
-        (now («right_text» .entry)) row (now (bytes .entry)))
-        (clauseBytes (dimensions n «left_rows» «right_rows» «public_rows»)
-        (allTables (now (left .entry)) (now (right .entry)) (now (public .entry))) (now («left_text» .entry))
-        (now («right_text» .entry)) row)
-        (now (length .entry)) ⌝ }
+        ⌜ now (length .exit) ≡ lengthAfter (excerptIn (dimensions n «left_rows» «right_rows» «public_rows») (lentTables left right public)
+        (now («left_text» .entry)) (now («right_text» .entry)) row (now (bytes .entry)))
+        (clauseBytes (dimensions n «left_rows» «right_rows» «public_rows») (lentTables left right public) (now («left_text» .entry))
+        (now («right_text» .entry)) row) (now (length .entry)) ⌝ }
 {
     let d = codes::dimensions(n, left_rows, right_rows, public_rows);
     let checked = excerpts::check(d, left, right, public, left_text, right_text, row);

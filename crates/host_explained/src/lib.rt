@@ -6,7 +6,7 @@ use refusals::Outcome;
 ghost use mathlib.Core.Path.{_≡_};
 ghost use Rattle.refusals.specs.Numbers.{codeOf};
 ghost use Rattle.dimensions.specs.Sizes.{dimensions};
-ghost use Rattle.tables.specs.Tables.{allTables};
+ghost use Rattle.tables.specs.Tables.{lentTables};
 ghost use Rattle.host_explained.specs.Explanations.{explainIn, runAfter, numbersIf, numbersAfter};
 
 // The four numbers of what is told where the call was taken; else those that were lent.
@@ -33,15 +33,14 @@ pub extern "C" fn forkhemit_step_explained(
     explanation: &mut [u64; 4],
 ) -> u8
     ensures { λ r.
-        ⌜ r ≡ codeOf (explainIn (dimensions n «left_rows» «right_rows» «public_rows»)
-        (allTables (now (left .entry)) (now (right .entry)) (now (public .entry))) (now (run .entry)) .outcome) ⌝ }
+        ⌜ r ≡ codeOf (explainIn (dimensions n «left_rows» «right_rows» «public_rows») (lentTables left right public) (now (run .entry))
+        .outcome) ⌝ }
     ensures { λ _.
-        ⌜ now (run .exit) ≡ runAfter (explainIn (dimensions n «left_rows» «right_rows» «public_rows»)
-        (allTables (now (left .entry)) (now (right .entry)) (now (public .entry))) (now (run .entry))) (now (run .entry)) ⌝ }
+        ⌜ now (run .exit) ≡ runAfter (explainIn (dimensions n «left_rows» «right_rows» «public_rows») (lentTables left right public)
+        (now (run .entry))) (now (run .entry)) ⌝ }
     ensures { λ _.
-        ⌜ now (explanation .exit)
-        ≡ numbersAfter (explainIn (dimensions n «left_rows» «right_rows» «public_rows»)
-        (allTables (now (left .entry)) (now (right .entry)) (now (public .entry))) (now (run .entry))) (now (explanation .entry)) ⌝ }
+        ⌜ now (explanation .exit) ≡ numbersAfter (explainIn (dimensions n «left_rows» «right_rows» «public_rows»)
+        (lentTables left right public) (now (run .entry))) (now (explanation .entry)) ⌝ }
 {
     let d = codes::dimensions(n, left_rows, right_rows, public_rows);
     let stepped = explained::step_explained(d, left, right, public, stored::load(*run));

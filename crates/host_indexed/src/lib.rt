@@ -9,7 +9,7 @@ ghost use mathlib.Core.List.{[], _∷_};
 ghost use Rattle.refusals.specs.Checks.{outcome};
 ghost use Rattle.refusals.specs.Numbers.{codeOf};
 ghost use Rattle.dimensions.specs.Sizes.{dimensions};
-ghost use Rattle.tables.specs.Tables.{allTables};
+ghost use Rattle.tables.specs.Tables.{lentTables};
 ghost use Rattle.tables.specs.Acceptance.{tableChecks};
 ghost use Rattle.indexed.specs.Entries.{indexAfter, counted, countedCode, countedNumbers};
 ghost use Rattle.indexed.specs.Continuing.{continuedCode, continuedNumbers};
@@ -30,11 +30,10 @@ pub extern "C" fn forkhemit_index(
     index: &mut [u64; 384],
 ) -> u8
     ensures { λ r.
-        ⌜ r ≡ codeOf (outcome (tableChecks (dimensions n «left_rows» «right_rows» «public_rows»)
-        (allTables (now (left .entry)) (now (right .entry)) (now (public .entry))))) ⌝ }
+        ⌜ r ≡ codeOf (outcome (tableChecks (dimensions n «left_rows» «right_rows» «public_rows») (lentTables left right public))) ⌝ }
     ensures { λ _.
-        ⌜ now (index .exit) ≡ indexAfter (dimensions n «left_rows» «right_rows» «public_rows»)
-        (allTables (now (left .entry)) (now (right .entry)) (now (public .entry))) (now (index .entry)) ⌝ }
+        ⌜ now (index .exit) ≡ indexAfter (dimensions n «left_rows» «right_rows» «public_rows») (lentTables left right public)
+        (now (index .entry)) ⌝ }
 {
     let d = codes::dimensions(n, left_rows, right_rows, public_rows);
     codes::code(indexed::index(d, left, right, public, index))
@@ -54,12 +53,11 @@ pub extern "C" fn forkhemit_unsatisfied(
     number: &mut [u64; 1],
 ) -> u8
     ensures { λ r.
-        ⌜ r ≡ countedCode (counted (dimensions n «left_rows» «right_rows» «public_rows»)
-        (allTables (now (left .entry)) (now (right .entry)) (now (public .entry))) (runIn (now (run .entry)))) ⌝ }
+        ⌜ r ≡ countedCode (counted (dimensions n «left_rows» «right_rows» «public_rows») (lentTables left right public)
+        (runIn (now (run .entry)))) ⌝ }
     ensures { λ _.
-        ⌜ now (number .exit) ≡ numbersOr
-        (countedNumbers (counted (dimensions n «left_rows» «right_rows» «public_rows»)
-        (allTables (now (left .entry)) (now (right .entry)) (now (public .entry))) (runIn (now (run .entry))))) (now (number .entry)) ⌝ }
+        ⌜ now (number .exit) ≡ numbersOr (countedNumbers (counted (dimensions n «left_rows» «right_rows» «public_rows»)
+        (lentTables left right public) (runIn (now (run .entry))))) (now (number .entry)) ⌝ }
 {
     let d = codes::dimensions(n, left_rows, right_rows, public_rows);
     match indexed::unsatisfied(d, left, right, public, stored::load(*run)) {
@@ -87,20 +85,16 @@ pub extern "C" fn forkhemit_step_indexed(
     number: &mut [u64; 1],
 ) -> u8
     ensures { λ r.
-        ⌜ r ≡ codeOf (indexedStepIn (dimensions n «left_rows» «right_rows» «public_rows»)
-        (allTables (now (left .entry)) (now (right .entry)) (now (public .entry))) (now (index .entry)) (now (run .entry))
-        (now (number .entry)) .outcome) ⌝ }
+        ⌜ r ≡ codeOf (indexedStepIn (dimensions n «left_rows» «right_rows» «public_rows») (lentTables left right public)
+        (now (index .entry)) (now (run .entry)) (now (number .entry)) .outcome) ⌝ }
     ensures { λ _.
-        ⌜ now (run .exit) ≡ storedIf (indexedStepIn (dimensions n «left_rows» «right_rows» «public_rows»)
-        (allTables (now (left .entry)) (now (right .entry)) (now (public .entry))) (now (index .entry)) (now (run .entry))
-        (now (number .entry)) .outcome)
-        (indexedStepIn (dimensions n «left_rows» «right_rows» «public_rows»)
-        (allTables (now (left .entry)) (now (right .entry)) (now (public .entry))) (now (index .entry)) (now (run .entry))
-        (now (number .entry)) .run) (now (run .entry)) ⌝ }
+        ⌜ now (run .exit) ≡ storedIf (indexedStepIn (dimensions n «left_rows» «right_rows» «public_rows») (lentTables left right public)
+        (now (index .entry)) (now (run .entry)) (now (number .entry)) .outcome)
+        (indexedStepIn (dimensions n «left_rows» «right_rows» «public_rows») (lentTables left right public) (now (index .entry))
+        (now (run .entry)) (now (number .entry)) .run) (now (run .entry)) ⌝ }
     ensures { λ _.
-        ⌜ now (number .exit) ≡ indexedStepIn (dimensions n «left_rows» «right_rows» «public_rows»)
-        (allTables (now (left .entry)) (now (right .entry)) (now (public .entry))) (now (index .entry)) (now (run .entry))
-        (now (number .entry)) .number ∷ [] ⌝ }
+        ⌜ now (number .exit) ≡ indexedStepIn (dimensions n «left_rows» «right_rows» «public_rows») (lentTables left right public)
+        (now (index .entry)) (now (run .entry)) (now (number .entry)) .number ∷ [] ⌝ }
 {
     let d = codes::dimensions(n, left_rows, right_rows, public_rows);
     let held = stored::load(*run);
@@ -148,17 +142,15 @@ pub extern "C" fn forkhemit_continue(
     continued: &mut [u64; 2],
 ) -> u8
     ensures { λ r.
-        ⌜ r ≡ continuedCode (continueIn (dimensions n «left_rows» «right_rows» «public_rows»)
-        (allTables (now (left .entry)) (now (right .entry)) (now (public .entry))) times (now (run .entry))) ⌝ }
+        ⌜ r ≡ continuedCode (continueIn (dimensions n «left_rows» «right_rows» «public_rows») (lentTables left right public) times
+        (now (run .entry))) ⌝ }
     ensures { λ _.
-        ⌜ now (run .exit) ≡ storedIf (continueIn (dimensions n «left_rows» «right_rows» «public_rows»)
-        (allTables (now (left .entry)) (now (right .entry)) (now (public .entry))) times (now (run .entry)) .outcome)
-        (continueIn (dimensions n «left_rows» «right_rows» «public_rows»)
-        (allTables (now (left .entry)) (now (right .entry)) (now (public .entry))) times (now (run .entry)) .run) (now (run .entry)) ⌝ }
+        ⌜ now (run .exit) ≡ storedIf (continueIn (dimensions n «left_rows» «right_rows» «public_rows») (lentTables left right public) times
+        (now (run .entry)) .outcome) (continueIn (dimensions n «left_rows» «right_rows» «public_rows») (lentTables left right public) times
+        (now (run .entry)) .run) (now (run .entry)) ⌝ }
     ensures { λ _.
-        ⌜ now (continued .exit) ≡ numbersOr
-        (continuedNumbers (continueIn (dimensions n «left_rows» «right_rows» «public_rows»)
-        (allTables (now (left .entry)) (now (right .entry)) (now (public .entry))) times (now (run .entry)))) (now (continued .entry)) ⌝ }
+        ⌜ now (continued .exit) ≡ numbersOr (continuedNumbers (continueIn (dimensions n «left_rows» «right_rows» «public_rows»)
+        (lentTables left right public) times (now (run .entry)))) (now (continued .entry)) ⌝ }
 {
     let d = codes::dimensions(n, left_rows, right_rows, public_rows);
     let start = stored::load(*run);

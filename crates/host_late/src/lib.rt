@@ -10,7 +10,7 @@ ghost use lib.ListN.{getD};
 ghost use Rattle.refusals.specs.Checks.{outcome};
 ghost use Rattle.refusals.specs.Numbers.{codeOf};
 ghost use Rattle.dimensions.specs.Sizes.{dimensions};
-ghost use Rattle.tables.specs.Tables.{allTables};
+ghost use Rattle.tables.specs.Tables.{lentTables};
 ghost use Rattle.late.specs.Replacement.{lateChecks, tablesAfter};
 ghost use Rattle.late_indexed.specs.Replacement.{replaceChecks, tablesThen, indexThen, numberThen};
 ghost use Rattle.stored.specs.Words.{runIn};
@@ -49,17 +49,14 @@ pub extern "C" fn forkhemit_replace(
     negative: u32,
 ) -> u8
     ensures { λ r.
-        ⌜ r ≡ codeOf (outcome (lateChecks (dimensions n «left_rows» «right_rows» «public_rows»)
-        (allTables (now (left .entry)) (now (right .entry)) (now (public .entry))) (runIn (now (run .entry)))
-        (conditionOf station row positive negative))) ⌝ }
+        ⌜ r ≡ codeOf (outcome (lateChecks (dimensions n «left_rows» «right_rows» «public_rows») (lentTables left right public)
+        (runIn (now (run .entry))) (conditionOf station row positive negative))) ⌝ }
     ensures { λ _.
-        ⌜ now (left .exit) ≡ tablesAfter (dimensions n «left_rows» «right_rows» «public_rows»)
-        (allTables (now (left .entry)) (now (right .entry)) (now (public .entry))) (runIn (now (run .entry)))
-        (conditionOf station row positive negative) .left ⌝ }
+        ⌜ now (left .exit) ≡ tablesAfter (dimensions n «left_rows» «right_rows» «public_rows») (lentTables left right public)
+        (runIn (now (run .entry))) (conditionOf station row positive negative) .left ⌝ }
     ensures { λ _.
-        ⌜ now (right .exit) ≡ tablesAfter (dimensions n «left_rows» «right_rows» «public_rows»)
-        (allTables (now (left .entry)) (now (right .entry)) (now (public .entry))) (runIn (now (run .entry)))
-        (conditionOf station row positive negative) .right ⌝ }
+        ⌜ now (right .exit) ≡ tablesAfter (dimensions n «left_rows» «right_rows» «public_rows») (lentTables left right public)
+        (runIn (now (run .entry))) (conditionOf station row positive negative) .right ⌝ }
 {
     let d = codes::dimensions(n, left_rows, right_rows, public_rows);
     let held = stored::load(*run);
@@ -88,25 +85,21 @@ pub extern "C" fn forkhemit_replace_indexed(
     number: &mut [u64; 1],
 ) -> u8
     ensures { λ r.
-        ⌜ r ≡ codeOf (outcome (replaceChecks (dimensions n «left_rows» «right_rows» «public_rows»)
-        (allTables (now (left .entry)) (now (right .entry)) (now (public .entry))) (now (index .entry)) (runIn (now (run .entry)))
-        (getD (now (number .entry)) 0 0) (conditionOf station row positive negative))) ⌝ }
+        ⌜ r ≡ codeOf (outcome (replaceChecks (dimensions n «left_rows» «right_rows» «public_rows») (lentTables left right public)
+        (now (index .entry)) (runIn (now (run .entry))) (getD (now (number .entry)) 0 0) (conditionOf station row positive negative))) ⌝ }
     ensures { λ _.
-        ⌜ now (left .exit) ≡ tablesThen (dimensions n «left_rows» «right_rows» «public_rows»)
-        (allTables (now (left .entry)) (now (right .entry)) (now (public .entry))) (now (index .entry)) (runIn (now (run .entry)))
-        (getD (now (number .entry)) 0 0) (conditionOf station row positive negative) .left ⌝ }
+        ⌜ now (left .exit) ≡ tablesThen (dimensions n «left_rows» «right_rows» «public_rows») (lentTables left right public)
+        (now (index .entry)) (runIn (now (run .entry))) (getD (now (number .entry)) 0 0) (conditionOf station row positive negative) .left ⌝ }
     ensures { λ _.
-        ⌜ now (right .exit) ≡ tablesThen (dimensions n «left_rows» «right_rows» «public_rows»)
-        (allTables (now (left .entry)) (now (right .entry)) (now (public .entry))) (now (index .entry)) (runIn (now (run .entry)))
-        (getD (now (number .entry)) 0 0) (conditionOf station row positive negative) .right ⌝ }
+        ⌜ now (right .exit) ≡ tablesThen (dimensions n «left_rows» «right_rows» «public_rows») (lentTables left right public)
+        (now (index .entry)) (runIn (now (run .entry))) (getD (now (number .entry)) 0 0) (conditionOf station row positive negative) .right
+        ⌝ }
     ensures { λ _.
-        ⌜ now (index .exit) ≡ indexThen (dimensions n «left_rows» «right_rows» «public_rows»)
-        (allTables (now (left .entry)) (now (right .entry)) (now (public .entry))) (now (index .entry)) (runIn (now (run .entry)))
-        (getD (now (number .entry)) 0 0) (conditionOf station row positive negative) ⌝ }
+        ⌜ now (index .exit) ≡ indexThen (dimensions n «left_rows» «right_rows» «public_rows») (lentTables left right public)
+        (now (index .entry)) (runIn (now (run .entry))) (getD (now (number .entry)) 0 0) (conditionOf station row positive negative) ⌝ }
     ensures { λ _.
-        ⌜ now (number .exit) ≡ numberThen (dimensions n «left_rows» «right_rows» «public_rows»)
-        (allTables (now (left .entry)) (now (right .entry)) (now (public .entry))) (now (index .entry)) (runIn (now (run .entry)))
-        (getD (now (number .entry)) 0 0) (conditionOf station row positive negative) ∷ [] ⌝ }
+        ⌜ now (number .exit) ≡ numberThen (dimensions n «left_rows» «right_rows» «public_rows») (lentTables left right public)
+        (now (index .entry)) (runIn (now (run .entry))) (getD (now (number .entry)) 0 0) (conditionOf station row positive negative) ∷ [] ⌝ }
 {
     let d = codes::dimensions(n, left_rows, right_rows, public_rows);
     let held = stored::load(*run);

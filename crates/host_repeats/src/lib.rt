@@ -7,7 +7,7 @@ ghost use Rattle.dimensions.specs.Sizes.{dimensions};
 ghost use Rattle.repeats.specs.Repeating.{gatesAfter, bytesAfter, wiresAfter};
 ghost use Rattle.stored.specs.Words.{runIn};
 ghost use Rattle.refusals.specs.Numbers.{codeOf};
-ghost use Rattle.tables.specs.Tables.{allTables};
+ghost use Rattle.tables.specs.Tables.{lentTables};
 ghost use Rattle.host_repeats.specs.Repeats.{repeatIn, repeatStored, repeatNumbers};
 
 // Repeats the circuit, which it writes over the front of the gate words, on the run until that is closed, at most so many times.
@@ -30,29 +30,24 @@ pub extern "C" fn forkhemit_repeat(
     repeated: &mut [u64; 2],
 ) -> u8
     ensures { λ r.
-        ⌜ r ≡ codeOf (repeatIn (dimensions n «left_rows» «right_rows» «public_rows»)
-        (allTables (now (left .entry)) (now (right .entry)) (now (public .entry))) times (now (gates .entry)) (now (bytes .entry))
-        (now (wires .entry)) (now (run .entry)) .outcome) ⌝ }
+        ⌜ r ≡ codeOf (repeatIn (dimensions n «left_rows» «right_rows» «public_rows») (lentTables left right public) times
+        (now (gates .entry)) (now (bytes .entry)) (now (wires .entry)) (now (run .entry)) .outcome) ⌝ }
     ensures { λ _.
-        ⌜ now (gates .exit) ≡ gatesAfter (dimensions n «left_rows» «right_rows» «public_rows»)
-        (allTables (now (left .entry)) (now (right .entry)) (now (public .entry))) times (now (gates .entry)) (now (bytes .entry))
-        (now (wires .entry)) (runIn (now (run .entry))) ⌝ }
+        ⌜ now (gates .exit) ≡ gatesAfter (dimensions n «left_rows» «right_rows» «public_rows») (lentTables left right public) times
+        (now (gates .entry)) (now (bytes .entry)) (now (wires .entry)) (runIn (now (run .entry))) ⌝ }
     ensures { λ _.
-        ⌜ now (bytes .exit) ≡ bytesAfter (dimensions n «left_rows» «right_rows» «public_rows»)
-        (allTables (now (left .entry)) (now (right .entry)) (now (public .entry))) times (now (gates .entry)) (now (bytes .entry))
-        (now (wires .entry)) (runIn (now (run .entry))) ⌝ }
+        ⌜ now (bytes .exit) ≡ bytesAfter (dimensions n «left_rows» «right_rows» «public_rows») (lentTables left right public) times
+        (now (gates .entry)) (now (bytes .entry)) (now (wires .entry)) (runIn (now (run .entry))) ⌝ }
     ensures { λ _.
-        ⌜ now (wires .exit) ≡ wiresAfter (dimensions n «left_rows» «right_rows» «public_rows»)
-        (allTables (now (left .entry)) (now (right .entry)) (now (public .entry))) times (now (gates .entry)) (now (bytes .entry))
-        (now (wires .entry)) (runIn (now (run .entry))) ⌝ }
+        ⌜ now (wires .exit) ≡ wiresAfter (dimensions n «left_rows» «right_rows» «public_rows») (lentTables left right public) times
+        (now (gates .entry)) (now (bytes .entry)) (now (wires .entry)) (runIn (now (run .entry))) ⌝ }
     ensures { λ _.
-        ⌜ now (run .exit) ≡ repeatStored (repeatIn (dimensions n «left_rows» «right_rows» «public_rows»)
-        (allTables (now (left .entry)) (now (right .entry)) (now (public .entry))) times (now (gates .entry)) (now (bytes .entry))
-        (now (wires .entry)) (now (run .entry))) (now (run .entry)) ⌝ }
+        ⌜ now (run .exit) ≡ repeatStored (repeatIn (dimensions n «left_rows» «right_rows» «public_rows») (lentTables left right public)
+        times (now (gates .entry)) (now (bytes .entry)) (now (wires .entry)) (now (run .entry))) (now (run .entry)) ⌝ }
     ensures { λ _.
         ⌜ now (repeated .exit) ≡ repeatNumbers (repeatIn (dimensions n «left_rows» «right_rows» «public_rows»)
-        (allTables (now (left .entry)) (now (right .entry)) (now (public .entry))) times (now (gates .entry)) (now (bytes .entry))
-        (now (wires .entry)) (now (run .entry))) (now (repeated .entry)) ⌝ }
+        (lentTables left right public) times (now (gates .entry)) (now (bytes .entry)) (now (wires .entry)) (now (run .entry)))
+        (now (repeated .entry)) ⌝ }
 {
     let d = codes::dimensions(n, left_rows, right_rows, public_rows);
     let start = stored::load(*run);

@@ -9,7 +9,7 @@ ghost use mathlib.Core.Path.{_≡_};
 ghost use lib.ListN.{length};
 ghost use Rattle.refusals.specs.Checks.{outcome};
 ghost use Rattle.dimensions.specs.Sizes.{dimensions};
-ghost use Rattle.tables.specs.Tables.{allTables};
+ghost use Rattle.tables.specs.Tables.{lentTables};
 ghost use Rattle.tables.specs.Rows.{lookNumber};
 ghost use Rattle.tables.specs.Acceptance.{tableChecks};
 ghost use Rattle.verdicts.specs.Verdicts.{modelOf, modelCode, modelNumbers};
@@ -34,8 +34,7 @@ pub extern "C" fn forkhemit_accept(
     public: &[u32],
 ) -> u8
     ensures { λ r.
-        ⌜ r ≡ codeOf (outcome (tableChecks (dimensions n «left_rows» «right_rows» «public_rows»)
-        (allTables (now (left .entry)) (now (right .entry)) (now (public .entry))))) ⌝ }
+        ⌜ r ≡ codeOf (outcome (tableChecks (dimensions n «left_rows» «right_rows» «public_rows») (lentTables left right public))) ⌝ }
 {
     let d = codes::dimensions(n, left_rows, right_rows, public_rows);
     codes::code(tables::accept(d, left, right, public))
@@ -90,12 +89,11 @@ pub extern "C" fn forkhemit_count_free(
     counts: &mut [u8],
 ) -> u8
     ensures { λ r.
-        ⌜ r ≡ codeOf (outcome (countChecks (dimensions n «left_rows» «right_rows» «public_rows»)
-        (allTables (now (left .entry)) (now (right .entry)) (now (public .entry))) (runIn (now (run .entry)))
-        (length (now (counts .entry))))) ⌝ }
+        ⌜ r ≡ codeOf (outcome (countChecks (dimensions n «left_rows» «right_rows» «public_rows») (lentTables left right public)
+        (runIn (now (run .entry))) (length (now (counts .entry))))) ⌝ }
     ensures { λ _.
-        ⌜ now (counts .exit) ≡ countsAfter (dimensions n «left_rows» «right_rows» «public_rows»)
-        (allTables (now (left .entry)) (now (right .entry)) (now (public .entry))) (runIn (now (run .entry))) (now (counts .entry)) ⌝ }
+        ⌜ now (counts .exit) ≡ countsAfter (dimensions n «left_rows» «right_rows» «public_rows») (lentTables left right public)
+        (runIn (now (run .entry))) (now (counts .entry)) ⌝ }
 {
     let d = codes::dimensions(n, left_rows, right_rows, public_rows);
     let run = stored::load(*run);
@@ -128,11 +126,11 @@ pub extern "C" fn forkhemit_step(
     run: &mut [u32; 101],
 ) -> u8
     ensures { λ r.
-        ⌜ r ≡ codeOf (stepIn (dimensions n «left_rows» «right_rows» «public_rows»)
-        (allTables (now (left .entry)) (now (right .entry)) (now (public .entry))) (now (run .entry)) .outcome) ⌝ }
+        ⌜ r ≡ codeOf (stepIn (dimensions n «left_rows» «right_rows» «public_rows») (lentTables left right public) (now (run .entry))
+        .outcome) ⌝ }
     ensures { λ _.
-        ⌜ now (run .exit) ≡ stepStored (stepIn (dimensions n «left_rows» «right_rows» «public_rows»)
-        (allTables (now (left .entry)) (now (right .entry)) (now (public .entry))) (now (run .entry))) (now (run .entry)) ⌝ }
+        ⌜ now (run .exit) ≡ stepStored (stepIn (dimensions n «left_rows» «right_rows» «public_rows») (lentTables left right public)
+        (now (run .entry))) (now (run .entry)) ⌝ }
 {
     let d = codes::dimensions(n, left_rows, right_rows, public_rows);
     let stepped = solver::step_lent(d, left, right, public, stored::load(*run));

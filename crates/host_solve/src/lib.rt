@@ -4,7 +4,7 @@
 use solver::Solved;
 ghost use mathlib.Core.Path.{_≡_};
 ghost use Rattle.dimensions.specs.Sizes.{dimensions};
-ghost use Rattle.tables.specs.Tables.{allTables};
+ghost use Rattle.tables.specs.Tables.{lentTables};
 ghost use Rattle.solver.specs.Entries.{solved, solvedCode, solvedNumbers};
 ghost use Rattle.lent.specs.Lent.{numbersOr};
 
@@ -40,13 +40,10 @@ pub extern "C" fn forkhemit_solve(
     budget: u64,
     answer: &mut [u64; 3],
 ) -> u8
-    ensures { λ r.
-        ⌜ r ≡ solvedCode (solved (dimensions n «left_rows» «right_rows» «public_rows»)
-        (allTables (now (left .entry)) (now (right .entry)) (now (public .entry))) budget) ⌝ }
+    ensures { λ r. ⌜ r ≡ solvedCode (solved (dimensions n «left_rows» «right_rows» «public_rows») (lentTables left right public) budget) ⌝ }
     ensures { λ _.
-        ⌜ now (answer .exit) ≡ numbersOr
-        (solvedNumbers (solved (dimensions n «left_rows» «right_rows» «public_rows»)
-        (allTables (now (left .entry)) (now (right .entry)) (now (public .entry))) budget)) (now (answer .entry)) ⌝ }
+        ⌜ now (answer .exit) ≡ numbersOr (solvedNumbers (solved (dimensions n «left_rows» «right_rows» «public_rows»)
+        (lentTables left right public) budget)) (now (answer .entry)) ⌝ }
 {
     let d = codes::dimensions(n, left_rows, right_rows, public_rows);
     give(solver::solve(d, left, right, public, budget), answer)
@@ -65,13 +62,10 @@ pub extern "C" fn forkhemit_solve_indexed(
     budget: u64,
     answer: &mut [u64; 3],
 ) -> u8
-    ensures { λ r.
-        ⌜ r ≡ solvedCode (solved (dimensions n «left_rows» «right_rows» «public_rows»)
-        (allTables (now (left .entry)) (now (right .entry)) (now (public .entry))) budget) ⌝ }
+    ensures { λ r. ⌜ r ≡ solvedCode (solved (dimensions n «left_rows» «right_rows» «public_rows») (lentTables left right public) budget) ⌝ }
     ensures { λ _.
-        ⌜ now (answer .exit) ≡ numbersOr
-        (solvedNumbers (solved (dimensions n «left_rows» «right_rows» «public_rows»)
-        (allTables (now (left .entry)) (now (right .entry)) (now (public .entry))) budget)) (now (answer .entry)) ⌝ }
+        ⌜ now (answer .exit) ≡ numbersOr (solvedNumbers (solved (dimensions n «left_rows» «right_rows» «public_rows»)
+        (lentTables left right public) budget)) (now (answer .entry)) ⌝ }
 {
     let d = codes::dimensions(n, left_rows, right_rows, public_rows);
     give(

@@ -5,7 +5,7 @@ use dimacs::Table;
 use refusals::Outcome;
 use refusals::Refusal;
 ghost use mathlib.Core.Path.{_≡_};
-ghost use Rattle.tables.specs.Tables.{allTables};
+ghost use Rattle.tables.specs.Tables.{lentTables};
 ghost use Rattle.refusals.specs.Numbers.{codeOf};
 ghost use Rattle.host_texts.specs.Texts.{allTexts, textsOf, lentOutcome, readOutcome, tablesRead, sizesRead};
 
@@ -58,19 +58,19 @@ pub extern "C" fn forkhemit_read_tables(
 ) -> u8
     ensures { λ r.
         ⌜ r ≡ codeOf (readOutcome (textsOf (now («left_text» .entry)) (now («right_text» .entry)) (now («public_text» .entry)))
-        (allTables (now (left .entry)) (now (right .entry)) (now (public .entry)))) ⌝ }
+        (lentTables left right public)) ⌝ }
     ensures { λ _.
         ⌜ now (left .exit) ≡ tablesRead (textsOf (now («left_text» .entry)) (now («right_text» .entry)) (now («public_text» .entry)))
-        (allTables (now (left .entry)) (now (right .entry)) (now (public .entry))) .left ⌝ }
+        (lentTables left right public) .left ⌝ }
     ensures { λ _.
         ⌜ now (right .exit) ≡ tablesRead (textsOf (now («left_text» .entry)) (now («right_text» .entry)) (now («public_text» .entry)))
-        (allTables (now (left .entry)) (now (right .entry)) (now (public .entry))) .right ⌝ }
+        (lentTables left right public) .right ⌝ }
     ensures { λ _.
         ⌜ now (public .exit) ≡ tablesRead (textsOf (now («left_text» .entry)) (now («right_text» .entry)) (now («public_text» .entry)))
-        (allTables (now (left .entry)) (now (right .entry)) (now (public .entry))) .public ⌝ }
+        (lentTables left right public) .public ⌝ }
     ensures { λ _.
         ⌜ now (sizes .exit) ≡ sizesRead (textsOf (now («left_text» .entry)) (now («right_text» .entry)) (now («public_text» .entry)))
-        (allTables (now (left .entry)) (now (right .entry)) (now (public .entry))) (now (sizes .entry)) ⌝ }
+        (lentTables left right public) (now (sizes .entry)) ⌝ }
 {
     let l = dimacs::read(left_text, 1);
     let r = dimacs::read(right_text, 1);

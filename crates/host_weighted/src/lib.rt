@@ -5,7 +5,7 @@
 ghost use mathlib.Core.Path.{_≡_};
 ghost use Rattle.refusals.specs.Numbers.{codeOf};
 ghost use Rattle.dimensions.specs.Sizes.{dimensions};
-ghost use Rattle.tables.specs.Tables.{allTables};
+ghost use Rattle.tables.specs.Tables.{lentTables};
 ghost use Rattle.solver.specs.Entries.{steppedWith, solvedWith, solvedCode, solvedNumbers};
 ghost use Rattle.indexed.specs.Continuing.{continuedWith, continuedCode, continuedNumbers};
 ghost use Rattle.weighted.specs.Weights.{weightedRule};
@@ -26,11 +26,11 @@ pub extern "C" fn forkhemit_step_weighted(
     run: &mut [u32; 101],
 ) -> u8
     ensures { λ r.
-        ⌜ r ≡ codeOf (steppedWith weightedRule (dimensions n «left_rows» «right_rows» «public_rows»)
-        (allTables (now (left .entry)) (now (right .entry)) (now (public .entry))) (runIn (now (run .entry))) .outcome) ⌝ }
+        ⌜ r ≡ codeOf (steppedWith weightedRule (dimensions n «left_rows» «right_rows» «public_rows») (lentTables left right public)
+        (runIn (now (run .entry))) .outcome) ⌝ }
     ensures { λ _.
         ⌜ now (run .exit) ≡ stepStored (steppedWith weightedRule (dimensions n «left_rows» «right_rows» «public_rows»)
-        (allTables (now (left .entry)) (now (right .entry)) (now (public .entry))) (runIn (now (run .entry)))) (now (run .entry)) ⌝ }
+        (lentTables left right public) (runIn (now (run .entry)))) (now (run .entry)) ⌝ }
 {
     let d = codes::dimensions(n, left_rows, right_rows, public_rows);
     let stepped = weighted::step_weighted(d, left, right, public, stored::load(*run));
@@ -54,12 +54,11 @@ pub extern "C" fn forkhemit_solve_weighted(
     answer: &mut [u64; 3],
 ) -> u8
     ensures { λ r.
-        ⌜ r ≡ solvedCode (solvedWith weightedRule (dimensions n «left_rows» «right_rows» «public_rows»)
-        (allTables (now (left .entry)) (now (right .entry)) (now (public .entry))) budget) ⌝ }
+        ⌜ r ≡ solvedCode (solvedWith weightedRule (dimensions n «left_rows» «right_rows» «public_rows») (lentTables left right public)
+        budget) ⌝ }
     ensures { λ _.
-        ⌜ now (answer .exit) ≡ numbersOr
-        (solvedNumbers (solvedWith weightedRule (dimensions n «left_rows» «right_rows» «public_rows»)
-        (allTables (now (left .entry)) (now (right .entry)) (now (public .entry))) budget)) (now (answer .entry)) ⌝ }
+        ⌜ now (answer .exit) ≡ numbersOr (solvedNumbers (solvedWith weightedRule (dimensions n «left_rows» «right_rows» «public_rows»)
+        (lentTables left right public) budget)) (now (answer .entry)) ⌝ }
 {
     let d = codes::dimensions(n, left_rows, right_rows, public_rows);
     host_solve::give(
@@ -84,18 +83,16 @@ pub extern "C" fn forkhemit_continue_weighted(
     continued: &mut [u64; 2],
 ) -> u8
     ensures { λ r.
-        ⌜ r ≡ continuedCode (continuedWith weightedRule (dimensions n «left_rows» «right_rows» «public_rows»)
-        (allTables (now (left .entry)) (now (right .entry)) (now (public .entry))) times (runIn (now (run .entry)))) ⌝ }
+        ⌜ r ≡ continuedCode (continuedWith weightedRule (dimensions n «left_rows» «right_rows» «public_rows») (lentTables left right public)
+        times (runIn (now (run .entry)))) ⌝ }
     ensures { λ _.
         ⌜ now (run .exit) ≡ storedIf (continuedWith weightedRule (dimensions n «left_rows» «right_rows» «public_rows»)
-        (allTables (now (left .entry)) (now (right .entry)) (now (public .entry))) times (runIn (now (run .entry))) .outcome)
-        (continuedWith weightedRule (dimensions n «left_rows» «right_rows» «public_rows»)
-        (allTables (now (left .entry)) (now (right .entry)) (now (public .entry))) times (runIn (now (run .entry))) .run)
-        (now (run .entry)) ⌝ }
+        (lentTables left right public) times (runIn (now (run .entry))) .outcome)
+        (continuedWith weightedRule (dimensions n «left_rows» «right_rows» «public_rows») (lentTables left right public) times
+        (runIn (now (run .entry))) .run) (now (run .entry)) ⌝ }
     ensures { λ _.
-        ⌜ now (continued .exit) ≡ numbersOr
-        (continuedNumbers (continuedWith weightedRule (dimensions n «left_rows» «right_rows» «public_rows»)
-        (allTables (now (left .entry)) (now (right .entry)) (now (public .entry))) times (runIn (now (run .entry)))))
+        ⌜ now (continued .exit) ≡ numbersOr (continuedNumbers (continuedWith weightedRule
+        (dimensions n «left_rows» «right_rows» «public_rows») (lentTables left right public) times (runIn (now (run .entry)))))
         (now (continued .entry)) ⌝ }
 {
     let d = codes::dimensions(n, left_rows, right_rows, public_rows);

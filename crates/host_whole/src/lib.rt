@@ -3,7 +3,7 @@
 // number, and then it writes nothing.
 ghost use mathlib.Core.Path.{_≡_};
 ghost use Rattle.dimensions.specs.Sizes.{dimensions};
-ghost use Rattle.tables.specs.Tables.{allTables};
+ghost use Rattle.tables.specs.Tables.{lentTables};
 ghost use Rattle.solver.specs.Entries.{solvedCode, solvedNumbers};
 ghost use Rattle.whole_budget.specs.WholeBudget.{solvedWhole, gatesAfterWhole, bytesAfterWhole, wiresAfterWhole};
 ghost use Rattle.lent.specs.Lent.{numbersOr};
@@ -28,26 +28,20 @@ pub extern "C" fn forkhemit_solve_whole(
     answer: &mut [u64; 3],
 ) -> u8
     ensures { λ r.
-        ⌜ r ≡ solvedCode (solvedWhole (dimensions n «left_rows» «right_rows» «public_rows»)
-        (allTables (now (left .entry)) (now (right .entry)) (now (public .entry))) budget (now (gates .entry)) (now (bytes .entry))
-        (now (wires .entry))) ⌝ }
+        ⌜ r ≡ solvedCode (solvedWhole (dimensions n «left_rows» «right_rows» «public_rows») (lentTables left right public) budget
+        (now (gates .entry)) (now (bytes .entry)) (now (wires .entry))) ⌝ }
     ensures { λ _.
-        ⌜ now (gates .exit) ≡ gatesAfterWhole (dimensions n «left_rows» «right_rows» «public_rows»)
-        (allTables (now (left .entry)) (now (right .entry)) (now (public .entry))) budget (now (gates .entry)) (now (bytes .entry))
-        (now (wires .entry)) ⌝ }
+        ⌜ now (gates .exit) ≡ gatesAfterWhole (dimensions n «left_rows» «right_rows» «public_rows») (lentTables left right public) budget
+        (now (gates .entry)) (now (bytes .entry)) (now (wires .entry)) ⌝ }
     ensures { λ _.
-        ⌜ now (bytes .exit) ≡ bytesAfterWhole (dimensions n «left_rows» «right_rows» «public_rows»)
-        (allTables (now (left .entry)) (now (right .entry)) (now (public .entry))) budget (now (gates .entry)) (now (bytes .entry))
-        (now (wires .entry)) ⌝ }
+        ⌜ now (bytes .exit) ≡ bytesAfterWhole (dimensions n «left_rows» «right_rows» «public_rows») (lentTables left right public) budget
+        (now (gates .entry)) (now (bytes .entry)) (now (wires .entry)) ⌝ }
     ensures { λ _.
-        ⌜ now (wires .exit) ≡ wiresAfterWhole (dimensions n «left_rows» «right_rows» «public_rows»)
-        (allTables (now (left .entry)) (now (right .entry)) (now (public .entry))) budget (now (gates .entry)) (now (bytes .entry))
-        (now (wires .entry)) ⌝ }
+        ⌜ now (wires .exit) ≡ wiresAfterWhole (dimensions n «left_rows» «right_rows» «public_rows») (lentTables left right public) budget
+        (now (gates .entry)) (now (bytes .entry)) (now (wires .entry)) ⌝ }
     ensures { λ _.
-        ⌜ now (answer .exit) ≡ numbersOr
-        (solvedNumbers (solvedWhole (dimensions n «left_rows» «right_rows» «public_rows»)
-        (allTables (now (left .entry)) (now (right .entry)) (now (public .entry))) budget (now (gates .entry)) (now (bytes .entry))
-        (now (wires .entry)))) (now (answer .entry)) ⌝ }
+        ⌜ now (answer .exit) ≡ numbersOr (solvedNumbers (solvedWhole (dimensions n «left_rows» «right_rows» «public_rows»)
+        (lentTables left right public) budget (now (gates .entry)) (now (bytes .entry)) (now (wires .entry)))) (now (answer .entry)) ⌝ }
 {
     let d = codes::dimensions(n, left_rows, right_rows, public_rows);
     host_solve::give(

@@ -19,7 +19,7 @@ ghost use Rattle.refusals.specs.Numbers.{said, codeOf};
 ghost use Rattle.refusals.specs.declared.Outcome.the-variants.{Taken};
 ghost use Rattle.words.specs.Sameness.{same};
 ghost use Rattle.dimensions.specs.Sizes.{rowCount};
-ghost use Rattle.tables.specs.Tables.{allTables};
+ghost use Rattle.tables.specs.Tables.{allTables, lentTables};
 ghost use Rattle.tables.specs.Acceptance.{tableChecks};
 ghost use Rattle.tables.specs.Rows.{rowsFrom, rowsOf};
 ghost use Rattle.state.specs.State.{stateOf};
@@ -65,8 +65,8 @@ fn make_index(
     index: &mut [u64; 384],
 ) -> [u32; 768]
     requires { ⌜ outcome (tableChecks d (allTables (now left) (now right) (now public))) ≡ Taken ⌝ }
-    ensures { λ r. ⌜ rowsFrom r 0 (rowCount d) ≡ rowsOf d (allTables (now (left .entry)) (now (right .entry)) (now (public .entry))) ⌝ }
-    ensures { λ _. ⌜ now (index .exit) ≡ indexOf (rowsOf d (allTables (now (left .entry)) (now (right .entry)) (now (public .entry)))) ⌝ }
+    ensures { λ r. ⌜ rowsFrom r 0 (rowCount d) ≡ rowsOf d (lentTables left right public) ⌝ }
+    ensures { λ _. ⌜ now (index .exit) ≡ indexOf (rowsOf d (lentTables left right public)) ⌝ }
 {
     let words = occurrences::row_words(d, left, right, public);
     occurrences::fill(&words, d.rows(), index);
@@ -81,12 +81,9 @@ pub fn index(
     public: &[u32],
     index: &mut [u64; 384],
 ) -> Outcome
-    ensures { λ r. ⌜ r ≡ outcome (tableChecks d (allTables (now (left .entry)) (now (right .entry)) (now (public .entry)))) ⌝ }
-    ensures { λ _.
-        ⌜ now (index .exit) ≡ indexAfter d
-        (allTables (now (left .entry)) (now (right .entry)) (now (public .entry))) (now (index .entry)) ⌝ }
-    ensures { λ r.
-        ⌜ codeOf r ∷ [] ≡ said (outcome (tableChecks d (allTables (now (left .entry)) (now (right .entry)) (now (public .entry))))) [] ⌝ }
+    ensures { λ r. ⌜ r ≡ outcome (tableChecks d (lentTables left right public)) ⌝ }
+    ensures { λ _. ⌜ now (index .exit) ≡ indexAfter d (lentTables left right public) (now (index .entry)) ⌝ }
+    ensures { λ r. ⌜ codeOf r ∷ [] ≡ said (outcome (tableChecks d (lentTables left right public))) [] ⌝ }
 {
     let checked = tables::accept(d, left, right, public);
     match checked {
@@ -112,9 +109,7 @@ fn run_accepted(
     requires { ⌜ outcome (tableChecks d (allTables (now left) (now right) (now public))) ≡ Taken ⌝ }
     requires { ⌜ wellFormed run ≡ true ⌝ }
     requires { ⌜ run .n ≡ d .n ⌝ }
-    ensures { λ r.
-        ⌜ r ≡ reachedBy (d .n) (runFrom (d .n)
-        (always (rowsOf d (allTables (now (left .entry)) (now (right .entry)) (now (public .entry))))) times (stateOf run)) ⌝ }
+    ensures { λ r. ⌜ r ≡ reachedBy (d .n) (runFrom (d .n) (always (rowsOf d (lentTables left right public))) times (stateOf run)) ⌝ }
 {
     let mut index = [0u64; 384];
     let words = make_index(d, left, right, public, &mut index);
@@ -131,12 +126,10 @@ pub fn continue_indexed(
     times: u64,
     run: Run,
 ) -> Continued
-    ensures { λ r. ⌜ r ≡ continued d (allTables (now (left .entry)) (now (right .entry)) (now (public .entry))) times run ⌝ }
+    ensures { λ r. ⌜ r ≡ continued d (lentTables left right public) times run ⌝ }
     ensures { λ r.
-        ⌜ continuedCode r ∷ continuedNumbers r
-        ≡ said (outcome (tableChecks d (allTables (now (left .entry)) (now (right .entry)) (now (public .entry))) ++ stateChecks d run))
-        (ranNumbers (runFrom (d .n)
-        (always (rowsOf d (allTables (now (left .entry)) (now (right .entry)) (now (public .entry))))) times (stateOf run))) ⌝ }
+        ⌜ continuedCode r ∷ continuedNumbers r ≡ said (outcome (tableChecks d (lentTables left right public) ++ stateChecks d run))
+        (ranNumbers (runFrom (d .n) (always (rowsOf d (lentTables left right public))) times (stateOf run))) ⌝ }
 {
     let outcome = solver::check_all(d, left, right, public, run);
     match outcome {
@@ -162,8 +155,7 @@ pub fn continue_indexed(
 // The answer of a fresh run over accepted tables.
 fn run_indexed(d: Dimensions, left: &[u32], right: &[u32], public: &[u32], budget: u64) -> Answer
     requires { ⌜ outcome (tableChecks d (allTables (now left) (now right) (now public))) ≡ Taken ⌝ }
-    ensures { λ r.
-        ⌜ r ≡ answerOf (d .n) (always (rowsOf d (allTables (now (left .entry)) (now (right .entry)) (now (public .entry))))) budget ⌝ }
+    ensures { λ r. ⌜ r ≡ answerOf (d .n) (always (rowsOf d (lentTables left right public))) budget ⌝ }
 {
     let reached = run_accepted(d, left, right, public, budget, Run::fresh(d.n));
     Answer {
@@ -181,12 +173,10 @@ pub fn solve_indexed(
     public: &[u32],
     budget: u64,
 ) -> Solved
-    ensures { λ r. ⌜ r ≡ solved d (allTables (now (left .entry)) (now (right .entry)) (now (public .entry))) budget ⌝ }
+    ensures { λ r. ⌜ r ≡ solved d (lentTables left right public) budget ⌝ }
     ensures { λ r.
-        ⌜ solvedCode r ∷ solvedNumbers r
-        ≡ said (outcome (tableChecks d (allTables (now (left .entry)) (now (right .entry)) (now (public .entry)))))
-        (answerNumbers (answerOf (d .n)
-        (always (rowsOf d (allTables (now (left .entry)) (now (right .entry)) (now (public .entry))))) budget)) ⌝ }
+        ⌜ solvedCode r ∷ solvedNumbers r ≡ said (outcome (tableChecks d (lentTables left right public)))
+        (answerNumbers (answerOf (d .n) (always (rowsOf d (lentTables left right public))) budget)) ⌝ }
 {
     let checked = tables::accept(d, left, right, public);
     match checked {
@@ -207,8 +197,7 @@ fn count_unsatisfied(
     f: u32,
 ) -> u32
     requires { ⌜ outcome (tableChecks d (allTables (now left) (now right) (now public))) ≡ Taken ⌝ }
-    ensures { λ r.
-        ⌜ r ≡ unsatisfiedRows (d .n) (rowsOf d (allTables (now (left .entry)) (now (right .entry)) (now (public .entry)))) t f ⌝ }
+    ensures { λ r. ⌜ r ≡ unsatisfiedRows (d .n) (rowsOf d (lentTables left right public)) t f ⌝ }
 {
     let mut index = [0u64; 384];
     let words = make_index(d, left, right, public, &mut index);
@@ -218,12 +207,10 @@ fn count_unsatisfied(
 
 // How many rows are unsatisfied under the run's T and F, whatever its standing; 1, 2, 4, 3, 12 or 13 if the call is turned back.
 pub fn unsatisfied(d: Dimensions, left: &[u32], right: &[u32], public: &[u32], run: Run) -> Counted
-    ensures { λ r. ⌜ r ≡ counted d (allTables (now (left .entry)) (now (right .entry)) (now (public .entry))) run ⌝ }
+    ensures { λ r. ⌜ r ≡ counted d (lentTables left right public) run ⌝ }
     ensures { λ r.
-        ⌜ countedCode r ∷ countedNumbers r
-        ≡ said (outcome (tableChecks d (allTables (now (left .entry)) (now (right .entry)) (now (public .entry))) ++ stateChecks d run))
-        (unsatisfiedRows (d .n) (rowsOf d
-        (allTables (now (left .entry)) (now (right .entry)) (now (public .entry)))) (run .t) (run .f) ∷ []) ⌝ }
+        ⌜ countedCode r ∷ countedNumbers r ≡ said (outcome (tableChecks d (lentTables left right public) ++ stateChecks d run))
+        (unsatisfiedRows (d .n) (rowsOf d (lentTables left right public)) (run .t) (run .f) ∷ []) ⌝ }
 {
     match tables::accept(d, left, right, public) {
         Outcome::Taken => {}
@@ -275,9 +262,7 @@ fn check_accepted(
     number: u64,
 ) -> Outcome
     requires { ⌜ outcome (tableChecks d (allTables (now left) (now right) (now public))) ≡ Taken ⌝ }
-    ensures { λ r.
-        ⌜ r ≡ outcome (indexedChecks (d .n) (rowsOf d (allTables (now (left .entry)) (now (right .entry)) (now (public .entry))))
-        (now (index .entry)) run number) ⌝ }
+    ensures { λ r. ⌜ r ≡ outcome (indexedChecks (d .n) (rowsOf d (lentTables left right public)) (now (index .entry)) run number) ⌝ }
 {
     let mut sets = [0u64; 384];
     let words = make_index(d, left, right, public, &mut sets);
@@ -296,14 +281,11 @@ pub fn check_indexed(
     number: u64,
 ) -> Outcome
     ensures { λ r.
-        ⌜ r ≡ outcome (tableChecks d (allTables (now (left .entry)) (now (right .entry)) (now (public .entry)))
-        ++ indexedChecks (d .n) (rowsOf d (allTables (now (left .entry)) (now (right .entry)) (now (public .entry))))
+        ⌜ r ≡ outcome (tableChecks d (lentTables left right public) ++ indexedChecks (d .n) (rowsOf d (lentTables left right public))
         (now (index .entry)) run number) ⌝ }
     ensures { λ r.
-        ⌜ codeOf r ∷ []
-        ≡ said (outcome (tableChecks d (allTables (now (left .entry)) (now (right .entry)) (now (public .entry)))
-        ++ indexedChecks (d .n) (rowsOf d (allTables (now (left .entry)) (now (right .entry)) (now (public .entry))))
-        (now (index .entry)) run number)) [] ⌝ }
+        ⌜ codeOf r ∷ [] ≡ said (outcome (tableChecks d (lentTables left right public) ++ indexedChecks (d .n)
+        (rowsOf d (lentTables left right public)) (now (index .entry)) run number)) [] ⌝ }
 {
     let checked = tables::accept(d, left, right, public);
     match checked {
@@ -359,9 +341,7 @@ fn step_accepted(
     number: u64,
 ) -> SteppedIndexed
     requires { ⌜ outcome (tableChecks d (allTables (now left) (now right) (now public))) ≡ Taken ⌝ }
-    ensures { λ r.
-        ⌜ r ≡ steppedOver (d .n) (rowsOf d (allTables (now (left .entry)) (now (right .entry)) (now (public .entry))))
-        (now (index .entry)) run number ⌝ }
+    ensures { λ r. ⌜ r ≡ steppedOver (d .n) (rowsOf d (lentTables left right public)) (now (index .entry)) run number ⌝ }
 {
     let mut sets = [0u64; 384];
     let words = make_index(d, left, right, public, &mut sets);
@@ -378,14 +358,11 @@ pub fn step_indexed(
     run: Run,
     number: u64,
 ) -> SteppedIndexed
+    ensures { λ r. ⌜ r ≡ steppedIndexed d (lentTables left right public) (now (index .entry)) run number ⌝ }
     ensures { λ r.
-        ⌜ r ≡ steppedIndexed d (allTables (now (left .entry)) (now (right .entry)) (now (public .entry)))
-        (now (index .entry)) run number ⌝ }
-    ensures { λ r.
-        ⌜ steppedSaid r ≡ saidOr (outcome (tableChecks d (allTables (now (left .entry)) (now (right .entry)) (now (public .entry)))
-        ++ indexedChecks (d .n) (rowsOf d (allTables (now (left .entry)) (now (right .entry)) (now (public .entry))))
-        (now (index .entry)) run number))
-        (numberAfter (d .n) (rowsOf d (allTables (now (left .entry)) (now (right .entry)) (now (public .entry)))) run) number ⌝ }
+        ⌜ steppedSaid r ≡ saidOr (outcome (tableChecks d (lentTables left right public) ++ indexedChecks (d .n)
+        (rowsOf d (lentTables left right public)) (now (index .entry)) run number))
+        (numberAfter (d .n) (rowsOf d (lentTables left right public)) run) number ⌝ }
 {
     let outcome = tables::accept(d, left, right, public);
     match outcome {

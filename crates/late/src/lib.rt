@@ -12,7 +12,7 @@ ghost use lib.Dec.{leb};
 ghost use lib.ListN.{length};
 ghost use Rattle.refusals.specs.Checks.{outcome};
 ghost use Rattle.refusals.specs.Numbers.{codeOf, said};
-ghost use Rattle.tables.specs.Tables.{allTables};
+ghost use Rattle.tables.specs.Tables.{lentTables};
 ghost use Rattle.tables.specs.Rows.{rowAt, padding};
 ghost use Rattle.tables.specs.Acceptance.{lowRow};
 ghost use Rattle.late.specs.Replacement as Replacement;
@@ -81,7 +81,7 @@ fn check(
     run: Run,
     condition: Condition,
 ) -> Outcome
-    ensures { λ r. ⌜ r ≡ outcome (lateChecks d (allTables (now (left .entry)) (now (right .entry)) (now (public .entry))) run condition) ⌝ }
+    ensures { λ r. ⌜ r ≡ outcome (lateChecks d (lentTables left right public) run condition) ⌝ }
 {
     match tables::accept(d, left, right, public) {
         Outcome::Taken => {}
@@ -122,16 +122,10 @@ pub fn replace(
     run: Run,
     condition: Condition,
 ) -> Outcome
-    ensures { λ r. ⌜ r ≡ outcome (lateChecks d (allTables (now (left .entry)) (now (right .entry)) (now (public .entry))) run condition) ⌝ }
-    ensures { λ _.
-        ⌜ now (left .exit) ≡ tablesAfter d
-        (allTables (now (left .entry)) (now (right .entry)) (now (public .entry))) run condition .left ⌝ }
-    ensures { λ _.
-        ⌜ now (right .exit) ≡ tablesAfter d
-        (allTables (now (left .entry)) (now (right .entry)) (now (public .entry))) run condition .right ⌝ }
-    ensures { λ r.
-        ⌜ codeOf r ∷ []
-        ≡ said (outcome (lateChecks d (allTables (now (left .entry)) (now (right .entry)) (now (public .entry))) run condition)) [] ⌝ }
+    ensures { λ r. ⌜ r ≡ outcome (lateChecks d (lentTables left right public) run condition) ⌝ }
+    ensures { λ _. ⌜ now (left .exit) ≡ tablesAfter d (lentTables left right public) run condition .left ⌝ }
+    ensures { λ _. ⌜ now (right .exit) ≡ tablesAfter d (lentTables left right public) run condition .right ⌝ }
+    ensures { λ r. ⌜ codeOf r ∷ [] ≡ said (outcome (lateChecks d (lentTables left right public) run condition)) [] ⌝ }
 {
     match check(d, left, right, public, run, condition) {
         Outcome::Taken => {}

@@ -12,7 +12,7 @@ ghost use Rattle.refusals.specs.Numbers.{codeOf, said};
 ghost use Prim.Native.Nat.{_+_, _*_, _≤_, _<_};
 ghost use lib.ListN.{length};
 ghost use Rattle.words.specs.Booleans.{digit};
-ghost use Rattle.tables.specs.Tables.{allTables};
+ghost use Rattle.tables.specs.Tables.{lentTables};
 ghost use Rattle.tables.specs.Rows.{rowAt};
 ghost use Rattle.tally.specs.Tallies.{unmet};
 ghost use Rattle.late_indexed.specs.OldRow.{oldRow};
@@ -84,22 +84,13 @@ pub fn replace_indexed(
     number: u64,
     condition: Condition,
 ) -> ReplacedIndexed
+    ensures { λ r. ⌜ r ≡ replacedIndexed d (lentTables left right public) (now (index .entry)) run number condition ⌝ }
+    ensures { λ _. ⌜ now (left .exit) ≡ tablesThen d (lentTables left right public) (now (index .entry)) run number condition .left ⌝ }
+    ensures { λ _. ⌜ now (right .exit) ≡ tablesThen d (lentTables left right public) (now (index .entry)) run number condition .right ⌝ }
+    ensures { λ _. ⌜ now (index .exit) ≡ indexThen d (lentTables left right public) (now (index .entry)) run number condition ⌝ }
     ensures { λ r.
-        ⌜ r ≡ replacedIndexed d (allTables (now (left .entry)) (now (right .entry)) (now (public .entry)))
-        (now (index .entry)) run number condition ⌝ }
-    ensures { λ _.
-        ⌜ now (left .exit) ≡ tablesThen d (allTables (now (left .entry)) (now (right .entry)) (now (public .entry)))
-        (now (index .entry)) run number condition .left ⌝ }
-    ensures { λ _.
-        ⌜ now (right .exit) ≡ tablesThen d (allTables (now (left .entry)) (now (right .entry)) (now (public .entry)))
-        (now (index .entry)) run number condition .right ⌝ }
-    ensures { λ _.
-        ⌜ now (index .exit) ≡ indexThen d (allTables (now (left .entry)) (now (right .entry)) (now (public .entry)))
-        (now (index .entry)) run number condition ⌝ }
-    ensures { λ r.
-        ⌜ codeOf (r .outcome) ∷ []
-        ≡ said (outcome (replaceChecks d (allTables (now (left .entry)) (now (right .entry)) (now (public .entry)))
-        (now (index .entry)) run number condition)) [] ⌝ }
+        ⌜ codeOf (r .outcome) ∷ [] ≡ said (outcome (replaceChecks d (lentTables left right public) (now (index .entry)) run number
+        condition)) [] ⌝ }
 {
     let checked = indexed::check_indexed(d, left, right, public, index, run, number);
     match checked {

@@ -24,7 +24,7 @@ use Rattle.text.specs.Refused.{refusedLine}
 use Rattle.text.proofs.Appending.{text-back}
 use Rattle.text.proofs.Decimals.{decimal-length}
 use Rattle.dimensions.specs.declared.Dimensions.{Dimensions}
-use Rattle.dimensions.specs.declared.Sized.the-variants as sized′
+use Rattle.dimensions.specs.declared.CheckedDimensions.the-variants as sized′
 use Rattle.dimensions.specs.Sizes.{dimensions, rowCount, sizeChecks, sized, ceiling, inputWires}
 use Rattle.dimensions.proofs.Limits.{within}
 use Rattle.gates.specs.Memory.{gatesOf, wordsOf, over}

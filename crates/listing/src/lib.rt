@@ -1,7 +1,7 @@
 // The circuit program's one function: a line of standard input goes in, what is printed comes out.
 use bristol::WrittenLines;
+use dimensions::CheckedDimensions;
 use dimensions::Dimensions;
-use dimensions::Sized;
 use generator::Generated;
 use lines::Size;
 use refusals::Refusal;
@@ -68,8 +68,8 @@ pub fn list(line: &[u8], bytes: &mut [u8; ROOM]) -> usize
 {
     match lines::read_size(line) {
         Size::Of(n, left, right, public) => match Dimensions::new(n, left, right, public) {
-            Sized::Of(d) => put_circuit(d, bytes),
-            Sized::Refused(refusal) => put_refusal(refusal, bytes),
+            CheckedDimensions::Of(d) => put_circuit(d, bytes),
+            CheckedDimensions::Refused(refusal) => put_refusal(refusal, bytes),
         },
         Size::Refused(refusal) => put_refusal(refusal, bytes),
     }

@@ -9,7 +9,7 @@ ghost use lib.ListN.{length};
 ghost use lib.Seq.{sets};
 ghost use Rattle.words.specs.Sets as Sets;
 ghost use Rattle.words.specs.Sameness as Sameness;
-ghost use Rattle.tables.specs.Tables.{allTables};
+ghost use Rattle.tables.specs.Tables.{lentTables};
 ghost use Rattle.tables.specs.Rows.{rowsFrom};
 ghost use Rattle.occurrences.specs.Index.{indexOf};
 ghost use Rattle.occurrences.specs.RowWords.{tableWords, gathered, literalsOf, turned, replacedSets};
@@ -46,7 +46,7 @@ fn store(words: &[u32], rows: u8, at: usize, all: &mut [u32]) -> usize
 
 // The words of the left rows, the right and the public ones, one behind the other, and zeros.
 pub fn row_words(d: Dimensions, left: &[u32], right: &[u32], public: &[u32]) -> [u32; 768]
-    ensures { λ r. ⌜ r ≡ gathered d (allTables (now (left .entry)) (now (right .entry)) (now (public .entry))) ⌝ }
+    ensures { λ r. ⌜ r ≡ gathered d (lentTables left right public) ⌝ }
 {
     let mut all = [0u32; 768];
     let right_at = store(left, d.left, 0, &mut all);

@@ -12,7 +12,7 @@ ghost use Rattle.refusals.specs.Checks.{outcome};
 ghost use Rattle.refusals.specs.Numbers.{codeOf, said};
 ghost use Rattle.refusals.specs.declared.Outcome.the-variants.{Taken};
 ghost use Rattle.dimensions.specs.Sizes.{stateWires, inputWires};
-ghost use Rattle.tables.specs.Tables.{allTables};
+ghost use Rattle.tables.specs.Tables.{allTables, lentTables};
 ghost use Rattle.tables.specs.Acceptance.{tableChecks};
 ghost use Rattle.state.specs.WellFormed.{stateChecks};
 ghost use Rattle.wires.specs.Packing.{packed};
@@ -47,11 +47,8 @@ pub fn check_words(
     public: &[u32],
     gates: usize,
 ) -> Outcome
-    ensures { λ r.
-        ⌜ r ≡ outcome (generationChecks d (allTables (now (left .entry)) (now (right .entry)) (now (public .entry))) gates) ⌝ }
-    ensures { λ r.
-        ⌜ codeOf r ∷ []
-        ≡ said (outcome (generationChecks d (allTables (now (left .entry)) (now (right .entry)) (now (public .entry))) gates)) [] ⌝ }
+    ensures { λ r. ⌜ r ≡ outcome (generationChecks d (lentTables left right public) gates) ⌝ }
+    ensures { λ r. ⌜ codeOf r ∷ [] ≡ said (outcome (generationChecks d (lentTables left right public) gates)) [] ⌝ }
 {
     match tables::accept(d, left, right, public) {
         Outcome::Taken => {}
@@ -86,8 +83,7 @@ fn check(
     wires: usize,
     run: Run,
 ) -> Outcome
-    ensures { λ r.
-        ⌜ r ≡ outcome (repeatChecks d (allTables (now (left .entry)) (now (right .entry)) (now (public .entry))) gates bytes wires run) ⌝ }
+    ensures { λ r. ⌜ r ≡ outcome (repeatChecks d (lentTables left right public) gates bytes wires run) ⌝ }
 {
     match check_words(d, left, right, public, gates) {
         Outcome::Taken => {}
@@ -153,17 +149,15 @@ pub fn apply(
     run: Run,
 ) -> Applied
     ensures { λ r.
-        ⌜ r ≡ applied d (allTables (now (left .entry)) (now (right .entry)) (now (public .entry))) (now (gates .entry)) run
-        (now (bytes .entry)) (now (wires .entry)) (stateWires (d .n) + 1) ⌝ }
+        ⌜ r ≡ applied d (lentTables left right public) (now (gates .entry)) run (now (bytes .entry)) (now (wires .entry))
+        (stateWires (d .n) + 1) ⌝ }
+    ensures { λ _. ⌜ now (bytes .exit) ≡ packed d (lentTables left right public) run (now (bytes .entry)) ⌝ }
     ensures { λ _.
-        ⌜ now (bytes .exit) ≡ packed d (allTables (now (left .entry)) (now (right .entry)) (now (public .entry)))
-        run (now (bytes .entry)) ⌝ }
-    ensures { λ _.
-        ⌜ now (wires .exit) ≡ Application.wiresAfter d (allTables (now (left .entry)) (now (right .entry)) (now (public .entry)))
-        (now (gates .entry)) run (now (bytes .entry)) (now (wires .entry)) ⌝ }
+        ⌜ now (wires .exit) ≡ Application.wiresAfter d (lentTables left right public) (now (gates .entry)) run (now (bytes .entry))
+        (now (wires .entry)) ⌝ }
     ensures { λ r.
-        ⌜ codeOf (r .outcome) ∷ [] ≡ said (applied d (allTables (now (left .entry)) (now (right .entry)) (now (public .entry)))
-        (now (gates .entry)) run (now (bytes .entry)) (now (wires .entry)) (stateWires (d .n) + 1) .outcome) [] ⌝ }
+        ⌜ codeOf (r .outcome) ∷ [] ≡ said (applied d (lentTables left right public) (now (gates .entry)) run (now (bytes .entry))
+        (now (wires .entry)) (stateWires (d .n) + 1) .outcome) [] ⌝ }
 {
     match wires::pack(d, left, right, public, run, bytes) {
         Outcome::Refused(refusal) => return turned_back(run, refusal),
@@ -195,17 +189,13 @@ fn repeat_circuit(
     requires { ⌜ outcome (tableChecks d (allTables (now left) (now right) (now public))) ≡ Taken ⌝ }
     requires { ⌜ (inputWires d ≤ length (now bytes)) × (inputWires d + length (gatesOn d) ≤ length (now wires)) ⌝ }
     requires { ⌜ outcome (stateChecks d run) ≡ Taken ⌝ }
-    ensures { λ r.
-        ⌜ r ≡ repeatedBy run (made d (allTables (now (left .entry)) (now (right .entry)) (now (public .entry))) times (now (bytes .entry))
-        (now (wires .entry)) run) ⌝ }
+    ensures { λ r. ⌜ r ≡ repeatedBy run (made d (lentTables left right public) times (now (bytes .entry)) (now (wires .entry)) run) ⌝ }
     ensures { λ _.
-        ⌜ now (bytes .exit) ≡ bytesLeft d (allTables (now (left .entry)) (now (right .entry)) (now (public .entry)))
-        (now (bytes .entry)) run (made d (allTables (now (left .entry)) (now (right .entry)) (now (public .entry))) times
-        (now (bytes .entry)) (now (wires .entry)) run) ⌝ }
+        ⌜ now (bytes .exit) ≡ bytesLeft d (lentTables left right public) (now (bytes .entry)) run
+        (made d (lentTables left right public) times (now (bytes .entry)) (now (wires .entry)) run) ⌝ }
     ensures { λ _.
-        ⌜ now (wires .exit) ≡ wiresLeft d (allTables (now (left .entry)) (now (right .entry)) (now (public .entry))) (now (bytes .entry))
-        (now (wires .entry)) run (made d (allTables (now (left .entry)) (now (right .entry)) (now (public .entry))) times
-        (now (bytes .entry)) (now (wires .entry)) run) ⌝ }
+        ⌜ now (wires .exit) ≡ wiresLeft d (lentTables left right public) (now (bytes .entry)) (now (wires .entry)) run
+        (made d (lentTables left right public) times (now (bytes .entry)) (now (wires .entry)) run) ⌝ }
 {
     let mut last = run;
     let mut repeats = 0;
@@ -236,21 +226,19 @@ pub fn repeat(
     run: Run,
 ) -> Repeated
     ensures { λ r.
-        ⌜ r ≡ repeated d (allTables (now (left .entry)) (now (right .entry)) (now (public .entry))) times (now (gates .entry))
-        (now (bytes .entry)) (now (wires .entry)) run ⌝ }
+        ⌜ r ≡ repeated d (lentTables left right public) times (now (gates .entry)) (now (bytes .entry)) (now (wires .entry)) run ⌝ }
     ensures { λ _.
-        ⌜ now (gates .exit) ≡ gatesAfter d (allTables (now (left .entry)) (now (right .entry)) (now (public .entry))) times
-        (now (gates .entry)) (now (bytes .entry)) (now (wires .entry)) run ⌝ }
+        ⌜ now (gates .exit) ≡ gatesAfter d (lentTables left right public) times (now (gates .entry)) (now (bytes .entry))
+        (now (wires .entry)) run ⌝ }
     ensures { λ _.
-        ⌜ now (bytes .exit) ≡ bytesAfter d (allTables (now (left .entry)) (now (right .entry)) (now (public .entry))) times
-        (now (gates .entry)) (now (bytes .entry)) (now (wires .entry)) run ⌝ }
+        ⌜ now (bytes .exit) ≡ bytesAfter d (lentTables left right public) times (now (gates .entry)) (now (bytes .entry))
+        (now (wires .entry)) run ⌝ }
     ensures { λ _.
-        ⌜ now (wires .exit) ≡ Repeating.wiresAfter d (allTables (now (left .entry)) (now (right .entry)) (now (public .entry))) times
-        (now (gates .entry)) (now (bytes .entry)) (now (wires .entry)) run ⌝ }
+        ⌜ now (wires .exit) ≡ Repeating.wiresAfter d (lentTables left right public) times (now (gates .entry)) (now (bytes .entry))
+        (now (wires .entry)) run ⌝ }
     ensures { λ r.
-        ⌜ codeOf (r .outcome) ∷ []
-        ≡ said (outcome (repeatChecks d (allTables (now (left .entry)) (now (right .entry)) (now (public .entry)))
-        (length (now (gates .entry))) (length (now (bytes .entry))) (length (now (wires .entry))) run)) [] ⌝ }
+        ⌜ codeOf (r .outcome) ∷ [] ≡ said (outcome (repeatChecks d (lentTables left right public) (length (now (gates .entry)))
+        (length (now (bytes .entry))) (length (now (wires .entry))) run)) [] ⌝ }
 {
     let lent = gates.len();
     match check(d, left, right, public, lent, bytes.len(), wires.len(), run) {

@@ -7,7 +7,7 @@ ghost use mathlib.Core.Path.{_≡_};
 ghost use mathlib.Core.Bool.{true};
 ghost use Rattle.refusals.specs.Checks.{outcome};
 ghost use Rattle.refusals.specs.declared.Outcome.the-variants.{Taken};
-ghost use Rattle.tables.specs.Tables.{allTables};
+ghost use Rattle.tables.specs.Tables.{allTables, lentTables};
 ghost use Rattle.tables.specs.Acceptance.{tableChecks};
 ghost use Rattle.tables.specs.Rows.{rowsOf};
 ghost use Rattle.state.specs.State.{stateOf, runOf};
@@ -18,7 +18,7 @@ ghost use Rattle.state.specs.WellFormed.{wellFormed};
 // The rule that applies to accepted tables at T and F.
 fn rule(d: Dimensions, left: &[u32], right: &[u32], public: &[u32], t: u32, f: u32) -> Rule
     requires { ⌜ outcome (tableChecks d (allTables (now left) (now right) (now public))) ≡ Taken ⌝ }
-    ensures { λ r. ⌜ r ≡ Rules.rule (d .n) (rowsOf d (allTables (now (left .entry)) (now (right .entry)) (now (public .entry)))) t f ⌝ }
+    ensures { λ r. ⌜ r ≡ Rules.rule (d .n) (rowsOf d (lentTables left right public)) t f ⌝ }
 {
     let left_words = 2 * (d.left as usize);
     let right_words = 2 * (d.right as usize);
@@ -43,9 +43,7 @@ pub(crate) fn giant_step(
     requires { ⌜ outcome (tableChecks d (allTables (now left) (now right) (now public))) ≡ Taken ⌝ }
     requires { ⌜ wellFormed run ≡ true ⌝ }
     requires { ⌜ run .n ≡ d .n ⌝ }
-    ensures { λ r.
-        ⌜ r ≡ runOf (d .n) (Step.step (d .n)
-        (rowsOf d (allTables (now (left .entry)) (now (right .entry)) (now (public .entry)))) (stateOf run)) ⌝ }
+    ensures { λ r. ⌜ r ≡ runOf (d .n) (Step.step (d .n) (rowsOf d (lentTables left right public)) (stateOf run)) ⌝ }
 {
     let standing = run.standing;
     match standing {

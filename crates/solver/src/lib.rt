@@ -11,7 +11,7 @@ ghost use mathlib.Core.List.{_∷_, _++_, []};
 ghost use Rattle.refusals.specs.Checks.{outcome};
 ghost use Rattle.refusals.specs.Numbers.{said, codeOf};
 ghost use Rattle.refusals.specs.declared.Outcome.the-variants.{Taken};
-ghost use Rattle.tables.specs.Tables.{allTables};
+ghost use Rattle.tables.specs.Tables.{allTables, lentTables};
 ghost use Rattle.tables.specs.Acceptance.{tableChecks};
 ghost use Rattle.tables.specs.Rows.{rowsOf};
 ghost use Rattle.state.specs.WellFormed.{stateChecks};
@@ -38,12 +38,8 @@ pub enum Solved {
 
 // Whether the tables are accepted and the run is a well-formed state of their n: 1, 2, 4, 3, 12 or 13 if not.
 pub fn check_all(d: Dimensions, left: &[u32], right: &[u32], public: &[u32], run: Run) -> Outcome
-    ensures { λ r.
-        ⌜ r ≡ outcome (tableChecks d (allTables (now (left .entry)) (now (right .entry)) (now (public .entry))) ++ stateChecks d run) ⌝ }
-    ensures { λ r.
-        ⌜ codeOf r ∷ []
-        ≡ said (outcome (tableChecks d (allTables (now (left .entry)) (now (right .entry)) (now (public .entry)))
-        ++ stateChecks d run)) [] ⌝ }
+    ensures { λ r. ⌜ r ≡ outcome (tableChecks d (lentTables left right public) ++ stateChecks d run) ⌝ }
+    ensures { λ r. ⌜ codeOf r ∷ [] ≡ said (outcome (tableChecks d (lentTables left right public) ++ stateChecks d run)) [] ⌝ }
 {
     let checked = tables::accept(d, left, right, public);
     match checked {
@@ -54,11 +50,8 @@ pub fn check_all(d: Dimensions, left: &[u32], right: &[u32], public: &[u32], run
 
 // The run after one giant step; as it was where the call is turned back.
 pub fn step(d: Dimensions, left: &[u32], right: &[u32], public: &[u32], run: Run) -> Stepped
-    ensures { λ r. ⌜ r ≡ stepped d (allTables (now (left .entry)) (now (right .entry)) (now (public .entry))) run ⌝ }
-    ensures { λ r.
-        ⌜ codeOf (r .outcome) ∷ []
-        ≡ said (outcome (tableChecks d (allTables (now (left .entry)) (now (right .entry)) (now (public .entry)))
-        ++ stateChecks d run)) [] ⌝ }
+    ensures { λ r. ⌜ r ≡ stepped d (lentTables left right public) run ⌝ }
+    ensures { λ r. ⌜ codeOf (r .outcome) ∷ [] ≡ said (outcome (tableChecks d (lentTables left right public) ++ stateChecks d run)) [] ⌝ }
 {
     let outcome = check_all(d, left, right, public, run);
     match outcome {
@@ -78,14 +71,10 @@ pub fn step_in_place(
     public: &[u32],
     run: &mut Run,
 ) -> Outcome
+    ensures { λ r. ⌜ r ≡ stepped d (lentTables left right public) (now (run .entry)) .outcome ⌝ }
+    ensures { λ _. ⌜ now (run .exit) ≡ stepped d (lentTables left right public) (now (run .entry)) .run ⌝ }
     ensures { λ r.
-        ⌜ r ≡ stepped d (allTables (now (left .entry)) (now (right .entry)) (now (public .entry))) (now (run .entry)) .outcome ⌝ }
-    ensures { λ _.
-        ⌜ now (run .exit) ≡ stepped d (allTables (now (left .entry)) (now (right .entry)) (now (public .entry))) (now (run .entry)) .run ⌝ }
-    ensures { λ r.
-        ⌜ codeOf r ∷ []
-        ≡ said (outcome (tableChecks d (allTables (now (left .entry)) (now (right .entry)) (now (public .entry)))
-        ++ stateChecks d (now (run .entry)))) [] ⌝ }
+        ⌜ codeOf r ∷ [] ≡ said (outcome (tableChecks d (lentTables left right public) ++ stateChecks d (now (run .entry)))) [] ⌝ }
 {
     let next = step(d, left, right, public, *run);
     *run = next.run;
@@ -94,11 +83,8 @@ pub fn step_in_place(
 
 // One giant step of a run that is kept elsewhere, as in a host's words: it is lent to `step_in_place`, and comes back with the outcome.
 pub fn step_lent(d: Dimensions, left: &[u32], right: &[u32], public: &[u32], run: Run) -> Stepped
-    ensures { λ r. ⌜ r ≡ stepped d (allTables (now (left .entry)) (now (right .entry)) (now (public .entry))) run ⌝ }
-    ensures { λ r.
-        ⌜ codeOf (r .outcome) ∷ []
-        ≡ said (outcome (tableChecks d (allTables (now (left .entry)) (now (right .entry)) (now (public .entry)))
-        ++ stateChecks d run)) [] ⌝ }
+    ensures { λ r. ⌜ r ≡ stepped d (lentTables left right public) run ⌝ }
+    ensures { λ r. ⌜ codeOf (r .outcome) ∷ [] ≡ said (outcome (tableChecks d (lentTables left right public) ++ stateChecks d run)) [] ⌝ }
 {
     let mut next = run;
     let outcome = step_in_place(d, left, right, public, &mut next);
@@ -108,8 +94,7 @@ pub fn step_lent(d: Dimensions, left: &[u32], right: &[u32], public: &[u32], run
 // The answer of a fresh run over accepted tables.
 fn run_to_close(d: Dimensions, left: &[u32], right: &[u32], public: &[u32], budget: u64) -> Answer
     requires { ⌜ outcome (tableChecks d (allTables (now left) (now right) (now public))) ≡ Taken ⌝ }
-    ensures { λ r.
-        ⌜ r ≡ answerOf (d .n) (always (rowsOf d (allTables (now (left .entry)) (now (right .entry)) (now (public .entry))))) budget ⌝ }
+    ensures { λ r. ⌜ r ≡ answerOf (d .n) (always (rowsOf d (lentTables left right public))) budget ⌝ }
 {
     let mut run = Run::fresh(d.n);
     let mut count = 0;
@@ -125,12 +110,10 @@ fn run_to_close(d: Dimensions, left: &[u32], right: &[u32], public: &[u32], budg
 
 // The answer of a fresh run that stops when it is closed or the budget is spent; 1, 2, 4 or 3 if the tables are not accepted.
 pub fn solve(d: Dimensions, left: &[u32], right: &[u32], public: &[u32], budget: u64) -> Solved
-    ensures { λ r. ⌜ r ≡ solved d (allTables (now (left .entry)) (now (right .entry)) (now (public .entry))) budget ⌝ }
+    ensures { λ r. ⌜ r ≡ solved d (lentTables left right public) budget ⌝ }
     ensures { λ r.
-        ⌜ solvedCode r ∷ solvedNumbers r
-        ≡ said (outcome (tableChecks d (allTables (now (left .entry)) (now (right .entry)) (now (public .entry)))))
-        (answerNumbers (answerOf (d .n)
-        (always (rowsOf d (allTables (now (left .entry)) (now (right .entry)) (now (public .entry))))) budget)) ⌝ }
+        ⌜ solvedCode r ∷ solvedNumbers r ≡ said (outcome (tableChecks d (lentTables left right public)))
+        (answerNumbers (answerOf (d .n) (always (rowsOf d (lentTables left right public))) budget)) ⌝ }
 {
     let checked = tables::accept(d, left, right, public);
     match checked {

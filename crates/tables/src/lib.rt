@@ -5,11 +5,12 @@ use refusals::Refusal;
 use words::Row;
 ghost use mathlib.Core.Path.{_≡_};
 ghost use mathlib.Core.List.{[], _∷_};
+ghost use lib.ListN.{getD};
 ghost use Rattle.words.specs.Sets.{bit};
 ghost use Rattle.refusals.specs.Checks.{outcome};
 ghost use Rattle.refusals.specs.Numbers.{codeOf, said};
-ghost use Rattle.tables.specs.Tables.{allTables};
-ghost use Rattle.tables.specs.Rows.{lowestOr, judged};
+ghost use Rattle.tables.specs.Tables.{lentTables};
+ghost use Rattle.tables.specs.Rows.{rowAt, lowestOr, judged};
 ghost use Rattle.tables.specs.Acceptance.{tableChecks, allBelow};
 
 // The variable of a row to look at, counted from 0 as bits are, or none.
@@ -57,6 +58,29 @@ pub fn judge(row: Row, t: u32, f: u32) -> Judged
     }
 }
 
+// The word at a place; 0 past the end.
+fn word_at(words: &[u32], at: usize) -> u32
+    ensures { λ r. ⌜ r ≡ getD (now (words .entry)) at 0 ⌝ }
+{
+    if at < words.len() { words[at] } else { 0 }
+}
+
+// Row i from 0 of a table's words. Words past the end count as 0.
+pub fn row_at(words: &[u32], i: usize) -> Row
+    ensures { λ r. ⌜ r ≡ rowAt (now (words .entry)) i ⌝ }
+{
+    if words.len() / 2 < i {
+        return Row {
+            positive: 0,
+            negative: 0,
+        };
+    }
+    Row {
+        positive: word_at(words, 2 * i),
+        negative: word_at(words, 2 * i + 1),
+    }
+}
+
 // Whether no word has a bit at or above n.
 pub fn all_below(words: &[u32], n: u32) -> bool
     ensures { λ r. ⌜ r ≡ allBelow n (now (words .entry)) ⌝ }
@@ -73,9 +97,8 @@ pub fn all_below(words: &[u32], n: u32) -> bool
 
 // Whether the three tables are accepted: 1, 2, 4 or 3 if not.
 pub fn accept(d: Dimensions, left: &[u32], right: &[u32], public: &[u32]) -> Outcome
-    ensures { λ r. ⌜ r ≡ outcome (tableChecks d (allTables (now (left .entry)) (now (right .entry)) (now (public .entry)))) ⌝ }
-    ensures { λ r.
-        ⌜ codeOf r ∷ [] ≡ said (outcome (tableChecks d (allTables (now (left .entry)) (now (right .entry)) (now (public .entry))))) [] ⌝ }
+    ensures { λ r. ⌜ r ≡ outcome (tableChecks d (lentTables left right public)) ⌝ }
+    ensures { λ r. ⌜ codeOf r ∷ [] ≡ said (outcome (tableChecks d (lentTables left right public))) [] ⌝ }
 {
     match d.check() {
         Outcome::Taken => {}

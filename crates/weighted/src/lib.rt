@@ -17,7 +17,7 @@ ghost use mathlib.Core.List.{[], _∷_, _++_};
 ghost use Rattle.refusals.specs.Checks.{outcome};
 ghost use Rattle.refusals.specs.Numbers.{said, codeOf};
 ghost use Rattle.refusals.specs.declared.Outcome.the-variants.{Taken};
-ghost use Rattle.tables.specs.Tables.{allTables};
+ghost use Rattle.tables.specs.Tables.{allTables, lentTables};
 ghost use Rattle.tables.specs.Acceptance.{tableChecks};
 ghost use Rattle.tables.specs.Rows.{rowsOf};
 ghost use Rattle.state.specs.State.{stateOf, runOf};
@@ -32,9 +32,7 @@ fn advance(d: Dimensions, left: &[u32], right: &[u32], public: &[u32], run: Run)
     requires { ⌜ outcome (tableChecks d (allTables (now left) (now right) (now public))) ≡ Taken ⌝ }
     requires { ⌜ wellFormed run ≡ true ⌝ }
     requires { ⌜ run .n ≡ d .n ⌝ }
-    ensures { λ r.
-        ⌜ r ≡ runOf (d .n) (stepWith weightedRule (d .n)
-        (rowsOf d (allTables (now (left .entry)) (now (right .entry)) (now (public .entry)))) (stateOf run)) ⌝ }
+    ensures { λ r. ⌜ r ≡ runOf (d .n) (stepWith weightedRule (d .n) (rowsOf d (lentTables left right public)) (stateOf run)) ⌝ }
 {
     let standing = run.standing;
     match standing {
@@ -63,11 +61,8 @@ pub fn step_weighted(
     public: &[u32],
     run: Run,
 ) -> Stepped
-    ensures { λ r. ⌜ r ≡ steppedWith weightedRule d (allTables (now (left .entry)) (now (right .entry)) (now (public .entry))) run ⌝ }
-    ensures { λ r.
-        ⌜ codeOf (r .outcome) ∷ []
-        ≡ said (outcome (tableChecks d (allTables (now (left .entry)) (now (right .entry)) (now (public .entry)))
-        ++ stateChecks d run)) [] ⌝ }
+    ensures { λ r. ⌜ r ≡ steppedWith weightedRule d (lentTables left right public) run ⌝ }
+    ensures { λ r. ⌜ codeOf (r .outcome) ∷ [] ≡ said (outcome (tableChecks d (lentTables left right public) ++ stateChecks d run)) [] ⌝ }
 {
     let outcome = solver::check_all(d, left, right, public, run);
     match outcome {
@@ -93,8 +88,7 @@ fn run_accepted(
     requires { ⌜ wellFormed run ≡ true ⌝ }
     requires { ⌜ run .n ≡ d .n ⌝ }
     ensures { λ r.
-        ⌜ r ≡ continuedBy (d .n) (runWith weightedRule (d .n)
-        (always (rowsOf d (allTables (now (left .entry)) (now (right .entry)) (now (public .entry))))) times (stateOf run)) ⌝ }
+        ⌜ r ≡ continuedBy (d .n) (runWith weightedRule (d .n) (always (rowsOf d (lentTables left right public))) times (stateOf run)) ⌝ }
 {
     let words = occurrences::row_words(d, left, right, public);
     let mut index = [0u64; 384];
@@ -112,13 +106,10 @@ pub fn continue_weighted(
     times: u64,
     run: Run,
 ) -> Continued
+    ensures { λ r. ⌜ r ≡ continuedWith weightedRule d (lentTables left right public) times run ⌝ }
     ensures { λ r.
-        ⌜ r ≡ continuedWith weightedRule d (allTables (now (left .entry)) (now (right .entry)) (now (public .entry))) times run ⌝ }
-    ensures { λ r.
-        ⌜ continuedCode r ∷ continuedNumbers r
-        ≡ said (outcome (tableChecks d (allTables (now (left .entry)) (now (right .entry)) (now (public .entry))) ++ stateChecks d run))
-        (ranNumbers (runWith weightedRule (d .n)
-        (always (rowsOf d (allTables (now (left .entry)) (now (right .entry)) (now (public .entry))))) times (stateOf run))) ⌝ }
+        ⌜ continuedCode r ∷ continuedNumbers r ≡ said (outcome (tableChecks d (lentTables left right public) ++ stateChecks d run))
+        (ranNumbers (runWith weightedRule (d .n) (always (rowsOf d (lentTables left right public))) times (stateOf run))) ⌝ }
 {
     let outcome = solver::check_all(d, left, right, public, run);
     match outcome {
@@ -135,9 +126,7 @@ pub fn continue_weighted(
 // The answer of a fresh run over accepted tables.
 fn run_fresh(d: Dimensions, left: &[u32], right: &[u32], public: &[u32], budget: u64) -> Answer
     requires { ⌜ outcome (tableChecks d (allTables (now left) (now right) (now public))) ≡ Taken ⌝ }
-    ensures { λ r.
-        ⌜ r ≡ answerWith weightedRule (d .n)
-        (always (rowsOf d (allTables (now (left .entry)) (now (right .entry)) (now (public .entry))))) budget ⌝ }
+    ensures { λ r. ⌜ r ≡ answerWith weightedRule (d .n) (always (rowsOf d (lentTables left right public))) budget ⌝ }
 {
     let reached = run_accepted(d, left, right, public, budget, Run::fresh(d.n));
     Answer {
@@ -155,12 +144,10 @@ pub fn solve_weighted(
     public: &[u32],
     budget: u64,
 ) -> Solved
-    ensures { λ r. ⌜ r ≡ solvedWith weightedRule d (allTables (now (left .entry)) (now (right .entry)) (now (public .entry))) budget ⌝ }
+    ensures { λ r. ⌜ r ≡ solvedWith weightedRule d (lentTables left right public) budget ⌝ }
     ensures { λ r.
-        ⌜ solvedCode r ∷ solvedNumbers r
-        ≡ said (outcome (tableChecks d (allTables (now (left .entry)) (now (right .entry)) (now (public .entry)))))
-        (answerNumbers (answerWith weightedRule (d .n)
-        (always (rowsOf d (allTables (now (left .entry)) (now (right .entry)) (now (public .entry))))) budget)) ⌝ }
+        ⌜ solvedCode r ∷ solvedNumbers r ≡ said (outcome (tableChecks d (lentTables left right public)))
+        (answerNumbers (answerWith weightedRule (d .n) (always (rowsOf d (lentTables left right public))) budget)) ⌝ }
 {
     let checked = tables::accept(d, left, right, public);
     match checked {

@@ -14,7 +14,7 @@ ghost use Rattle.refusals.specs.Checks.{outcome};
 ghost use Rattle.refusals.specs.Numbers.{said};
 ghost use Rattle.refusals.specs.declared.Outcome.the-variants.{Taken};
 ghost use Rattle.dimensions.specs.Sizes.{inputWires};
-ghost use Rattle.tables.specs.Tables.{allTables};
+ghost use Rattle.tables.specs.Tables.{allTables, lentTables};
 ghost use Rattle.tables.specs.Acceptance.{tableChecks};
 ghost use Rattle.state.specs.State.{fresh, runOf};
 ghost use Rattle.solver.specs.Entries.{answerNumbers, solvedCode, solvedNumbers};
@@ -38,9 +38,7 @@ fn check(
     bytes: usize,
     wires: usize,
 ) -> Outcome
-    ensures { λ r.
-        ⌜ r ≡ outcome (wholeChecks d (allTables (now (left .entry)) (now (right .entry)) (now (public .entry)))
-        budget gates bytes wires) ⌝ }
+    ensures { λ r. ⌜ r ≡ outcome (wholeChecks d (lentTables left right public) budget gates bytes wires) ⌝ }
 {
     match repeats::check_words(d, left, right, public, gates) {
         Outcome::Taken => {}
@@ -67,9 +65,7 @@ fn apply_through(
     requires { ⌜ now gates ≡ circuitWords d ⌝ }
     requires { ⌜ outcome (tableChecks d (allTables (now left) (now right) (now public))) ≡ Taken ⌝ }
     requires { ⌜ (inputWires d ≤ length (now bytes)) × (inputWires d + length (gatesOn d) ≤ length (now wires)) ⌝ }
-    ensures { λ r.
-        ⌜ r ≡ lastOf (runOf (d .n) fresh) (wholeRuns d (allTables (now (left .entry)) (now (right .entry)) (now (public .entry))) budget
-        (replicate budget (enough d))) ⌝ }
+    ensures { λ r. ⌜ r ≡ lastOf (runOf (d .n) fresh) (wholeRuns d (lentTables left right public) budget (replicate budget (enough d))) ⌝ }
     ensures { λ _. ⌜ drop (inputWires d) (now (bytes .exit)) ≡ drop (inputWires d) (now (bytes .entry)) ⌝ }
     ensures { λ _.
         ⌜ drop (inputWires d + length (gatesOn d)) (now (wires .exit)) ≡ drop (inputWires d + length (gatesOn d)) (now (wires .entry)) ⌝ }
@@ -110,22 +106,20 @@ pub fn solve_whole(
     wires: &mut [u8],
 ) -> Solved
     ensures { λ r.
-        ⌜ r ≡ solvedWhole d (allTables (now (left .entry)) (now (right .entry)) (now (public .entry))) budget (now (gates .entry))
-        (now (bytes .entry)) (now (wires .entry)) ⌝ }
+        ⌜ r ≡ solvedWhole d (lentTables left right public) budget (now (gates .entry)) (now (bytes .entry)) (now (wires .entry)) ⌝ }
     ensures { λ _.
-        ⌜ now (gates .exit) ≡ gatesAfterWhole d (allTables (now (left .entry)) (now (right .entry)) (now (public .entry))) budget
-        (now (gates .entry)) (now (bytes .entry)) (now (wires .entry)) ⌝ }
+        ⌜ now (gates .exit) ≡ gatesAfterWhole d (lentTables left right public) budget (now (gates .entry)) (now (bytes .entry))
+        (now (wires .entry)) ⌝ }
     ensures { λ _.
-        ⌜ now (bytes .exit) ≡ bytesAfterWhole d (allTables (now (left .entry)) (now (right .entry)) (now (public .entry))) budget
-        (now (gates .entry)) (now (bytes .entry)) (now (wires .entry)) ⌝ }
+        ⌜ now (bytes .exit) ≡ bytesAfterWhole d (lentTables left right public) budget (now (gates .entry)) (now (bytes .entry))
+        (now (wires .entry)) ⌝ }
     ensures { λ _.
-        ⌜ now (wires .exit) ≡ wiresAfterWhole d (allTables (now (left .entry)) (now (right .entry)) (now (public .entry))) budget
-        (now (gates .entry)) (now (bytes .entry)) (now (wires .entry)) ⌝ }
+        ⌜ now (wires .exit) ≡ wiresAfterWhole d (lentTables left right public) budget (now (gates .entry)) (now (bytes .entry))
+        (now (wires .entry)) ⌝ }
     ensures { λ r.
-        ⌜ solvedCode r ∷ solvedNumbers r
-        ≡ said (outcome (wholeChecks d (allTables (now (left .entry)) (now (right .entry)) (now (public .entry))) budget
-        (length (now (gates .entry))) (length (now (bytes .entry))) (length (now (wires .entry)))))
-        (answerNumbers (wholeAnswer d (allTables (now (left .entry)) (now (right .entry)) (now (public .entry))) budget)) ⌝ }
+        ⌜ solvedCode r ∷ solvedNumbers r ≡ said (outcome (wholeChecks d (lentTables left right public) budget (length (now (gates .entry)))
+        (length (now (bytes .entry))) (length (now (wires .entry))))) (answerNumbers (wholeAnswer d (lentTables left right public) budget))
+        ⌝ }
 {
     let lent = gates.len();
     match check(

@@ -11,7 +11,7 @@ ghost use mathlib.Core.Path.{_≡_};
 ghost use Prim.Native.Nat.{_≤_};
 ghost use Rattle.refusals.specs.Checks.{outcome, given};
 ghost use Rattle.refusals.specs.declared.Outcome.the-variants.{Taken};
-ghost use Rattle.tables.specs.Tables.{allTables};
+ghost use Rattle.tables.specs.Tables.{allTables, lentTables};
 ghost use Rattle.tables.specs.Acceptance.{tableChecks};
 ghost use Rattle.solver.specs.declared.Solved.the-variants.{Of, Refused};
 ghost use Rattle.text.specs.Texts.{textOf};
@@ -32,9 +32,7 @@ const WIRES: usize = 5716;
 fn go_through(d: Dimensions, left: &[u32], right: &[u32], public: &[u32], budget: u64) -> Solved
     requires { ⌜ outcome (tableChecks d (allTables (now left) (now right) (now public))) ≡ Taken ⌝ }
     requires { ⌜ budget ≤ 65535 ⌝ }
-    ensures { λ r.
-        ⌜ r ≡ given (outcome (ceilingChecks d))
-        (Of (wholeAnswer d (allTables (now (left .entry)) (now (right .entry)) (now (public .entry))) budget)) Refused ⌝ }
+    ensures { λ r. ⌜ r ≡ given (outcome (ceilingChecks d)) (Of (wholeAnswer d (lentTables left right public) budget)) Refused ⌝ }
 {
     let mut gates = [0u32; WORDS];
     let mut bytes = [0u8; INPUTS];

@@ -10,7 +10,7 @@ ghost use mathlib.Core.List.{[], _∷_};
 ghost use lib.ListN.{length};
 ghost use Rattle.refusals.specs.Checks.{outcome};
 ghost use Rattle.refusals.specs.Numbers.{codeOf, said};
-ghost use Rattle.tables.specs.Tables.{allTables};
+ghost use Rattle.tables.specs.Tables.{lentTables};
 ghost use Rattle.wires.specs.Packing.{packChecks, packed};
 ghost use Rattle.wires.specs.StatePacking.{packable, packedState};
 
@@ -23,10 +23,8 @@ pub fn check(
     run: Run,
     room: usize,
 ) -> Outcome
-    ensures { λ r. ⌜ r ≡ outcome (packChecks d (allTables (now (left .entry)) (now (right .entry)) (now (public .entry))) run room) ⌝ }
-    ensures { λ r.
-        ⌜ codeOf r ∷ []
-        ≡ said (outcome (packChecks d (allTables (now (left .entry)) (now (right .entry)) (now (public .entry))) run room)) [] ⌝ }
+    ensures { λ r. ⌜ r ≡ outcome (packChecks d (lentTables left right public) run room) ⌝ }
+    ensures { λ r. ⌜ codeOf r ∷ [] ≡ said (outcome (packChecks d (lentTables left right public) run room)) [] ⌝ }
 {
     match tables::accept(d, left, right, public) {
         Outcome::Taken => {}
@@ -47,16 +45,9 @@ pub fn pack(
     run: Run,
     bytes: &mut [u8],
 ) -> Outcome
-    ensures { λ r.
-        ⌜ r ≡ outcome (packChecks d (allTables (now (left .entry)) (now (right .entry)) (now (public .entry))) run
-        (length (now (bytes .entry)))) ⌝ }
-    ensures { λ _.
-        ⌜ now (bytes .exit) ≡ packed d (allTables (now (left .entry)) (now (right .entry)) (now (public .entry)))
-        run (now (bytes .entry)) ⌝ }
-    ensures { λ r.
-        ⌜ codeOf r ∷ []
-        ≡ said (outcome (packChecks d (allTables (now (left .entry)) (now (right .entry)) (now (public .entry))) run
-        (length (now (bytes .entry))))) [] ⌝ }
+    ensures { λ r. ⌜ r ≡ outcome (packChecks d (lentTables left right public) run (length (now (bytes .entry)))) ⌝ }
+    ensures { λ _. ⌜ now (bytes .exit) ≡ packed d (lentTables left right public) run (now (bytes .entry)) ⌝ }
+    ensures { λ r. ⌜ codeOf r ∷ [] ≡ said (outcome (packChecks d (lentTables left right public) run (length (now (bytes .entry))))) [] ⌝ }
 {
     match check(d, left, right, public, run, bytes.len()) {
         Outcome::Taken => {}
