@@ -61,13 +61,15 @@ target/lib/libforkhemit.a: crates.txt $(shell find crates -name '*.rt' -o -name 
 
 PREFIX ?= /usr/local
 LIBDIR ?= $(PREFIX)/lib
-# The version stands in the header alone. The soname has its first two numbers: with another second one functions may have changed.
+# The version is in the header alone. The soname has its first number: while that stays, hosts that were linked before run as they are.
 VERSION := $(shell sed -n 's/^#define FORKHEMIT_VERSION_[A-Z]* //p' include/forkhemit.h | paste -sd.)
-SONAME := libforkhemit.so.$(basename $(VERSION))
+SONAME := libforkhemit.so.$(firstword $(subst ., ,$(VERSION)))
 MAN := $(DESTDIR)$(PREFIX)/share/man/man1
 DOC := $(DESTDIR)$(PREFIX)/share/doc/forkhemit
 LIB := $(DESTDIR)$(LIBDIR)
 PYTHON := $(DESTDIR)$(PREFIX)/share/forkhemit/python
+# the index of the guide and its pages
+GUIDE := docs/GUIDE.md docs/PLANNERS.md docs/HOSTS.md docs/BACKENDS.md
 FILLED := sed -e 's|@VERSION@|$(VERSION)|' -e 's|@PREFIX@|$(PREFIX)|' -e 's|@LIBDIR@|$(LIBDIR)|'
 
 # The archive's code is position independent (`text`) and asks for nothing that C's library has not (`defs`). Without C's start files nothing
@@ -94,7 +96,7 @@ install: absolute all
 	ln -sf $(SONAME) $(LIB)/libforkhemit.so
 	$(FILLED) forkhemit.pc.in | install -m 644 /dev/stdin $(LIB)/pkgconfig/forkhemit.pc
 	install -m 644 python/forkhemit.py $(PYTHON)
-	install -m 644 LICENSE CHANGES.md docs/GUIDE.md $(DOC)
+	install -m 644 LICENSE CHANGES.md $(GUIDE) $(DOC)
 	find examples -type f -exec install -D -m 644 {} $(DOC)/{} \;
 	@echo 'installed. Before a host over the shared library runs: ldconfig, or LD_LIBRARY_PATH=$(LIBDIR). For Python: PYTHONPATH=$(PREFIX)/share/forkhemit/python'
 

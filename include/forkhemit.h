@@ -38,10 +38,10 @@
 
 /* The version, as CHANGES.md numbers it. While the first number is 0, parameters and buffers may change with the second: read there what
  * did, and compile the host again. With the third they never change. The shared library's soname has the first two. */
-#define FORKHEMIT_VERSION_MAJOR 0
-#define FORKHEMIT_VERSION_MINOR 14
-#define FORKHEMIT_VERSION_PATCH 1
-/* The same as one number that grows, for #if: 0.14.1 is 1401. */
+#define FORKHEMIT_VERSION_MAJOR 1
+#define FORKHEMIT_VERSION_MINOR 0
+#define FORKHEMIT_VERSION_PATCH 0
+/* The same as one number that grows, for #if: 1.0.0 is 10000. */
 #define FORKHEMIT_VERSION (FORKHEMIT_VERSION_MAJOR * 10000 + FORKHEMIT_VERSION_MINOR * 100 + FORKHEMIT_VERSION_PATCH)
 
 /* The most bytes that a DIMACS text may have, remarks included, and that a proof may have: one byte more of a file is all that a host need

@@ -19,7 +19,7 @@ import os
 from collections import namedtuple
 
 # The version of the library that the functions below are written for, as the header numbers it. With another second number they may differ.
-VERSION = 1401
+VERSION = 10000
 
 TEXT_BYTES = 65536
 TABLE_WORDS = 256

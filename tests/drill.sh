@@ -80,12 +80,12 @@ for size in '1 1 1 0' '2 3 1 2' '4 5 5 2' '7 1 1 0'; do
     trial "the circuit text of $size" same
 done
 
-# what the guide says of the example's circuit, line by line
+# what docs/BACKENDS.md says of the example's circuit, line by line
 surveyed() {
     "$backend" circuit 12 10 2 12 >"$room/circuit.txt" && python3 examples/backend/survey.py "$room/circuit.txt" >"$room/survey" && [ -s "$room/survey" ] &&
-        while read -r line; do grep -qxF "    $line" docs/GUIDE.md || { echo "not in the guide: $line" && return 1; }; done <"$room/survey"
+        while read -r line; do grep -qxF "    $line" docs/BACKENDS.md || { echo "not on the page: $line" && return 1; }; done <"$room/survey"
 }
-trial 'the guide counts its gates' surveyed
+trial 'docs/BACKENDS.md counts its gates' surveyed
 # three AND gates a row with a constant operand, and b + 3 more for an odd number of rows, b being the number of binary digits of n - 1
 for size in '1 1 1 0 6' '1 1 1 1 12' '3 2 2 1 20' '4 5 5 2 36' '7 3 3 3 33' '20 40 40 11 281'; do
     # shellcheck disable=SC2086

@@ -115,8 +115,8 @@ EOF
 trial 'a program that prints the version is built' cc "${strict[@]}" -o "$room/version" "$room/version.c" "${linked[@]}"
 trial "$version in CHANGES.md, in the header and in the library" prints "$version" "$room/version"
 trial 'in the pkg-config file' prints "$version" pkg-config --modversion forkhemit
-trial 'in the soname' prints "libforkhemit.so.${version%.*}" soname "$library.so"
-trial "in the shared library's name" cmp "$library.so.${version%.*}" "$library.so.$version"
+trial 'its first number in the soname' prints "libforkhemit.so.${version%%.*}" soname "$library.so"
+trial "in the shared library's name" cmp "$library.so.${version%%.*}" "$library.so.$version"
 for program in forkhemit-pair forkhemit-circuit forkhemit-whole forkhemit-plan; do
     page=$prefix/share/man/man1/$program.1
     trial "in the page of $program" prints "$version" titled "$page"
@@ -159,7 +159,7 @@ trial "the planner's tool finds the pair program beside it" prints "roster 1: $r
 trial 'the desk tool' prints "roster: $roster" followed
 trial 'and the library' prints 'turns/by-turns.qdimacs: the e side can force a roster, and begins with 1 Ahlgren early on' "${planner[@]}" force turns/by-turns.qdimacs
 trial 'a host in C with the shared library is built' cc -std=c11 "${strict[@]}" -o "$room/shared" $host.c "${linked[@]}"
-trial 'asks for it by its soname' prints "libforkhemit.so.${version%.*}"$'\nlibc.so.6' libraries "$room/shared"
+trial 'asks for it by its soname' prints "libforkhemit.so.${version%%.*}"$'\nlibc.so.6' libraries "$room/shared"
 trial 'and answers' answers "$room/shared" "${texts[@]}"
 trial 'a host in C with the archive is built' cc -std=c11 "${strict[@]}" -static -o "$room/static" $host.c "${linked[@]}"
 trial 'and answers' answers env -u LD_LIBRARY_PATH "$room/static" "${texts[@]}"
