@@ -1,16 +1,16 @@
-"""Forkhemit for Python 3, over the shared library; it needs nothing but Python's own library.
+"""Forkhemit for Python 3, over the shared library. It needs only Python's own library.
 
     import forkhemit
     tables = forkhemit.Tables.of_files("left.cnf", "right.cnf", "public.cnf")
     answer = tables.solve(1000)
     print(answer.steps, answer.verdict, forkhemit.literals(tables.n, answer.model))
 
-Every function of include/forkhemit.h is here under its own name, without `forkhemit_`, and gives what it writes. Where it takes tables it is
-a method of Tables, where it takes a run alone a method of Run. A call that is turned back raises Refused, with the number and its sentence. The
-header says what each function does; here stands what it takes and gives in Python.
+Every function of include/forkhemit.h is here under its own name, without `forkhemit_`, and returns what it writes. A function that takes
+tables is a method of Tables; one that takes only a run is a method of Run. A refused call raises Refused, with the number and its sentence.
+The header says what each function does. The texts here say what it takes and returns in Python.
 
-`make install` puts this file into PREFIX/share/forkhemit/python: set PYTHONPATH to that folder. The shared library is looked for where
-FORKHEMIT_LIBRARY says, then in target/shared of a source tree, in lib beside share, and last where the loader looks.
+`make install` puts this file into PREFIX/share/forkhemit/python: set PYTHONPATH to that folder. The module looks for the shared library where
+FORKHEMIT_LIBRARY says, then in target/shared of a source tree, then in lib next to share, and last where the loader looks.
 """
 
 import ctypes
@@ -18,7 +18,7 @@ import operator
 import os
 from collections import namedtuple
 
-# The version of the library that the functions below are written for, as the header numbers it. With another second number they may differ.
+# The version of the library that the functions below are written for, as the header numbers it. Later ones with the same first number fit.
 VERSION = 10000
 
 TEXT_BYTES = 65536
@@ -123,7 +123,7 @@ Game = namedtuple("Game", "winner variable value")
 
 
 class Refused(Exception):
-    """The library turned a call back: number, and the sentence that says why."""
+    """A refused call: number, and the sentence that says why."""
 
     def __init__(self, number):
         self.number = number
@@ -132,9 +132,9 @@ class Refused(Exception):
 
 
 def _load():
-    """The shared library's functions by name. It must be of the version that this module is for."""
+    """The shared library's functions by name. The library must be of this module's version, or a later one with the same first number."""
     here = os.path.dirname(os.path.abspath(__file__))
-    soname = f"libforkhemit.so.{VERSION // 10000}.{VERSION // 100 % 100}"
+    soname = f"libforkhemit.so.{VERSION // 10000}"
     places = [os.path.join(here, "..", "target", "shared", "libforkhemit.so"), os.path.join(here, "..", "..", "..", "lib", soname)]
     named = os.environ.get("FORKHEMIT_LIBRARY")
     library = ctypes.CDLL(named or next(filter(os.path.exists, places), soname))
@@ -147,13 +147,13 @@ def _load():
         functions[name].argtypes = types
         functions[name].restype = ctypes.c_uint64 if name == "version" else ctypes.c_uint8
     found = functions["version"]()
-    if found // 100 != VERSION // 100:
+    if found // 10000 != VERSION // 10000 or found // 100 < VERSION // 100:
         raise ImportError(f"the library's version is {found}, and this module is for {VERSION}")
     return functions
 
 
 def _array(kind, count, values=()):
-    """Memory to lend: so many elements, the first of them set. Never of no element, so that its address is not null."""
+    """Memory to lend: so many elements, the first of them set. It has at least one element, so that its address is not null."""
     return (_ELEMENTS[kind] * max(count, 1))(*(_number(value, _ELEMENTS[kind]) for value in values))
 
 
@@ -173,8 +173,8 @@ def _number(value, element):
 
 
 def call(name, *arguments):
-    """Calls a function of the header with what PARAMETERS says, and raises Refused where it is turned back. A buffer is memory of the right
-    elements, then its length where that is not all of it as (memory, length)."""
+    """Calls a function of the header with what PARAMETERS says, and raises Refused where the call is refused. A buffer is memory of the right
+    elements, or (memory, length) where only a part of it is lent."""
     kinds, given = PARAMETERS[name].split(), []
     if len(arguments) != len(kinds):
         raise TypeError(f"{name} takes {len(kinds)} arguments, not {len(arguments)}")
@@ -194,7 +194,7 @@ def call(name, *arguments):
 
 
 def words(literals):
-    """A clause's two words, positive and negative, of its literals."""
+    """The two words of a clause, positive and negative, from its literals."""
     row = [0, 0]
     for literal in literals:
         if not 1 <= abs(literal) <= 32:
@@ -209,7 +209,7 @@ def literals(n, model):
 
 
 def text_of(path):
-    """A file's bytes, at most one more than a text may have. One that cannot be read counts as longer than a text may be, which is refused with 5."""
+    """A file's bytes, at most one more than a text may have. A file that cannot be read counts as too long, which is refused with 5."""
     try:
         with open(path, "rb") as file:
             return file.read(TEXT_BYTES + 1)
@@ -218,7 +218,7 @@ def text_of(path):
 
 
 class Run:
-    """A run: its 101 words, which steps change in place. Made fresh for n variables, or of words that were kept."""
+    """A run: its 101 words, which steps change in place. It is made fresh for n variables, or from words that were kept."""
 
     def __init__(self, n, kept=None):
         if kept is not None and len(kept) != RUN_WORDS:
@@ -269,17 +269,17 @@ class Circuit:
         return evaluate(self.gates, inputs)
 
     def next(self, wires):
-        """The next state's bytes and the mark, of all wires."""
+        """The bytes of the next state, and the mark, from all wires."""
         return wires[-self.sizes.state_wires - 1 : -1], wires[-1]
 
     def line(self, number):
-        """The circuit text's line of a number, from 0; empty past the last."""
+        """The line of this number, from 0, of the circuit text; empty past the last."""
         line, length = _array("b", LINE_BYTES), _array("n", 1)
         call("write_line", *self.dimensions, self.gates, number, line, length)
         return bytes(line[: length[0]])
 
     def text(self, room=1 << 20):
-        """The circuit text, in parts of whole lines that fit so many bytes."""
+        """The circuit text, in parts of whole lines that fit into so many bytes."""
         part, written, line = _array("b", room), _array("n", 2), 0
         while True:
             call("write_lines", *self.dimensions, self.gates, line, part, written)
@@ -290,7 +290,7 @@ class Circuit:
 
 
 class Tables:
-    """Both stations' tables and the public one: lists of rows, a row being its two words, positive and negative."""
+    """Both stations' tables and the public one: lists of rows. A row is its two words, positive and negative."""
 
     def __init__(self, n, left, right, public=()):
         self.n, self.left_rows, self.right_rows, self.public_rows = n, len(left), len(right), len(public)
@@ -301,7 +301,7 @@ class Tables:
 
     @classmethod
     def of_clauses(cls, n, left, right, public=()):
-        """Tables of clauses, each a list of literals."""
+        """Tables made of clauses, each a list of literals."""
         return cls(n, *([words(clause) for clause in table] for table in (left, right, public)))
 
     @classmethod
@@ -337,7 +337,7 @@ class Tables:
         return Circuit(*self.dimensions)
 
     def accept(self):
-        """Ends well where the tables are accepted."""
+        """Raises Refused unless the tables are accepted."""
         call("accept", *self._lent)
 
     def fresh(self):
@@ -353,7 +353,7 @@ class Tables:
         call("step_weighted", *self._lent, run.words)
 
     def explain(self, run):
-        """One giant step, in place, and the rule behind it: step_explained."""
+        """One giant step, in place, and its rule: step_explained."""
         explanation = _array("n", 4)
         call("step_explained", *self._lent, run.words, explanation)
         return Explanation(*explanation)
@@ -366,7 +366,7 @@ class Tables:
         return Answer(*answer)
 
     def solve(self, budget):
-        """Steps, verdict and model of a fresh run, by the scan of all rows."""
+        """Steps, verdict and model of a fresh run that reads all rows in each step."""
         return self._solved("solve", budget)
 
     def solve_indexed(self, budget):
@@ -407,7 +407,7 @@ class Tables:
         return number[0]
 
     def step_indexed(self, run, index, number):
-        """One giant step, in place, beside index and number: the number then."""
+        """One giant step, in place, with index and number: the number after it."""
         after = _array("n", 1, [number])
         call("step_indexed", *self._lent, index, run.words, after)
         return after[0]
@@ -419,17 +419,17 @@ class Tables:
         return bytes(counts)
 
     def replace(self, run, station, row, clause):
-        """A clause, a list of literals, in the place of a station's padding row, counted from 1 over all tables."""
+        """Puts a clause, a list of literals, in the place of a station's padding row, counted from 1 over all tables."""
         call("replace", *self._lent, run.words, station, row, *words(clause))
 
     def replace_indexed(self, run, station, row, clause, index, number):
-        """The same beside an index, which is changed in place, and a number: the number then."""
+        """The same with an index, which is changed in place, and a number: the number after it."""
         after = _array("n", 1, [number])
         call("replace_indexed", *self._lent, run.words, station, row, *words(clause), index, after)
         return after[0]
 
     def clause(self, left_text, right_text, row):
-        """Where the clause of a row stands in its station's text."""
+        """Where the clause of a row is in its station's text."""
         place = _array("n", 3)
         call("clause", *self._lent, _bytes(left_text), _bytes(right_text), row, place)
         return Place(*place)
@@ -441,7 +441,7 @@ class Tables:
         return bytes(clause[: length[0]])
 
     def check_proof(self, text):
-        """Ends well where a DRAT text, as bytes, proves that no assignment makes all rows true."""
+        """Raises Refused unless a DRAT text, as bytes, proves that no assignment makes all rows true."""
         call("check_proof", *self._lent, _bytes(text))
 
     def pack(self, run):
@@ -488,7 +488,7 @@ def game(text):
 
 
 def evaluate(gates, inputs):
-    """All wires of gates, memory and its length in words, on inputs, a byte a wire."""
+    """All wires, as bytes. gates is memory and its length in words, inputs has a byte a wire."""
     memory, length = gates
     wires = _array("b", len(inputs) + length // 3)
     call("evaluate", gates, _bytes(inputs), wires)
@@ -517,7 +517,7 @@ def answer(n, steps, verdict, model):
 
 
 def columns(n, table):
-    """A table, a list of rows, in squares of 32 rows by 32 variables: 64 words a square, a word holding a variable over 32 rows."""
+    """A table, a list of rows, in squares of 32 rows by 32 variables: 64 words a square. A word holds a variable over 32 rows."""
     count = 64 * ((len(table) + 31) // 32)
     planes = _array("w", count)
     lent = _array("w", 2 * len(table), [word for row in table for word in row])
@@ -526,7 +526,7 @@ def columns(n, table):
 
 
 def rows(n, count, planes):
-    """So many rows of such squares, a list of words: the inverse of columns."""
+    """So many rows, from such squares as a list of words: the inverse of columns."""
     # No table has more than 128 rows: with more the count is refused, whatever is lent.
     table = _array("w", 2 * min(_number(count, ctypes.c_uint64), 129))
     call("rows", n, count, (_array("w", len(planes), planes), len(planes)), table)
