@@ -54,8 +54,8 @@
 /* The same as one number that grows, for #if: 1.0.0 is 10000. */
 #define FORKHEMIT_VERSION (FORKHEMIT_VERSION_MAJOR * 10000 + FORKHEMIT_VERSION_MINOR * 100 + FORKHEMIT_VERSION_PATCH)
 
-/* The most bytes that a DIMACS text may have, remarks included, and that a proof may have. A host need read no more than one byte more of a
- * file. */
+/* The most bytes that a DIMACS text may have, remarks included, and that a proof may have. A host needs to read at most one byte more than
+ * this of a file. */
 #define FORKHEMIT_TEXT_BYTES 65536
 /* The words of a table of 128 rows. They are enough for any table, and for the planes of any. */
 #define FORKHEMIT_TABLE_WORDS 256
@@ -185,12 +185,13 @@ uint64_t forkhemit_version(void);
 /* ---- tables */
 
 /* sizes: the gate ceiling, which no circuit of this size exceeds; the words that forkhemit_generate needs, three for each gate of the
- * ceiling; input wires; state wires. The largest, for n = 32 and 384 rows: 880704, 2642112, 27747, 3171. Refusals: 1, 2. */
+ * ceiling; input wires; state wires. The largest, for n = 32 and 384 rows: 880704, 2642112, 27747, 3171.
+ * Refusals: 1, 2. */
 uint8_t forkhemit_sizes(uint64_t n, uint64_t left_rows, uint64_t right_rows, uint64_t public_rows, uint64_t sizes[4]);
 
 /* Reads three DIMACS texts into tables. sizes: n, left rows, right rows, public rows; a public text may have none. FORKHEMIT_TABLE_WORDS
- * for each table are enough for any texts. A text of more than FORKHEMIT_TEXT_BYTES is 5, whatever it holds. Refusals: the left text's 1, 2
- * or 5, then the right's, then the public one's, then 4 where a table has too few words for its rows, then 6. */
+ * for each table are enough for any texts. A text of more than FORKHEMIT_TEXT_BYTES is 5, whatever it holds.
+ * Refusals: the left text's 1, 2 or 5, the right's, the public one's, then 4 where a table has too few words for its rows, then 6. */
 uint8_t forkhemit_read_tables(const uint8_t *left_text, size_t left_text_length, const uint8_t *right_text, size_t right_text_length,
                               const uint8_t *public_text, size_t public_text_length, uint32_t *left, size_t left_length,
                               uint32_t *right, size_t right_length, uint32_t *public_table, size_t public_length, uint64_t sizes[4]);
@@ -216,7 +217,8 @@ uint8_t forkhemit_judge(uint32_t positive, uint32_t negative, uint32_t t, uint32
 uint8_t forkhemit_fresh(uint64_t n, uint32_t run[FORKHEMIT_RUN_WORDS]);
 
 /* run: after one giant step, in place. A run that is closed already stays as it is, and the call is taken: look at word 1 before you count
- * a step. Refusals: 1, 2, 4, 3, 12, 13. */
+ * a step.
+ * Refusals: 1, 2, 4, 3, 12, 13. */
 uint8_t forkhemit_step(uint64_t n, uint64_t left_rows, uint64_t right_rows, uint64_t public_rows,
                        const uint32_t *left, size_t left_length, const uint32_t *right, size_t right_length,
                        const uint32_t *public_table, size_t public_length, uint32_t run[FORKHEMIT_RUN_WORDS]);
@@ -235,7 +237,8 @@ uint8_t forkhemit_solve(uint64_t n, uint64_t left_rows, uint64_t right_rows, uin
 uint8_t forkhemit_model(const uint32_t run[FORKHEMIT_RUN_WORDS], uint64_t model[1]);
 
 /* counts: for each row, left ones, right ones, public ones, how many of its literals have their variable in neither T nor F of the run,
- * whatever its standing: a byte a row, as forkhemit_judge counts. Refusals: 1, 2, 4, 3, 10 (fewer bytes than rows), 12, 13. */
+ * whatever its standing: a byte a row, as forkhemit_judge counts.
+ * Refusals: 1, 2, 4, 3, 10 (fewer bytes than rows), 12, 13. */
 uint8_t forkhemit_count_free(uint64_t n, uint64_t left_rows, uint64_t right_rows, uint64_t public_rows,
                              const uint32_t *left, size_t left_length, const uint32_t *right, size_t right_length,
                              const uint32_t *public_table, size_t public_length,
@@ -249,7 +252,6 @@ uint8_t forkhemit_count_free(uint64_t n, uint64_t left_rows, uint64_t right_rows
  *   word 6 * literal    its rows 0 to 63; the next word rows 64 to 127, and so on up to row 383
  * Rows count from 0: the left ones, then the right ones, then the public ones. Row r is bit r % 64 of word 6 * literal + r / 64. Bits of
  * variables above n and of rows past the last are zero.
- *
  * Keep an index with the tables while you ask which rows a variable touches, or want a run's number of unsatisfied rows after every step. A
  * call that judges a lent index reads all rows for it and is slower than forkhemit_step. Where only the answer counts, call
  * forkhemit_solve_indexed: it makes its own index once and keeps it to the end of the run. For a run of your own call forkhemit_continue,
@@ -262,8 +264,8 @@ uint8_t forkhemit_index(uint64_t n, uint64_t left_rows, uint64_t right_rows, uin
                         const uint32_t *left, size_t left_length, const uint32_t *right, size_t right_length,
                         const uint32_t *public_table, size_t public_length, uint64_t index[FORKHEMIT_INDEX_WORDS]);
 
-/* number: how many rows are unsatisfied under the run's T and F, whatever its standing; padding is satisfied. Refusals: 1, 2, 4, 3, 12,
- * 13. */
+/* number: how many rows are unsatisfied under the run's T and F, whatever its standing; padding is satisfied.
+ * Refusals: 1, 2, 4, 3, 12, 13. */
 uint8_t forkhemit_unsatisfied(uint64_t n, uint64_t left_rows, uint64_t right_rows, uint64_t public_rows,
                               const uint32_t *left, size_t left_length, const uint32_t *right, size_t right_length,
                               const uint32_t *public_table, size_t public_length,
@@ -271,15 +273,16 @@ uint8_t forkhemit_unsatisfied(uint64_t n, uint64_t left_rows, uint64_t right_row
 
 /* run: after one giant step, in place, as forkhemit_step leaves it. number: lend the number of rows that are unsatisfied under the run, as
  * forkhemit_unsatisfied counts them; after the call it is their number under the run after the step. Each call judges the whole index and
- * the number against tables and run. Refusals: 1, 2, 4, 3, 12 (the run is not well-formed, the index is not the tables', or the number is
- * not the run's), 13. */
+ * the number against tables and run.
+ * Refusals: 1, 2, 4, 3, 12 (the run is not well-formed, the index is not the tables', or the number is not the run's), 13. */
 uint8_t forkhemit_step_indexed(uint64_t n, uint64_t left_rows, uint64_t right_rows, uint64_t public_rows,
                                const uint32_t *left, size_t left_length, const uint32_t *right, size_t right_length,
                                const uint32_t *public_table, size_t public_length, const uint64_t index[FORKHEMIT_INDEX_WORDS],
                                uint32_t run[FORKHEMIT_RUN_WORDS], uint64_t number[1]);
 
 /* answer: as of forkhemit_solve, which reads every row in every step. Here a step reads only the rows of the variable that is set. To go on
- * after a budget, see there. Refusals: 1, 2, 4, 3. */
+ * after a budget, see there.
+ * Refusals: 1, 2, 4, 3. */
 uint8_t forkhemit_solve_indexed(uint64_t n, uint64_t left_rows, uint64_t right_rows, uint64_t public_rows,
                                 const uint32_t *left, size_t left_length, const uint32_t *right, size_t right_length,
                                 const uint32_t *public_table, size_t public_length, uint64_t budget, uint64_t answer[3]);
@@ -289,7 +292,8 @@ uint8_t forkhemit_solve_indexed(uint64_t n, uint64_t left_rows, uint64_t right_r
  * Between two calls a host may show how far it is, stop, or take late conditions, and then call again: `a` times and then `b` times leave
  * the run that `a + b` times leave, and the numbers of steps add up. From the fresh run by a budget they are the count of forkhemit_solve,
  * and word 1 of the run is its verdict. Slices that add up to 2^(k+1) - 1 close it. Each call judges tables and run once, and makes its
- * index once: let it take some hundred steps or more. Refusals: 1, 2, 4, 3, 12, 13. */
+ * index once: let it take some hundred steps or more.
+ * Refusals: 1, 2, 4, 3, 12, 13. */
 uint8_t forkhemit_continue(uint64_t n, uint64_t left_rows, uint64_t right_rows, uint64_t public_rows,
                            const uint32_t *left, size_t left_length, const uint32_t *right, size_t right_length,
                            const uint32_t *public_table, size_t public_length, uint64_t times,
@@ -301,7 +305,7 @@ uint8_t forkhemit_continue(uint64_t n, uint64_t left_rows, uint64_t right_rows, 
  * The two-sided Jeroslow-Wang choice, in place of rule 4's lowest variable. Each unsatisfied row adds 2 to the power minus its number of
  * free literals to every free variable that it holds. The greatest sum wins, the lowest variable among equals, and it is set true. Rules 1
  * to 3 are the same. Over tables that stay as they are, the verdict is that of forkhemit_solve whenever both close, within the same bound.
- * The steps differ, most often they are fewer, and the model may be another one. The circuit does not use this choice.
+ * The steps differ and are most often fewer, and the model may be another one. The circuit does not use this choice.
  */
 
 /* run: after one step with the weighted choice, in place; closed runs as in forkhemit_step. Refusals: 1, 2, 4, 3, 12, 13. */
@@ -309,15 +313,17 @@ uint8_t forkhemit_step_weighted(uint64_t n, uint64_t left_rows, uint64_t right_r
                                 const uint32_t *left, size_t left_length, const uint32_t *right, size_t right_length,
                                 const uint32_t *public_table, size_t public_length, uint32_t run[FORKHEMIT_RUN_WORDS]);
 
-/* A fresh run by such steps until it closes or the budget is spent; as many are always enough as for forkhemit_solve. It keeps an index as
- * forkhemit_solve_indexed does. It weighs rows only where it chooses, and of these only the unsatisfied ones.
- * answer: steps taken, verdict (forkhemit_verdict), model as a word, 0 without one. Refusals: 1, 2, 4, 3. */
+/* A fresh run by such steps until it closes or the budget is spent. The bound on the steps is that of forkhemit_solve. It keeps an index as
+ * forkhemit_solve_indexed does. It weighs rows only where it chooses, and only the unsatisfied ones.
+ * answer: steps taken, verdict (forkhemit_verdict), model as a word, 0 without one.
+ * Refusals: 1, 2, 4, 3. */
 uint8_t forkhemit_solve_weighted(uint64_t n, uint64_t left_rows, uint64_t right_rows, uint64_t public_rows,
                                  const uint32_t *left, size_t left_length, const uint32_t *right, size_t right_length,
                                  const uint32_t *public_table, size_t public_length, uint64_t budget, uint64_t answer[3]);
 
 /* run: goes on by weighted steps, as forkhemit_continue does by giant ones. continued: how many were taken; 1 if the run is closed then,
- * else 0. Refusals: 1, 2, 4, 3, 12, 13. */
+ * else 0.
+ * Refusals: 1, 2, 4, 3, 12, 13. */
 uint8_t forkhemit_continue_weighted(uint64_t n, uint64_t left_rows, uint64_t right_rows, uint64_t public_rows,
                                     const uint32_t *left, size_t left_length, const uint32_t *right, size_t right_length,
                                     const uint32_t *public_table, size_t public_length, uint64_t times,
@@ -334,15 +340,16 @@ uint8_t forkhemit_continue_weighted(uint64_t n, uint64_t left_rows, uint64_t rig
  *   row       its number, from 1 over all tables: the left rows, then the right ones, then the public ones, which nobody replaces
  */
 
-/* left, right: the two words of that row are positive and negative, all others as they were. The new row may be padding or empty. Refusals:
- * 1, 2, 4, 3, 12, 13, 15 (no padding row of that station), 16 (the run is closed), 3 (the new row has a bit at or above n). */
+/* left, right: the two words of that row are positive and negative, all others as they were. The new row may be padding or empty.
+ * Refusals: 1, 2, 4, 3, 12, 13, 15 (no padding row of that station), 16 (the run is closed), 3 (the new row has a bit at or above n). */
 uint8_t forkhemit_replace(uint64_t n, uint64_t left_rows, uint64_t right_rows, uint64_t public_rows,
                           uint32_t *left, size_t left_length, uint32_t *right, size_t right_length,
                           const uint32_t *public_table, size_t public_length, const uint32_t run[FORKHEMIT_RUN_WORDS],
                           uint64_t station, uint64_t row, uint32_t positive, uint32_t negative);
 
 /* The same with a lent index and number, which are judged as forkhemit_step_indexed judges them. index, number: those of the tables as they
- * then are, brought up to date with the row. Refusals: 1, 2, 4, 3, 12, 13, 15, 16, 3. */
+ * then are, brought up to date with the row.
+ * Refusals: 1, 2, 4, 3, 12, 13, 15, 16, 3. */
 uint8_t forkhemit_replace_indexed(uint64_t n, uint64_t left_rows, uint64_t right_rows, uint64_t public_rows,
                                   uint32_t *left, size_t left_length, uint32_t *right, size_t right_length,
                                   const uint32_t *public_table, size_t public_length, const uint32_t run[FORKHEMIT_RUN_WORDS],
@@ -368,7 +375,8 @@ enum forkhemit_rule {
  *             Rows count from 1: the left ones, then the right ones, then the public ones
  *   variable  the variable set, from 1, and value its value, 0 or 1: where a literal was forced or chosen, that one; in a conflict with a
  *             level the variable that goes to F, with 0; else 0 and 0
- * The rows are looked at twice, so forkhemit_step is faster. Refusals: 1, 2, 4, 3, 12, 13. */
+ * The rows are looked at twice, so forkhemit_step is faster.
+ * Refusals: 1, 2, 4, 3, 12, 13. */
 uint8_t forkhemit_step_explained(uint64_t n, uint64_t left_rows, uint64_t right_rows, uint64_t public_rows,
                                  const uint32_t *left, size_t left_length, const uint32_t *right, size_t right_length,
                                  const uint32_t *public_table, size_t public_length,
@@ -377,7 +385,8 @@ uint8_t forkhemit_step_explained(uint64_t n, uint64_t left_rows, uint64_t right_
 /* Where the clause of a row is in the text that it was read from; rows count from 1, the left ones first, then the right ones.
  * place: station, 0 left or 1 right; the clause's first byte in that station's text, from 0; how many bytes, from the first literal through
  * the closing 0, with any remarks inside it. An empty clause is its 0. Start and length are 0 where the table's row no longer has the
- * clause's two words. Refusals: 5 for an overlong text, the tables' 1, 2, 4, 3, then the left text's 1, 2 or 5, the right text's, 6, 17. */
+ * clause's two words.
+ * Refusals: 5 for an overlong text, the tables' 1, 2, 4, 3, then the left text's 1, 2 or 5, the right text's, 6, 17. */
 uint8_t forkhemit_clause(uint64_t n, uint64_t left_rows, uint64_t right_rows, uint64_t public_rows,
                          const uint32_t *left, size_t left_length, const uint32_t *right, size_t right_length,
                          const uint32_t *public_table, size_t public_length, const uint8_t *left_text, size_t left_text_length,
@@ -385,7 +394,8 @@ uint8_t forkhemit_clause(uint64_t n, uint64_t left_rows, uint64_t right_rows, ui
 
 /* The clause itself. bytes: those at the place that forkhemit_clause gives, copied over the front; the rest stays as it was. length: how
  * many they are; 0 where the table's row no longer has the clause's two words, and then no byte is written. FORKHEMIT_TEXT_BYTES take any
- * clause. The refusals of forkhemit_clause, in its order, then 11 where the clause has more bytes than are lent. */
+ * clause.
+ * The refusals of forkhemit_clause, in its order, then 11 where the clause has more bytes than are lent. */
 uint8_t forkhemit_excerpt(uint64_t n, uint64_t left_rows, uint64_t right_rows, uint64_t public_rows,
                           const uint32_t *left, size_t left_length, const uint32_t *right, size_t right_length,
                           const uint32_t *public_table, size_t public_length, const uint8_t *left_text, size_t left_text_length,
@@ -399,7 +409,6 @@ uint8_t forkhemit_excerpt(uint64_t n, uint64_t left_rows, uint64_t right_rows, u
  * makes all their rows true, whoever wrote the text. Nothing is written, and the solver need not be trusted. Only the text form is read, as
  * `cadical --no-binary` writes it: a line is literals closed by 0, after `d` and a space where a clause is deleted. Spaces and tabs
  * separate the numbers and may begin or end a line, a CR may close it, and a line with nothing else is skipped.
- *
  * A clause is added only if it follows from the rows present, the tables' and those added before. It follows if it holds a variable in both
  * signs, or if its negation and what rows then force, literal by literal, leave some row without a literal (RUP). The wider rule of the
  * format (RAT) is not accepted. A deletion removes one row of the same literals, a table's or an added one, or nothing where there is none;
@@ -422,33 +431,35 @@ uint8_t forkhemit_check_proof(uint64_t n, uint64_t left_rows, uint64_t right_row
  * Variables on no line are the existential side's and come first, by number. Remark lines may come anywhere, lines of separators alone
  * before any line.
  * answer: the winner, one of forkhemit_side; the first variable in that order, from 1, where the winner fixes it, else 0; a value with
- * which the winner still wins, 1 if both do, 0 where there is no variable. Refusals: 5 for an overlong text, then 1, 2, 21, 5, 22. */
+ * which the winner still wins, 1 if both do, 0 where there is no variable.
+ * Refusals: 5 for an overlong text, then 1, 2, 21, 5, 22. */
 uint8_t forkhemit_game(const uint8_t *text, size_t text_length, uint64_t answer[3]);
 
 /* ---- a table by columns */
 
 /* planes: one table of 0 to 128 rows in squares of 32 rows by 32 variables, so that a word holds one variable over 32 rows. A square is 64
  * words, 32 of its positive plane and then 32 of its negative one, variable 1's word first in each, the first row in the lowest bit.
- * Squares follow in row order, (rows + 31) / 32 of them, and rows past the last are zero bits. Counted from 0, variable v of row r is bit r
- * % 32 of word 64 * (r / 32) + v where it is positive, and of the word 32 further on where it is negative. No rows have no square. Words
- * past the squares stay as they were, and words of the table past its rows are not read. Refusals: 1, 2 (above 128), 4 for either buffer,
- * 3. */
+ * Squares follow in row order, (rows + 31) / 32 of them, and rows past the last are zero bits. Counted from 0, variable v of row r is bit
+ * r % 32 of word 64 * (r / 32) + v where it is positive, and of the word 32 further on where it is negative. No rows have no square. Words
+ * past the squares stay as they were, and words of the table past its rows are not read.
+ * Refusals: 1, 2 (above 128), 4 for either buffer, 3. */
 uint8_t forkhemit_columns(uint64_t n, uint64_t rows, const uint32_t *table, size_t table_length, uint32_t *planes, size_t planes_length);
 
 /* table: the rows of such planes, two words a row: the inverse of forkhemit_columns, for every table and for all planes that are accepted.
- * Words past the rows stay as they were, and words of the planes past the squares are not read. Refusals: 1, 2 (above 128), 4 for either
- * buffer, 24. */
+ * Words past the rows stay as they were, and words of the planes past the squares are not read.
+ * Refusals: 1, 2 (above 128), 4 for either buffer, 24. */
 uint8_t forkhemit_rows(uint64_t n, uint64_t rows, const uint32_t *planes, size_t planes_length, uint32_t *table, size_t table_length);
 
 /* ---- the circuit */
 
 /* gates: the giant step's circuit, three words a gate: kind (0 XOR, 1 AND, 2 INV), first wire, second wire (0 for INV). count: how many
- * gates. forkhemit_evaluate and the line writers take 3 * count as gates_length, not the length of the whole buffer. Refusals: 1, 2, 7. */
+ * gates. forkhemit_evaluate and the line writers take 3 * count as gates_length, not the length of the whole buffer.
+ * Refusals: 1, 2, 7. */
 uint8_t forkhemit_generate(uint64_t n, uint64_t left_rows, uint64_t right_rows, uint64_t public_rows,
                            uint32_t *gates, size_t gates_length, uint64_t count[1]);
 
-/* bytes: left rows, right rows, public rows and run, a byte a wire: the circuit's inputs, as many as forkhemit_sizes says. Refusals: 1, 2,
- * 4, 3, 10, 12, 13. */
+/* bytes: left rows, right rows, public rows and run, a byte a wire: the circuit's inputs, as many as forkhemit_sizes says.
+ * Refusals: 1, 2, 4, 3, 10, 12, 13. */
 uint8_t forkhemit_pack(uint64_t n, uint64_t left_rows, uint64_t right_rows, uint64_t public_rows,
                        const uint32_t *left, size_t left_length, const uint32_t *right, size_t right_length,
                        const uint32_t *public_table, size_t public_length,
@@ -475,21 +486,21 @@ uint8_t forkhemit_read_back(uint64_t n, const uint8_t *bytes, size_t bytes_lengt
  * there is a repeat. bytes, wires: inputs and all wires of the last repeat; as they were without one. repeated: how many repeats were made,
  * the last mark: 1 if the run is closed, else 0.
  * Repeats end with the one that closes the run, or when they are as many as `times`; a run that is closed already has none, and its mark is
- * 1. With mark 0 call again with the same run to go on: the numbers of repeats add up. Refusals: 1, 2, 4, 3, 7, 10 (bytes for the inputs,
- * wires for inputs and gates), 12, 13. */
+ * 1. With mark 0 call again with the same run to go on: the numbers of repeats add up.
+ * Refusals: 1, 2, 4, 3, 7, 10 (bytes for the inputs, wires for inputs and gates), 12, 13. */
 uint8_t forkhemit_repeat(uint64_t n, uint64_t left_rows, uint64_t right_rows, uint64_t public_rows,
                          const uint32_t *left, size_t left_length, const uint32_t *right, size_t right_length,
                          const uint32_t *public_table, size_t public_length, uint64_t times,
                          uint32_t *gates, size_t gates_length, uint8_t *bytes, size_t bytes_length,
                          uint8_t *wires, size_t wires_length, uint32_t run[FORKHEMIT_RUN_WORDS], uint64_t repeated[2]);
 
-/* The circuit applied to a fresh run exactly as often as the budget says, at most FORKHEMIT_MOST_WHOLE times. It goes on when the run is
+/* The circuit applied to a fresh run exactly as often as the budget says, at most FORKHEMIT_MOST_WHOLE times. It goes on after the run is
  * closed, and gives out no mark and no run, so nothing shows how many steps were needed. Verdict and model are those of forkhemit_solve
  * under the same budget.
  * gates: the circuit, as forkhemit_generate writes it. bytes, wires: zeros for the inputs, and for inputs and gates, with budget 0 too:
  * what a repeat leaves there would tell the rows and when the run closed. Time and stack are no part of this: see docs/BACKENDS.md.
- * answer: the budget, verdict (forkhemit_verdict), model as a word, 0 without one. Refusals: 1, 2, 4, 3, 7, 23, 10 (bytes for the inputs,
- * wires for inputs and gates). */
+ * answer: the budget, verdict (forkhemit_verdict), model as a word, 0 without one.
+ * Refusals: 1, 2, 4, 3, 7, 23, 10 (bytes for the inputs, wires for inputs and gates). */
 uint8_t forkhemit_solve_whole(uint64_t n, uint64_t left_rows, uint64_t right_rows, uint64_t public_rows,
                               const uint32_t *left, size_t left_length, const uint32_t *right, size_t right_length,
                               const uint32_t *public_table, size_t public_length, uint64_t budget,
@@ -499,13 +510,14 @@ uint8_t forkhemit_solve_whole(uint64_t n, uint64_t left_rows, uint64_t right_row
 /* ---- texts */
 
 /* bytes: the line of this number, from 0, of the circuit text, with its LF: four lines, then one a gate. length: its bytes; 0 past the last
- * line. FORKHEMIT_LINE_BYTES take any line. Refusals: 1, 2, 9, 11. */
+ * line. FORKHEMIT_LINE_BYTES take any line.
+ * Refusals: 1, 2, 9, 11. */
 uint8_t forkhemit_write_line(uint64_t n, uint64_t left_rows, uint64_t right_rows, uint64_t public_rows,
                              const uint32_t *gates, size_t gates_length, uint64_t line,
                              uint8_t *bytes, size_t bytes_length, uint64_t length[1]);
 
-/* bytes: as many whole lines as fit, from that line on. written: lines, then bytes; 0 and 0 past the last line. Refusals: 1, 2, 9, 11 where
- * not even one line fits. */
+/* bytes: as many whole lines as fit, from that line on. written: lines, then bytes; 0 and 0 past the last line.
+ * Refusals: 1, 2, 9, 11 where not even one line fits. */
 uint8_t forkhemit_write_lines(uint64_t n, uint64_t left_rows, uint64_t right_rows, uint64_t public_rows,
                               const uint32_t *gates, size_t gates_length, uint64_t line,
                               uint8_t *bytes, size_t bytes_length, uint64_t written[2]);
@@ -515,7 +527,8 @@ uint8_t forkhemit_read_budget(const uint8_t *line, size_t line_length, uint64_t 
 
 /* text: the answer as the pair program prints it, over the front; the rest stays as it was. length: its bytes, at most
  * FORKHEMIT_ANSWER_BYTES. A verdict that is no forkhemit_verdict is unknown; with satisfiable, the first n variables of the model are
- * printed. Refusals: 1. */
+ * printed.
+ * Refusals: 1. */
 uint8_t forkhemit_answer(uint64_t n, uint64_t count, uint64_t verdict, uint64_t model, uint8_t text[FORKHEMIT_ANSWER_BYTES],
                          uint64_t length[1]);
 
@@ -528,12 +541,12 @@ uint8_t forkhemit_answer(uint64_t n, uint64_t count, uint64_t verdict, uint64_t 
  * read off a page is the one that it was made from, and bytes that are read as a model are that model's page.
  */
 
-/* page: that of the run's model, over the front of the lent bytes; a variable that the run left free is false. Refusals: 12, 14 (the run is
- * open or refuted), 25 (pilots times watches, as numbers, is not the run's n), 26 (fewer bytes are lent). */
+/* page: that of the run's model, over the front of the lent bytes; a variable that the run left free is false.
+ * Refusals: 12, 14 (the run is open or refuted), 25 (pilots times watches, as numbers, is not the run's n), 26 (fewer bytes are lent). */
 uint8_t forkhemit_page(const uint32_t run[FORKHEMIT_RUN_WORDS], uint64_t pilots, uint64_t watches, uint8_t *page, size_t page_length);
 
-/* model: the variables that the page shows as true, as a word. Bytes after the page are not read. Refusals: 1, 25, 26, 27 (the first 80
- * bytes a pilot are no page of this form: every number, mark, space and line feed counts). */
+/* model: the variables that the page shows as true, as a word. Bytes after the page are not read.
+ * Refusals: 1, 25, 26, 27 (the first 80 bytes a pilot are no page of this form: every number, mark, space and line feed counts). */
 uint8_t forkhemit_read_page(uint64_t n, uint64_t pilots, uint64_t watches, const uint8_t *page, size_t page_length, uint64_t model[1]);
 
 #ifdef __cplusplus
