@@ -50,7 +50,7 @@ HOSTS := host_runs host_indexed host_solve host_late host_explained host_circuit
 HOSTS += host_proofs host_game host_weighted host_whole host_columns host_page host_version
 
 # One after the other: two calls of `rt staticlib` at once spoil each other's notes on the crates that both use. In the crates' object files
-# all names are local but those of the functions that hosts call, so the files stand side by side in one archive.
+# all names are local but those of the functions that hosts call, so all files fit into one archive.
 target/lib/libforkhemit.a: crates.txt $(shell find crates -name '*.rt' -o -name '*.antt')
 	$(KIT)
 	for crate in $(HOSTS); do rt staticlib $$crate || exit 1; done
@@ -61,7 +61,7 @@ target/lib/libforkhemit.a: crates.txt $(shell find crates -name '*.rt' -o -name 
 
 PREFIX ?= /usr/local
 LIBDIR ?= $(PREFIX)/lib
-# The version is in the header alone. The soname has its first number: while that stays, hosts that were linked before run as they are.
+# The version is read from the header. The soname has its first number: while that stays, hosts that were linked before run as they are.
 VERSION := $(shell sed -n 's/^#define FORKHEMIT_VERSION_[A-Z]* //p' include/forkhemit.h | paste -sd.)
 SONAME := libforkhemit.so.$(firstword $(subst ., ,$(VERSION)))
 MAN := $(DESTDIR)$(PREFIX)/share/man/man1
@@ -72,14 +72,14 @@ PYTHON := $(DESTDIR)$(PREFIX)/share/forkhemit/python
 GUIDE := docs/GUIDE.md docs/PLANNERS.md docs/HOSTS.md docs/BACKENDS.md
 FILLED := sed -e 's|@VERSION@|$(VERSION)|' -e 's|@PREFIX@|$(PREFIX)|' -e 's|@LIBDIR@|$(LIBDIR)|'
 
-# The archive's code is position independent (`text`) and asks for nothing that C's library has not (`defs`). Without C's start files nothing
-# runs when the library is loaded, and it has no symbol but the functions that hosts call. It lies apart from the archive: of two in one folder
-# a linker takes the shared one.
+# The archive's code is position independent (`text`) and needs nothing but C's library (`defs`). Without C's start files nothing runs when the
+# library is loaded, and it has no symbol but the functions that hosts call. It is not in the archive's folder: of two there a linker takes the
+# shared one.
 target/shared/libforkhemit.so: target/lib/libforkhemit.a include/forkhemit.h
 	mkdir -p target/shared
 	cc -shared -nostartfiles -o $@ -Wl,-soname,$(SONAME),-z,text,-z,defs,-z,now,-z,noexecstack -Wl,--whole-archive $< -Wl,--no-whole-archive
 
-# `pair`, `circuit` and `whole` are too general as names of commands: there they begin with the product's.
+# `pair`, `circuit` and `whole` are too general as names of commands: installed, they begin with the product's name.
 install: absolute all
 	install -d $(DESTDIR)$(PREFIX)/bin $(DESTDIR)$(PREFIX)/include $(LIB)/pkgconfig $(MAN) $(DOC) $(PYTHON)
 	for program in $(PROGRAMS); do \
@@ -100,8 +100,8 @@ install: absolute all
 	find examples -type f -exec install -D -m 644 {} $(DOC)/{} \;
 	@echo 'installed. Before a host over the shared library runs: ldconfig, or LD_LIBRARY_PATH=$(LIBDIR). For Python: PYTHONPATH=$(PREFIX)/share/forkhemit/python'
 
-# The pkg-config file and the man pages' readers go by these paths, wherever they stand. Recipes hand them to the shell as they are, and
-# `rm -rf` of half a path takes away something else: a path has nothing in it that a shell does not take as it stands, and no blank.
+# The pkg-config file and the readers of man pages use these paths, so they must be whole. Recipes hand them to the shell as they are, and
+# `rm -rf` of half a path removes something else: so a path may have no blank and nothing that a shell interprets.
 absolute: export GIVEN_PREFIX := $(value PREFIX)
 absolute: export GIVEN_LIBDIR := $(LIBDIR)
 absolute: export GIVEN_DESTDIR := $(value DESTDIR)
@@ -123,7 +123,7 @@ uninstall: absolute
 NAME := forkhemit-$(VERSION)
 DIST := target/dist/$(NAME)
 
-# What `make install` copies, in a folder of its own that works wherever it lies. Of one tree and one `make` it has the same bytes each time.
+# What `make install` copies, in a folder of its own that works wherever it is. One tree and one `make` give the same bytes each time.
 dist: all
 	rm -rf target/dist
 	$(MAKE) --silent install DESTDIR=target/dist PREFIX=/$(NAME) LIBDIR=/$(NAME)/lib >/dev/null

@@ -114,6 +114,7 @@ int main(void)
 EOF
 trial 'a program that prints the version is built' cc "${strict[@]}" -o "$room/version" "$room/version.c" "${linked[@]}"
 trial "$version in CHANGES.md, in the header and in the library" prints "$version" "$room/version"
+trial 'in README.md' grep -qF "This is version $version " README.md
 trial 'in the pkg-config file' prints "$version" pkg-config --modversion forkhemit
 trial 'its first number in the soname' prints "libforkhemit.so.${version%%.*}" soname "$library.so"
 trial "in the shared library's name" cmp "$library.so.${version%%.*}" "$library.so.$version"

@@ -380,14 +380,15 @@ def refusals():
 
 
 def other_library():
-    """A module for another version does not load."""
+    """A module for another first number, or for a later second one, does not load."""
     with open(f.__file__) as file:
-        source = re.sub(r"^VERSION = \d+$", "VERSION = 99", file.read(), flags=re.M)
-    with tempfile.TemporaryDirectory() as room:
-        with open(os.path.join(room, "forkhemit.py"), "w") as file:
-            file.write(source)
-        ran = subprocess.run([sys.executable, "-B", "-c", "import forkhemit"], env={**os.environ, "PYTHONPATH": room, "FORKHEMIT_LIBRARY": library()}, capture_output=True, text=True)
-        expect("another version", "ImportError: the library's version" in ran.stderr and ran.returncode == 1)
+        source = file.read()
+    for version in (99, f.VERSION + 100, f.VERSION + 10000):
+        with tempfile.TemporaryDirectory() as room:
+            with open(os.path.join(room, "forkhemit.py"), "w") as file:
+                file.write(re.sub(r"^VERSION = \d+$", f"VERSION = {version}", source, flags=re.M))
+            ran = subprocess.run([sys.executable, "-B", "-c", "import forkhemit"], env={**os.environ, "PYTHONPATH": room, "FORKHEMIT_LIBRARY": library()}, capture_output=True, text=True)
+            expect(f"a module for version {version}", "ImportError: the library's version" in ran.stderr and ran.returncode == 1)
 
 
 real = f.call
