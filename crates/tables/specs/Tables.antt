@@ -1,7 +1,7 @@
 -- The words of all tables together: what rows, acceptance and every entry are defined over.
 use mathlib.Core.List.{List}
 use Prim.Native.Nat.{ℕ}
-use denote.Ref.{RefT, now}
+use denote.Ref.{RefT}
 use denote.Triple.Both.{Both}
 
 -- each station's words, and those of the public rest rules
@@ -20,4 +20,4 @@ Slice X = Both (RefT (List ℕ)) X
 
 -- the tables as they are lent: what the three slices hold where the call begins
 abbrev pub lentTables : {X Y Z : Type 0} → Slice X → Slice Y → Slice Z → Tables
-lentTables left right public = allTables (now (left .entry)) (now (right .entry)) (now (public .entry))
+lentTables left right public = allTables (left .entry .now) (right .entry .now) (public .entry .now)

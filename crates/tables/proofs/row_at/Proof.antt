@@ -13,8 +13,8 @@ row p n = record { positive = p; negative = n }
 
 returns : tie.Need-returns
 returns c =
-    let s = c .before .before .args in
-    sym (ap₂ row (List·getD-eq-default (s .words .now) 0 (omega (arith, c .if1 .taken))) (List·getD-eq-default (s .words .now) 0 (omega (arith, c .if1 .taken))))
+    let words = c .before .before .args .words .now in
+    sym (ap₂ row (List·getD-eq-default words 0 (omega (arith, c .if1 .taken))) (List·getD-eq-default words 0 (omega (arith, c .if1 .taken))))
 
 mul-word-at : tie.Need-mul-word-at
 mul-word-at c = search needs
