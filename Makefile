@@ -7,7 +7,7 @@
 # make fmt: puts every file in its layout. make fmt-check: says which are not.
 # make drill: two stations and a back end, each in a folder of its own, on the example.
 # make dist: target/dist/forkhemit-VERSION-x86_64-linux.tar.gz, what make install copies, with checksums; to unpack anywhere, without the kit.
-# make help: this text. docs/COMMANDS.md has a table with what each command needs.
+# make help: this text. README.md has a table with what each command needs.
 .PHONY: all test run lib install absolute uninstall examples drill dist help bench checktime pictures statements fmt fmt-check
 # `rt` keeps notes in target: one call at a time.
 .NOTPARALLEL:

@@ -47,10 +47,10 @@ answers() { # COMMAND..
     "$@" <budget | diff - answer
 }
 
-# `make help` prints every `make GOAL` of the table in docs/COMMANDS.md
+# `make help` prints every `make GOAL` of the table in README.md
 helped() {
     local goal
-    for goal in $(grep -oE '^\| `make [a-z-]+[` ]' docs/COMMANDS.md | tr -d '`' | sed 's/^| make //'); do
+    for goal in $(grep '^| `make' README.md | cut -d'|' -f2 | grep -oE '`make [a-z-]+' | sed 's/`make //'); do
         make --silent help | grep -q "make $goal\b" || { echo "make $goal" && return 1; }
     done
 }
@@ -231,5 +231,5 @@ missing() { # GOAL
     ! env PATH="$room/tools" make --silent -C "$room/bare" "$1" >"$room/said" 2>&1 && grep -q '^the Rattle kit is missing: ' "$room/said"
 }
 for goal in all run lib install dist test fmt; do trial "make $goal without the kit says what is missing" missing "$goal"; done
-trial 'make help names every command of docs/COMMANDS.md' helped
+trial 'make help names every command of README.md' helped
 end
