@@ -19,6 +19,7 @@ pub mod edits;
 pub mod game;
 pub mod hosts;
 pub mod layout;
+pub mod links;
 pub mod memory;
 pub mod model;
 pub mod netlists;

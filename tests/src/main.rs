@@ -10,7 +10,7 @@
 use forkhemit_tests::process::{self, Source};
 use forkhemit_tests::report::{self, Tally};
 use forkhemit_tests::{
-    assumed, cases, ceilings, circuits, citations, claims, contracts, damage, demand1, edits, hosts, pictures,
+    assumed, cases, ceilings, circuits, citations, claims, contracts, damage, demand1, edits, hosts, links, pictures,
     published, statements, steps, symbols, tables, ties, whole,
 };
 use std::path::Path;
@@ -71,6 +71,7 @@ fn all(arguments: &[String]) -> std::io::Result<Tally> {
     total.add(ceilings::run(Path::new(crates))?);
     let own = Path::new(env!("CARGO_MANIFEST_DIR"));
     total.add(pictures::run(&own.join(".."))?);
+    total.add(links::run(&own.join(".."))?);
     total.add(ties::run(own)?);
     let pair = programs.iter().map(Path::new).find(|program| program.ends_with("pair"));
     for program in programs {
