@@ -1,5 +1,5 @@
--- Lines put one behind the other: those that are put, and those that still fit behind them, are those that fit from the first on. Each turn unfolds
--- `fitting` once.
+-- Lines put one after the other: those that are put, and those that still fit after them, are those that fit from the first on. Each turn unfolds `fitting`
+-- once.
 use mathlib.Core.Path.{_≡_, refl, sym, ap, ap₂, _∙_, subst}
 use mathlib.Core.Bool.{Bool, true, false}
 use mathlib.Core.List.{List, [], _∷_, _++_, append-assoc, append-nil, flatten}
@@ -18,12 +18,12 @@ use Rattle.refusals.specs.declared.Outcome.the-variants.{Taken}
 use Rattle.refusals.specs.Checks.{outcome}
 use Rattle.dimensions.specs.declared.Dimensions.{Dimensions}
 use Rattle.gates.specs.Memory.{gatesOf, over}
-use Rattle.bristol.specs.declared.Written.{Written}
-use Rattle.bristol.specs.declared.Written.the-variants as W
+use Rattle.bristol.specs.declared.WrittenLine.{WrittenLine}
+use Rattle.bristol.specs.declared.WrittenLine.the-variants as W
 use Rattle.bristol.specs.declared.WrittenLines.the-variants as lines
 use Rattle.bristol.specs.Text.{circuitLines}
 use Rattle.bristol.specs.Writing.{circuitChecks, lineAt, writtenLine, filledLine, fitting, linesAt, writtenLines, filledLines}
-use Rattle.bristol.proofs.Written.{the-type}
+use Rattle.bristol.proofs.WrittenLine.{the-type}
 use Rattle.bristol.proofs.Parts.{lent-part, put-back}
 use Rattle.bristol.proofs.Fitting.{fitting-next, fitting-none}
 use Rattle.bristol.proofs.Requests.{was-put, not-put, lines-by-room}
@@ -113,7 +113,7 @@ module _ (ls : List (List ℕ)) (lent : List ℕ) (line : ℕ) where
 -- ---- a turn: the next line is put to the bytes behind those that are put, or it is too long
 
 module _ (d : Dimensions) (ws : List ℕ) (e : outcome (circuitChecks d ws) ≡ Taken) (line : ℕ) (lent bytes : List ℕ) (next at : ℕ)
-    (p : Put (circuitLines d (gatesOf ws)) lent line bytes next at) (h : next < length (circuitLines d (gatesOf ws))) (r : Written) (out : List ℕ)
+    (p : Put (circuitLines d (gatesOf ws)) lent line bytes next at) (h : next < length (circuitLines d (gatesOf ws))) (r : WrittenLine) (out : List ℕ)
     (hr : r ≡ writtenLine d ws next (midOf at (length bytes - at) bytes)) (ho : out ≡ filledLine d ws next (midOf at (length bytes - at) bytes)) where
   pub line-more : (k : ℕ) → r ≡ W.Line k → Put (circuitLines d (gatesOf ws)) lent line (putMid at (length bytes - at) bytes out) (next + 1) (at + k)
   line-more k w =
@@ -127,7 +127,7 @@ module _ (d : Dimensions) (ws : List ℕ) (e : outcome (circuitChecks d ws) ≡ 
       → (putMid at (length bytes - at) bytes out ≡ bytes) × (fitting (length lent - at) (drop next (circuitLines d (gatesOf ws))) ≡ [])
   line-last t =
       let q = not-put d ws next (drop at bytes) e h
-      (subst (λ (x : Written). OneOf (1 ∷ (2 ∷ [])) (tagOf the-type x)) (hr ∙ ap (writtenLine d ws next) (lent-part bytes at)) t) in (
+      (subst (λ (x : WrittenLine). OneOf (1 ∷ (2 ∷ [])) (tagOf the-type x)) (hr ∙ ap (writtenLine d ws next) (lent-part bytes at)) t) in (
         put-back bytes at out ∙ ap (λ (x : List ℕ). take at bytes ++ x) (ho ∙ ap (filledLine d ws next) (lent-part bytes at) ∙ q .1)
             ∙ take-append-drop at bytes,
         fitting-none (circuitLines d (gatesOf ws)) next (length lent - at) h (omega (arith, length-drop at bytes, p .same, q .0)),

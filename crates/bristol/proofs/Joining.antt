@@ -15,8 +15,8 @@ use Rattle.refusals.specs.declared.Outcome.the-variants.{Taken, Refused}
 use Rattle.refusals.specs.Checks.{outcome}
 use Rattle.dimensions.specs.declared.Dimensions.{Dimensions}
 use Rattle.gates.specs.Memory.{gatesOf, over}
-use Rattle.bristol.specs.declared.Written.{Written}
-use Rattle.bristol.specs.declared.Written.the-variants as W
+use Rattle.bristol.specs.declared.WrittenLine.{WrittenLine}
+use Rattle.bristol.specs.declared.WrittenLine.the-variants as W
 use Rattle.bristol.specs.declared.WrittenLines.{WrittenLines}
 use Rattle.bristol.specs.declared.WrittenLines.the-variants as lines
 use Rattle.bristol.specs.Text.{circuitLines, circuitText}
@@ -77,7 +77,7 @@ module _ (d : Dimensions) (ws : List ℕ) (e : outcome (circuitChecks d ws) ≡ 
           ∙ take-append-seam (lineAt d ws i) (drop (length (lineAt d ws i)) (lent i)) ∙ sym (append-nil (lineAt d ws i))
           ∙ ap (λ (x : List (List ℕ)). flatten (take 1 x)) (sym (drop-cons (circuitLines d (gatesOf ws)) i [] (ltb-true _ _ q)))
       go false q =
-          ap (λ (x : Written). frontPut x (filledLine d ws i (lent i))) (sym (past-last d ws i (lent i) e (ltb-false _ _ q) .0))
+          ap (λ (x : WrittenLine). frontPut x (filledLine d ws i (lent i))) (sym (past-last d ws i (lent i) e (ltb-false _ _ q) .0))
           ∙ ap (λ (x : List (List ℕ)). flatten (take 1 x)) (sym (drop-of-length-le (circuitLines d (gatesOf ws)) (ltb-false _ _ q)))
 
   abbrev put : ℕ → List ℕ

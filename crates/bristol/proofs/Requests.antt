@@ -22,15 +22,15 @@ use Rattle.dimensions.specs.declared.Dimensions.{Dimensions}
 use Rattle.dimensions.specs.Sizes.{sizeChecks, inputWires}
 use Rattle.dimensions.proofs.Limits.{Within, within}
 use Rattle.gates.specs.Memory.{gatesOf, accepted, over}
-use Rattle.bristol.specs.declared.Written.{Written}
-use Rattle.bristol.specs.declared.Written.the-variants as W
+use Rattle.bristol.specs.declared.WrittenLine.{WrittenLine}
+use Rattle.bristol.specs.declared.WrittenLine.the-variants as W
 use Rattle.bristol.specs.declared.WrittenLines.{WrittenLines}
 use Rattle.bristol.specs.declared.WrittenLines.the-variants as lines
 use Rattle.bristol.specs.Text.{circuitLines}
 use Rattle.bristol.specs.Writing.{circuitChecks, lineAt, lineChecks, writtenLine, lineCode, lineNumbers, filledLine, linesAt, writtenLines, linesCode}
 use Rattle.bristol.specs.Writing.{linesNumbers}
 use Rattle.bristol.specs.Writing.{filledLines}
-use Rattle.bristol.proofs.Written.{the-type}
+use Rattle.bristol.proofs.WrittenLine.{the-type}
 use Rattle.bristol.proofs.Numbering.{lines-of-words}
 
 module _ (d : Dimensions) (ws : List ℕ) where
@@ -84,7 +84,7 @@ module _ (d : Dimensions) (ws : List ℕ) where
 
     -- what is given says its number and its values
     module _ (out : List ℕ) where
-      pub with-line : (r : Written) → (r ≡ writtenLine d ws i lent) × (out ≡ filledLine d ws i lent)
+      pub with-line : (r : WrittenLine) → (r ≡ writtenLine d ws i lent) × (out ≡ filledLine d ws i lent)
           → (r ≡ writtenLine d ws i lent)
           × ((out ≡ filledLine d ws i lent) × (lineCode r ∷ lineNumbers r ≡ said (outcome (lineChecks d ws i lent)) (length (lineAt d ws i) ∷ [])))
       with-line r p = (
@@ -96,13 +96,13 @@ module _ (d : Dimensions) (ws : List ℕ) where
         ),
       )
         where
-          says : Written → List ℕ
+          says : WrittenLine → List ℕ
           says x = lineCode x ∷ lineNumbers x
 
           all : ℕ
           all = length (circuitLines d (gatesOf ws))
 
-          at : Bool → Written
+          at : Bool → WrittenLine
           at b = cond b (W.Line (length (lineAt d ws i))) W.Past
 
           go : (b : Bool) → ltb i all ≡ b → says (at b) ≡ 0 ∷ (length (lineAt d ws i) ∷ [])
@@ -207,7 +207,8 @@ module _ (d : Dimensions) (ws : List ℕ) where
               → cond b lent (over (lineAt d ws i) lent) ≡ filledLine d ws i lent
               → (length lent < length (lineAt d ws i)) × (filledLine d ws i lent ≡ lent)
           go true q x y = (ltb-true _ _ q, sym y)
-          go false q x y = absurd (⊎-elim (λ z. omega arith) (λ z. omega arith) (subst (λ (w : Written). OneOf (1 ∷ (2 ∷ [])) (tagOf the-type w)) (sym x) t))
+          go false q x y =
+              absurd (⊎-elim (λ z. omega arith) (λ z. omega arith) (subst (λ (w : WrittenLine). OneOf (1 ∷ (2 ∷ [])) (tagOf the-type w)) (sym x) t))
 
       -- several lines: whether the first of them has room decides
       pub lines-by-room : (b : Bool) → ltb (length lent) (length (lineAt d ws i)) ≡ b

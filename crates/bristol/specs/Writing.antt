@@ -11,13 +11,13 @@ use Rattle.refusals.specs.Numbers.{numberOf}
 use Rattle.dimensions.specs.declared.Dimensions.{Dimensions}
 use Rattle.dimensions.specs.Sizes.{sizeChecks, inputWires}
 use Rattle.gates.specs.Memory.{gatesOf, accepted, over}
-use Rattle.bristol.specs.declared.Written.{Written}
-use Rattle.bristol.specs.declared.Written.the-variants.{Line, Past, Refused}
+use Rattle.bristol.specs.declared.WrittenLine.{WrittenLine}
+use Rattle.bristol.specs.declared.WrittenLine.the-variants.{Line, Past, Refused}
 use Rattle.bristol.specs.declared.WrittenLines.{WrittenLines}
 use Rattle.bristol.specs.declared.WrittenLines.the-variants as lines
 use Rattle.bristol.specs.Text.{circuitLines}
 
--- 1, 2, 9: words that are no gates behind the inputs
+-- 1, 2, 9: words that are no gates after the inputs
 abbrev pub circuitChecks : Dimensions → List ℕ → List Check
 circuitChecks d words = sizeChecks d ++ (check (not (accepted (inputWires d) words)) Gates ∷ [])
 
@@ -30,29 +30,29 @@ abbrev pub lineChecks : Dimensions → List ℕ → ℕ → List ℕ → List Ch
 lineChecks d words number lent = circuitChecks d words ++ (check (ltb (length lent) (length (lineAt d words number))) LineBuffer ∷ [])
 
 -- the line's length, or that the number is past the last line, or the refusal
-abbrev pub writtenLine : Dimensions → List ℕ → ℕ → List ℕ → Written
+abbrev pub writtenLine : Dimensions → List ℕ → ℕ → List ℕ → WrittenLine
 writtenLine d words number lent =
     given (outcome (lineChecks d words number lent))
     (cond (ltb number (length (circuitLines d (gatesOf words)))) (Line (length (lineAt d words number))) Past) Refused
 
 -- what the line writer returns: 0, or 1, 2, 9 or 11 of "Turned back because of the input"
-abbrev pub lineCode : Written → ℕ
+abbrev pub lineCode : WrittenLine → ℕ
 lineCode (Line length) = 0
 lineCode Past = 0
 lineCode (Refused r) = numberOf r
 
 -- the length of the line; "asked past the last line it writes no byte and says so": 0
-abbrev pub lineNumbers : Written → List ℕ
+abbrev pub lineNumbers : WrittenLine → List ℕ
 lineNumbers (Line length) = length ∷ []
 lineNumbers Past = 0 ∷ []
 lineNumbers (Refused r) = []
 
--- the lent bytes afterwards: the line, then the bytes that stood there; refused, as they were
+-- the lent bytes afterwards: the line, then the bytes that were there; refused, as they were
 abbrev pub filledLine : Dimensions → List ℕ → ℕ → List ℕ → List ℕ
 filledLine d words number lent = given (outcome (lineChecks d words number lent)) (over (lineAt d words number) lent) (λ r. lent)
 
 -- what a request put in front of the lent bytes: as many as it says
-abbrev pub frontPut : Written → List ℕ → List ℕ
+abbrev pub frontPut : WrittenLine → List ℕ → List ℕ
 frontPut (Line k) bytes = take k bytes
 frontPut Past bytes = []
 frontPut (Refused r) bytes = []

@@ -1,5 +1,5 @@
-// The circuit text in Bristol Fashion, one line or as many as fit (document 01, "Circuit"). Turned back: 1, 2, 9, then 11.
-use bristol_line::Line;
+// The circuit text in Bristol Fashion, one line or as many as fit (document 01, "Circuit"). Refusals: 1, 2, 9, then 11.
+use bristol_line::CircuitLine;
 use dimensions::Dimensions;
 use refusals::Outcome;
 use refusals::Refusal;
@@ -11,14 +11,14 @@ ghost use Rattle.refusals.specs.Checks.{outcome};
 ghost use Rattle.refusals.specs.Numbers.{said};
 ghost use Rattle.refusals.specs.declared.Outcome.the-variants.{Taken};
 ghost use Rattle.gates.specs.Memory as Memory;
-ghost use Rattle.bristol_line.specs.ByValue.{lineOf};
+ghost use Rattle.bristol_line.specs.ByValue.{circuitLineOf};
 ghost use Rattle.bristol.specs.Text.{gateLines};
 ghost use Rattle.bristol.specs.Writing as Writing;
 ghost use Rattle.bristol.specs.Writing.{circuitChecks, lineAt, writtenLine, lineCode, lineNumbers, filledLine, linesAt, writtenLines};
 ghost use Rattle.bristol.specs.Writing.{linesCode, linesNumbers, filledLines};
 
 // What became of a line that was asked for: written, with its length; none, the number being past the last line; or why not.
-pub enum Written {
+pub enum WrittenLine {
     Line(usize),
     Past,
     Refused(Refusal),
@@ -26,19 +26,19 @@ pub enum Written {
 
 // Writes the line of a number, from 0, with its LF to the front of the bytes; later bytes stay as they are. Refused, or asked past the last
 // line, it changes no byte.
-pub fn write_line(d: Dimensions, gates: &[u32], line: usize, bytes: &mut [u8]) -> Written
+pub fn write_line(d: Dimensions, gates: &[u32], line: usize, bytes: &mut [u8]) -> WrittenLine
     ensures { λ r. ⌜ r ≡ writtenLine d (now (gates .entry)) line (now (bytes .entry)) ⌝ }
     ensures { λ _. ⌜ now (bytes .exit) ≡ filledLine d (now (gates .entry)) line (now (bytes .entry)) ⌝ }
     ensures { λ r.
         ⌜ lineCode r ∷ lineNumbers r ≡ said (outcome (Writing.lineChecks d (now (gates .entry)) line (now (bytes .entry))))
         (length (lineAt d (now (gates .entry)) line) ∷ []) ⌝ }
 {
-    match check(d, gates) {
+    match check_circuit(d, gates) {
         Outcome::Taken => {}
-        Outcome::Refused(refusal) => return Written::Refused(refusal),
+        Outcome::Refused(refusal) => return WrittenLine::Refused(refusal),
     }
     if 4 + gates.len() / 3 <= line {
-        return Written::Past;
+        return WrittenLine::Past;
     }
     put_line(d, gates, line, bytes)
 }
@@ -60,14 +60,14 @@ pub fn write_lines(d: Dimensions, gates: &[u32], line: usize, bytes: &mut [u8]) 
         (length (linesAt d (now (gates .entry)) line (now (bytes .entry)))
         ∷ (length (flatten (linesAt d (now (gates .entry)) line (now (bytes .entry)))) ∷ [])) ⌝ }
 {
-    match check(d, gates) {
+    match check_circuit(d, gates) {
         Outcome::Taken => {}
         Outcome::Refused(refusal) => return WrittenLines::Refused(refusal),
     }
     put_lines(d, gates, line, bytes)
 }
 
-// The lines of accepted gates' text from a number on, put one behind the other while they fit: 11 if not even the first does.
+// The lines of accepted gates' text from a number on, put one after the other while they fit: 11 if not even the first does.
 fn put_lines(d: Dimensions, gates: &[u32], line: usize, bytes: &mut [u8]) -> WrittenLines
     requires { ⌜ outcome (circuitChecks d (now gates)) ≡ Taken ⌝ }
     ensures { λ r. ⌜ r ≡ writtenLines d (now (gates .entry)) line (now (bytes .entry)) ⌝ }
@@ -76,7 +76,7 @@ fn put_lines(d: Dimensions, gates: &[u32], line: usize, bytes: &mut [u8]) -> Wri
     let mut next = line;
     let mut at = 0;
     while next < 4 + gates.len() / 3 {
-        let Written::Line(length) = put_line(d, gates, next, &mut bytes[at..]) else {
+        let WrittenLine::Line(length) = put_line(d, gates, next, &mut bytes[at..]) else {
             if next == line {
                 return WrittenLines::Refused(Refusal::LineBuffer);
             }
@@ -89,7 +89,7 @@ fn put_lines(d: Dimensions, gates: &[u32], line: usize, bytes: &mut [u8]) -> Wri
 }
 
 // A line of accepted gates' text put to the front of the bytes, if it fits: 11 if not.
-fn put_line(d: Dimensions, gates: &[u32], line: usize, bytes: &mut [u8]) -> Written
+fn put_line(d: Dimensions, gates: &[u32], line: usize, bytes: &mut [u8]) -> WrittenLine
     requires { ⌜ outcome (circuitChecks d (now gates)) ≡ Taken ⌝ }
     requires { ⌜ line < 4 + length (now gates) / 3 ⌝ }
     ensures { λ r. ⌜ r ≡ writtenLine d (now (gates .entry)) line (now (bytes .entry)) ⌝ }
@@ -98,15 +98,15 @@ fn put_line(d: Dimensions, gates: &[u32], line: usize, bytes: &mut [u8]) -> Writ
     let text = line_text(d, gates, line);
     let length = text.length;
     if bytes.len() < length {
-        return Written::Refused(Refusal::LineBuffer);
+        return WrittenLine::Refused(Refusal::LineBuffer);
     }
     let own = text.bytes;
     bytes::copy(&own[..length], bytes);
-    Written::Line(length)
+    WrittenLine::Line(length)
 }
 
 // Whether dimensions and gates are a circuit's: 1, 2 or 9 if not.
-fn check(d: Dimensions, gates: &[u32]) -> Outcome
+fn check_circuit(d: Dimensions, gates: &[u32]) -> Outcome
     ensures { λ r. ⌜ r ≡ outcome (circuitChecks d (now (gates .entry))) ⌝ }
 {
     match d.check() {
@@ -120,27 +120,27 @@ fn check(d: Dimensions, gates: &[u32]) -> Outcome
 }
 
 // A line of accepted gates' text.
-fn line_text(d: Dimensions, gates: &[u32], line: usize) -> Line
+fn line_text(d: Dimensions, gates: &[u32], line: usize) -> CircuitLine
     requires { ⌜ outcome (circuitChecks d (now gates)) ≡ Taken ⌝ }
     requires { ⌜ line < 4 + length (now gates) / 3 ⌝ }
-    ensures { λ r. ⌜ r ≡ lineOf (lineAt d (now (gates .entry)) line) ⌝ }
+    ensures { λ r. ⌜ r ≡ circuitLineOf (lineAt d (now (gates .entry)) line) ⌝ }
 {
     let inputs = d.input_wires();
     match line {
-        0 => Line::sizes(gates.len() / 3, inputs + gates.len() / 3),
-        1 => Line::inputs(d),
-        2 => Line::outputs(d),
-        3 => Line::blank(),
+        0 => CircuitLine::sizes(gates.len() / 3, inputs + gates.len() / 3),
+        1 => CircuitLine::inputs(d),
+        2 => CircuitLine::outputs(d),
+        3 => CircuitLine::blank(),
         _ => gate_text(gates, inputs, line - 4),
     }
 }
 
 // The line of the gate of a number, from 0.
-fn gate_text(gates: &[u32], inputs: usize, number: usize) -> Line
+fn gate_text(gates: &[u32], inputs: usize, number: usize) -> CircuitLine
     requires { ⌜ inputs < 2 ^ 62 ⌝ }
     requires { ⌜ number < length (now gates) / 3 ⌝ }
-    ensures { λ r. ⌜ r ≡ lineOf (getD (gateLines inputs (Memory.gatesOf (now (gates .entry)))) number []) ⌝ }
+    ensures { λ r. ⌜ r ≡ circuitLineOf (getD (gateLines inputs (Memory.gatesOf (now (gates .entry)))) number []) ⌝ }
 {
     let at = 3 * number;
-    Line::gate(gates[at], gates[at + 1], gates[at + 2], inputs + number)
+    CircuitLine::gate(gates[at], gates[at + 1], gates[at + 2], inputs + number)
 }

@@ -14,9 +14,9 @@ use Rattle.dimensions.specs.declared.Dimensions.{Dimensions}
 use Rattle.dimensions.specs.Sizes.{stateWires}
 use Rattle.gates.specs.Gates.{Gate}
 use Rattle.gates.specs.Gates.Gate.{XOR, AND, INV}
-use Rattle.bristol_line.specs.declared.Line.{Line}
+use Rattle.bristol_line.specs.declared.CircuitLine.{CircuitLine}
 use Rattle.bristol_line.specs.Lines.{line, sizeLine, threeValues, fourValues, inputLine, outputLine, gateLine}
-use Rattle.bristol_line.specs.ByValue.{lineOf}
+use Rattle.bristol_line.specs.ByValue.{circuitLineOf}
 
 -- fields of at most 20 bytes
 abbrev Short : List (List ℕ) → Type 0
@@ -72,16 +72,16 @@ gate-length wire (INV a) =
 -- ---- by value
 
 -- a line by value and the bytes that it holds
-pub record Holds (text : Line) (l : List ℕ) : Type 0 where
+pub record Holds (text : CircuitLine) (l : List ℕ) : Type 0 where
   pub size : text .length ≡ length l
   pub short : text .length ≤ length (text .bytes)
   pub front : take (text .length) (text .bytes) ≡ l
 
 -- the line by value of at most 127 bytes holds them
-pub holds : (text : Line) (l : List ℕ) → text ≡ lineOf l → length l ≤ 127 → Holds text l
+pub holds : (text : CircuitLine) (l : List ℕ) → text ≡ circuitLineOf l → length l ≤ 127 → Holds text l
 holds text l e h =
-    let size : text .length ≡ length l = ap (λ (t : Line). t .length) e in
-    let bytes : text .bytes ≡ sets (replicate 128 0) 0 l = ap (λ (t : Line). t .bytes) e in record {
+    let size : text .length ≡ length l = ap (λ (t : CircuitLine). t .length) e in
+    let bytes : text .bytes ≡ sets (replicate 128 0) 0 l = ap (λ (t : CircuitLine). t .bytes) e in record {
       size = size;
       short = omega (arith, size, ap length bytes ∙ length-sets (replicate 128 0) 0 l);
       front = ap₂ take size (bytes ∙ sets-eq l (replicate 128 0) 0 (omega arith)) ∙ take-append-seam l (drop (0 + length l) (replicate 128 0));

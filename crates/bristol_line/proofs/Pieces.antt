@@ -1,4 +1,4 @@
--- Pieces written one behind the other are a line: their stores are one run of stores.
+-- Pieces written one after the other are a line: their stores are one run of stores.
 use mathlib.Core.Path.{_≡_, refl, sym, ap, ap₂, _∙_}
 use mathlib.Core.List.{List, [], _∷_, _++_}
 use Prim.Native.Nat.{ℕ, _+_, _*_, _/_, _%_, _^_, _≤_, _<_}
@@ -10,7 +10,7 @@ use Rattle.words.proofs.Stores.{sets-append}
 use Rattle.dimensions.proofs.Products.{product}
 use Rattle.text.specs.Decimal.{decimal}
 use Rattle.text.proofs.Decimals.{decimal-digit, decimal-step}
-use Rattle.bristol_line.specs.ByValue.{lineOf}
+use Rattle.bristol_line.specs.ByValue.{circuitLineOf}
 
 -- a piece written to a list from a place on: the list then, and the place behind it
 abbrev pub Piece : List ℕ → ℕ → List ℕ → ℕ → List ℕ → Type 0
@@ -83,7 +83,7 @@ abbrev pub zeros : List ℕ
 zeros = replicate 128 0
 
 -- pieces that are the line
-pub made : (front line out : List ℕ) (end : ℕ) → Piece zeros 0 out end front → front ≡ line → record { bytes = out; length = end } ≡ lineOf line
+pub made : (front line out : List ℕ) (end : ℕ) → Piece zeros 0 out end front → front ≡ line → record { bytes = out; length = end } ≡ circuitLineOf line
 made front line out end p e =
     let bytes : out ≡ sets zeros 0 line = p .1 ∙ ap (sets zeros 0) e in
     let size : end ≡ length line = omega (arith, p .0, ap length e) in

@@ -5,11 +5,11 @@ use lib.ListN.{length, replicate}
 use lib.Seq.{sets}
 use Rattle.text.specs.Decimal.{decimal}
 use Rattle.dimensions.specs.declared.Dimensions.{Dimensions}
-use Rattle.bristol_line.specs.declared.Line.{Line}
+use Rattle.bristol_line.specs.declared.CircuitLine.{CircuitLine}
 
--- the line of these bytes, zeros behind them
-abbrev pub lineOf : List ℕ → Line
-lineOf bytes = record { bytes = sets (replicate 128 0) 0 bytes; length = length bytes }
+-- the line of these bytes, zeros after them
+abbrev pub circuitLineOf : List ℕ → CircuitLine
+circuitLineOf bytes = record { bytes = sets (replicate 128 0) 0 bytes; length = length bytes }
 
 -- a number and a space
 abbrev pub spaced : ℕ → List ℕ

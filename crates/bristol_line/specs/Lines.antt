@@ -1,4 +1,5 @@
 -- The lines of the circuit text, Bristol Fashion: document 01, "Circuit".
+-- Ask: Is the text Bristol Fashion?
 use Prim.Native.Nat.{ℕ, _*_}
 use mathlib.Core.Bool.{cond}
 use mathlib.Core.List.{List, [], _∷_, _++_}

@@ -11,28 +11,28 @@ ghost use Rattle.text.specs.Decimal.{decimal};
 ghost use Rattle.gates.specs.Memory.{gateOf};
 ghost use Rattle.gates.specs.Gates.Gate.{INV};
 ghost use Rattle.bristol_line.specs.Lines.{line, sizeLine, threeValues, fourValues, inputLine, outputLine, gateLine};
-ghost use Rattle.bristol_line.specs.ByValue.{lineOf, stations};
+ghost use Rattle.bristol_line.specs.ByValue.{circuitLineOf, stations};
 
 // The first `length` bytes are the line, its LF with them.
-pub struct Line {
+pub struct CircuitLine {
     pub bytes: [u8; 128],
     pub length: usize,
 }
 
-impl Line {
+impl CircuitLine {
     // The first header line: how many gates and wires there are.
     pub fn sizes(gates: usize, wires: usize) -> Self
-        ensures { λ r. ⌜ r ≡ lineOf (sizeLine gates wires) ⌝ }
+        ensures { λ r. ⌜ r ≡ circuitLineOf (sizeLine gates wires) ⌝ }
     {
         let mut bytes = [0u8; 128];
         let second = put_field(gates, b' ', &mut bytes, 0);
         let length = put_field(wires, b'\n', &mut bytes, second);
-        Line { bytes, length }
+        CircuitLine { bytes, length }
     }
 
     // The second header line: the input values, three where there are no public rows, and else four.
     pub fn inputs(d: Dimensions) -> Self
-        ensures { λ r. ⌜ r ≡ lineOf (inputLine d) ⌝ }
+        ensures { λ r. ⌜ r ≡ circuitLineOf (inputLine d) ⌝ }
     {
         if d.public == 0 {
             return three_values(d);
@@ -42,27 +42,27 @@ impl Line {
 
     // The third header line: the two output values.
     pub fn outputs(d: Dimensions) -> Self
-        ensures { λ r. ⌜ r ≡ lineOf (outputLine d) ⌝ }
+        ensures { λ r. ⌜ r ≡ circuitLineOf (outputLine d) ⌝ }
     {
         let mut bytes = [0u8; 128];
         let state = put_field(2, b' ', &mut bytes, 0);
         let closing = put_field(d.state_wires(), b' ', &mut bytes, state);
         let length = put_field(1, b'\n', &mut bytes, closing);
-        Line { bytes, length }
+        CircuitLine { bytes, length }
     }
 
     // The blank line.
     pub fn blank() -> Self
-        ensures { λ r. ⌜ r ≡ lineOf (line []) ⌝ }
+        ensures { λ r. ⌜ r ≡ circuitLineOf (line []) ⌝ }
     {
         let mut bytes = [0u8; 128];
         bytes[0] = b'\n';
-        Line { bytes, length: 1 }
+        CircuitLine { bytes, length: 1 }
     }
 
     // The line of a gate of three words that drives a wire.
     pub fn gate(kind: u32, a: u32, b: u32, wire: usize) -> Self
-        ensures { λ r. ⌜ r ≡ lineOf (gateLine wire (gateOf kind a b)) ⌝ }
+        ensures { λ r. ⌜ r ≡ circuitLineOf (gateLine wire (gateOf kind a b)) ⌝ }
     {
         match kind {
             0 => two_inputs(a as usize, b as usize, wire, b"XOR\n"),
@@ -73,28 +73,28 @@ impl Line {
 }
 
 // The second header line without a value for public rows.
-fn three_values(d: Dimensions) -> Line
-    ensures { λ r. ⌜ r ≡ lineOf (line (threeValues d)) ⌝ }
+fn three_values(d: Dimensions) -> CircuitLine
+    ensures { λ r. ⌜ r ≡ circuitLineOf (line (threeValues d)) ⌝ }
 {
     let mut bytes = [0u8; 128];
     let state = put_stations(3, d, &mut bytes);
     let length = put_field(d.state_wires(), b'\n', &mut bytes, state);
-    Line { bytes, length }
+    CircuitLine { bytes, length }
 }
 
 // The second header line with it, before the state.
-fn four_values(d: Dimensions) -> Line
-    ensures { λ r. ⌜ r ≡ lineOf (line (fourValues d)) ⌝ }
+fn four_values(d: Dimensions) -> CircuitLine
+    ensures { λ r. ⌜ r ≡ circuitLineOf (line (fourValues d)) ⌝ }
 {
     let mut bytes = [0u8; 128];
     let public = put_stations(4, d, &mut bytes);
     let width = 2 * (d.n as usize) * (d.public as usize);
     let state = put_field(width, b' ', &mut bytes, public);
     let length = put_field(d.state_wires(), b'\n', &mut bytes, state);
-    Line { bytes, length }
+    CircuitLine { bytes, length }
 }
 
-// Writes the number of values and the widths of the stations' rows, each with a space behind it; the place behind them.
+// Writes the number of values and the widths of the stations' rows, each followed by a space; the place after them.
 fn put_stations(count: usize, d: Dimensions, bytes: &mut [u8; 128]) -> usize
     ensures { λ r. ⌜ r ≤ 63 ⌝ }
     ensures { λ r. ⌜ r ≡ length (stations count d) ⌝ }
@@ -107,10 +107,10 @@ fn put_stations(count: usize, d: Dimensions, bytes: &mut [u8; 128]) -> usize
 }
 
 // The line of a gate of two inputs; the kind has its LF with it.
-fn two_inputs(a: usize, b: usize, wire: usize, kind: &[u8; 4]) -> Line
+fn two_inputs(a: usize, b: usize, wire: usize, kind: &[u8; 4]) -> CircuitLine
     requires { ⌜ length (now kind) ≡ 4 ⌝ }
     ensures { λ r.
-        ⌜ r ≡ lineOf (Spelling.bytes "2 1 " ++ decimal a ++ (32 ∷ decimal b ++ (32 ∷ decimal wire ++ (32 ∷ now (kind .entry))))) ⌝ }
+        ⌜ r ≡ circuitLineOf (Spelling.bytes "2 1 " ++ decimal a ++ (32 ∷ decimal b ++ (32 ∷ decimal wire ++ (32 ∷ now (kind .entry))))) ⌝ }
 {
     let mut bytes = [0u8; 128];
     let first = put(b"2 1 ", &mut bytes, 0);
@@ -118,22 +118,22 @@ fn two_inputs(a: usize, b: usize, wire: usize, kind: &[u8; 4]) -> Line
     let output = put_field(b, b' ', &mut bytes, second);
     let name = put_field(wire, b' ', &mut bytes, output);
     let length = put(kind, &mut bytes, name);
-    Line { bytes, length }
+    CircuitLine { bytes, length }
 }
 
 // The line of a gate of one input.
-fn one_input(a: usize, wire: usize) -> Line
-    ensures { λ r. ⌜ r ≡ lineOf (gateLine wire (INV a)) ⌝ }
+fn one_input(a: usize, wire: usize) -> CircuitLine
+    ensures { λ r. ⌜ r ≡ circuitLineOf (gateLine wire (INV a)) ⌝ }
 {
     let mut bytes = [0u8; 128];
     let first = put(b"1 1 ", &mut bytes, 0);
     let output = put_field(a, b' ', &mut bytes, first);
     let name = put_field(wire, b' ', &mut bytes, output);
     let length = put(b"INV\n", &mut bytes, name);
-    Line { bytes, length }
+    CircuitLine { bytes, length }
 }
 
-// Writes four bytes from a place on; the place behind them. So do the next two, with other pieces of a line.
+// Writes four bytes from a place on; the place after them. So do the next two, with other pieces of a line.
 fn put(more: &[u8; 4], bytes: &mut [u8; 128], at: usize) -> usize
     requires { ⌜ length (now more) ≡ 4 ⌝ }
     requires { ⌜ at + 4 ≤ 128 ⌝ }
@@ -162,7 +162,7 @@ fn put_number(x: usize, bytes: &mut [u8; 128], at: usize) -> usize
     last + 1
 }
 
-// A number and a byte behind it, a space or LF.
+// A number and the byte after it, a space or LF.
 fn put_field(x: usize, behind: u8, bytes: &mut [u8; 128], at: usize) -> usize
     requires { ⌜ at + 20 < 128 ⌝ }
     ensures { λ r. ⌜ r ≤ at + 21 ⌝ }

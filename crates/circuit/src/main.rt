@@ -2,7 +2,7 @@
 use libc::STDIN_FILENO;
 use libc::STDOUT_FILENO;
 
-// Reads the line and writes what `listing` gives for it. A write that fails ends the program: nothing is printed behind it.
+// Reads the line and writes what `listing` gives for it. A write that fails ends the program: nothing is printed after it.
 fn main() {
     let mut line = [0u8; 101];
     let mut bytes = [0u8; listing::ROOM];

@@ -86,7 +86,7 @@ module _ (n rows words space : ℕ) (b : Bool) (last : Refusal) where
     pub take-last : b ≡ false → Taken ≡ outcome (bufferChecks n rows words space ++ check b last ∷ [])
     take-last h = sym (outcome-taken (bufferChecks n rows words space) (check b last ∷ []) e ∙ rw h)
 
--- what stands in the lent words afterwards
+-- what the lent words hold afterwards
 module _ (n rows : ℕ) (table planes : List ℕ) where
   pub columns-refused : (r : Refusal) → Refused r ≡ outcome (columnChecks n rows table (length planes)) → planes ≡ columnsAfter n rows table planes
   unfolding columnsAfter

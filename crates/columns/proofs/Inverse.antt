@@ -1,4 +1,4 @@
--- Planes turned back are the table that they were made from. Word by word, and bit by bit.
+-- Planes turned into rows again are the table that they were made from. Word by word, and bit by bit.
 use mathlib.Core.Path.{_≡_, sym, ap, _∙_, subst}
 use mathlib.Core.List.{List, [], _++_}
 use Prim.Native.Nat.{ℕ, zero, suc, _+_, _*_, _/_, _%_, _^_, _≤_, _<_}
@@ -18,7 +18,7 @@ pub bit-column : (words : List ℕ) (i j : ℕ) → j < 32 → bit (column words
 unfolding column
 bit-column words i j h = bit-wordOf (λ j. bit (getD words j 0) i) 32 j h
 
--- ---- where a word stands
+-- ---- where a word is
 
 -- in a square
 at-flat : (table : List ℕ) (s sign i : ℕ) → sign < 2 → i < 32 → getD (flat (squareAt table s)) (32 * sign + i) 0 ≡ column (signWords table s sign) i
@@ -86,7 +86,7 @@ module _ (table : List ℕ) (small : (q : ℕ) → getD table q 0 < 2 ^ 32) (k :
 
 -- ---- the whole table
 
--- the planes of a table give its rows back, whatever words stand in them
+-- the planes of a table give its rows back, whatever words they hold
 pub table-back : (rows : ℕ) (table : List ℕ) → 2 * rows ≤ length table → ((q : ℕ) → getD (take (2 * rows) table) q 0 < 2 ^ 32)
     → tableFrom rows (planesOf rows table) ≡ take (2 * rows) table
 unfolding tableFrom planesOf

@@ -1,4 +1,4 @@
--- Planes looked through for bits beyond the row count or beyond n: a plane's words up to variable n have one limit, those behind it another.
+-- Planes looked through for bits beyond the row count or beyond n: a plane's words up to variable n have one limit, those after it another.
 use mathlib.Core.Path.{_≡_, refl, sym, ap, ap₂, _∙_}
 use mathlib.Core.Bool.{Bool, true, false, not, _&&_, _||_, cond}
 use mathlib.Core.List.{List}

@@ -1,4 +1,5 @@
 -- A table by columns and back: document 02, "Columns before rows", refusals 1, 2, 4, and then 3 for rows and 24 for planes.
+-- Ask: Is 24 judged in the squares alone, beyond the count and beyond n, and after 4?
 use Prim.Native.Nat.{ℕ, _+_, _-_, _*_, _/_, _%_, _^_}
 use mathlib.Core.Bool.{Bool, not, _||_, cond}
 use mathlib.Core.List.{List, [], _∷_, _++_}
@@ -24,7 +25,7 @@ bufferChecks n rows words space =
 abbrev pub columnChecks : ℕ → ℕ → List ℕ → ℕ → List Check
 columnChecks n rows table space = bufferChecks n rows (length table) space ++ check (high n rows table) RowBit ∷ []
 
--- the lent planes afterwards: those of the table, then what stood there; refused, as they were
+-- the lent planes afterwards: those of the table, then what was there; refused, as they were
 unfoldable pub columnsAfter : ℕ → ℕ → List ℕ → List ℕ → List ℕ
 columnsAfter n rows table planes =
     given (outcome (columnChecks n rows table (length planes))) (sets planes 0 (planesOf rows table)) (λ r. planes)
@@ -47,7 +48,7 @@ stray n rows planes = any (strayWord n rows planes) (64 * squareCount rows)
 abbrev pub rowChecks : ℕ → ℕ → List ℕ → ℕ → List Check
 rowChecks n rows planes words = bufferChecks n rows words (length planes) ++ check (stray n rows planes) PlaneBits ∷ []
 
--- the lent table afterwards: the rows of the planes, then what stood there; refused, as it was
+-- the lent table afterwards: the rows of the planes, then what was there; refused, as it was
 unfoldable pub rowsAfter : ℕ → ℕ → List ℕ → List ℕ → List ℕ
 unfolding stray tableFrom
 rowsAfter n rows planes table = given (outcome (rowChecks n rows planes (length table))) (sets table 0 (tableFrom rows planes)) (λ r. table)

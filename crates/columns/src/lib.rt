@@ -1,5 +1,5 @@
-// Tables by columns, in squares of 32 rows by 32 variables, and back (document 02, "Columns before rows"). Turned back by 1, 2, 4, and then
-// by 3 for rows and by 24 for planes.
+// Tables by columns, in squares of 32 rows by 32 variables, and back (document 02, "Columns before rows"). Refusals: 1, 2, 4, and then 3
+// for rows and 24 for planes.
 use dimensions::Dimensions;
 use refusals::Outcome;
 use refusals::Refusal;
@@ -39,7 +39,7 @@ fn put_square(planes: &mut [u32], at: usize, square: Square)
     put_plane(planes, at + 32, negative);
 }
 
-// Writes k squares of a table, one behind the other.
+// Writes k squares of a table, one after the other.
 fn put_squares(table: &[u32], k: usize, planes: &mut [u32])
     requires { ⌜ (k ≤ 4) × (64 * k ≤ length (now planes)) ⌝ }
     ensures { λ _. ⌜ now (planes .exit) ≡ sets (now (planes .entry)) 0 (squaresFrom (now (table .entry)) 0 k) ⌝ }
@@ -50,7 +50,7 @@ fn put_squares(table: &[u32], k: usize, planes: &mut [u32])
     }
 }
 
-// Whether n and the row count are within their limits, and so many words of a table and of planes are enough: 1, 2 or 4 if not.
+// Whether n and the row count are within their limits, and the words lent for the table and the planes are enough: 1, 2 or 4 if not.
 fn check_buffers(n: usize, rows: usize, words: usize, space: usize) -> Outcome
     ensures { λ r. ⌜ r ≡ outcome (bufferChecks n rows words space) ⌝ }
 {
@@ -66,15 +66,14 @@ fn check_buffers(n: usize, rows: usize, words: usize, space: usize) -> Outcome
     Outcome::Taken
 }
 
-// Writes the planes of a table of n variables and so many rows over the front of the lent ones: 1, 2, 4 or 3 if it is turned back, and the
+// Writes the planes of a table of n variables and `rows` rows over the front of the lent ones: 1, 2, 4 or 3 if it is refused, and the
 // planes are then as they were. Words past the squares stay, and the table's past its rows are not looked at.
 pub fn to_planes(n: usize, rows: usize, table: &[u32], planes: &mut [u32]) -> Outcome
     ensures { λ r. ⌜ r ≡ outcome (columnChecks n rows (now (table .entry)) (length (now (planes .entry)))) ⌝ }
     ensures { λ _. ⌜ now (planes .exit) ≡ columnsAfter n rows (now (table .entry)) (now (planes .entry)) ⌝ }
     ensures { λ r. ⌜ codeOf r ∷ [] ≡ said (outcome (columnChecks n rows (now (table .entry)) (length (now (planes .entry))))) [] ⌝ }
 {
-    let sizes = check_buffers(n, rows, table.len(), planes.len());
-    match sizes {
+    match check_buffers(n, rows, table.len(), planes.len()) {
         Outcome::Taken => {}
         Outcome::Refused(refusal) => return Outcome::Refused(refusal),
     }
@@ -97,7 +96,7 @@ fn put_rows(table: &mut [u32], at: usize, k: usize, rows: Square)
     }
 }
 
-// How many of those left a square takes, which takes at most so many.
+// How many of the words left a square takes, which takes `most` at most.
 fn share(left: usize, most: usize) -> usize
     ensures { λ r. ⌜ r ≡ cond (ltb left most) left most ⌝ }
 {
@@ -117,8 +116,8 @@ fn put_table(planes: &[u32], rows: usize, table: &mut [u32])
     }
 }
 
-// Whether plane p, two a square, has a bit beyond the row count or beyond n. Words of one limit stand side by side, so that the compiler
-// may take several at once.
+// Whether plane p, two a square, has a bit beyond the row count or beyond n. Words of one limit are side by side, so that the compiler may
+// take several at once.
 fn plane_stray(n: usize, rows: usize, planes: &[u32], p: usize) -> bool
     requires { ⌜ (n ≤ 32) × (32 * (p / 2) ≤ rows) × (rows ≤ 128) × (32 * p + 32 ≤ length (now planes)) ⌝ }
     ensures { λ r. ⌜ r ≡ any (λ i. strayWord n rows (now (planes .entry)) (32 * p + i)) 32 ⌝ }
@@ -144,15 +143,14 @@ fn has_stray(n: usize, rows: usize, planes: &[u32]) -> bool
     false
 }
 
-// Writes the rows of the planes of a table of n variables and so many rows over the front of the lent table: 1, 2, 4 or 24 if they are
-// turned back, and the table is then as it was. Words past the rows stay, and those past the squares are not looked at.
+// Writes the rows of the planes of a table of n variables and `rows` rows over the front of the lent table: 1, 2, 4 or 24 if they are
+// refused, and the table is then as it was. Words past the rows stay, and those past the squares are not looked at.
 pub fn from_planes(n: usize, rows: usize, planes: &[u32], table: &mut [u32]) -> Outcome
     ensures { λ r. ⌜ r ≡ outcome (rowChecks n rows (now (planes .entry)) (length (now (table .entry)))) ⌝ }
     ensures { λ _. ⌜ now (table .exit) ≡ rowsAfter n rows (now (planes .entry)) (now (table .entry)) ⌝ }
     ensures { λ r. ⌜ codeOf r ∷ [] ≡ said (outcome (rowChecks n rows (now (planes .entry)) (length (now (table .entry))))) [] ⌝ }
 {
-    let sizes = check_buffers(n, rows, table.len(), planes.len());
-    match sizes {
+    match check_buffers(n, rows, table.len(), planes.len()) {
         Outcome::Taken => {}
         Outcome::Refused(refusal) => return Outcome::Refused(refusal),
     }

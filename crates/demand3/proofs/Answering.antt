@@ -1,6 +1,5 @@
--- A host that calls `repeat` on the fresh run with the budget as the times gets the budgeted run's answer: the call's repeats are demand 3's, every attempt is
--- long
--- enough, so they reach the end, and there the demand says so.
+-- A host that calls `repeat` on the fresh run with the budget as the times gets the budgeted run's answer: the call's repeats are demand
+-- 3's, every attempt is long enough, so they reach the end, and there the demand says so.
 use mathlib.Core.Path.{_≡_, refl, sym, ap, _∙_}
 use mathlib.Core.Bool.{true}
 use mathlib.Core.List.{List}

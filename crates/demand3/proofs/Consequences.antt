@@ -1,6 +1,5 @@
--- What follows from demand 3, each from its statement alone: a closed state that stays, the run after every repeat, the marks and the answer at the end, and
--- two
--- hosts that see the same. Each part of `Demand3` is used, so that none can be left out or weakened.
+-- What follows from demand 3, each from its statement alone: a closed state that stays, the run after every repeat, the marks and the
+-- answer at the end, and two hosts that see the same. Each part of `Demand3` is used, so that none can be left out or weakened.
 use mathlib.Core.Path.{_≡_, refl, sym, ap, ap₂, _∙_}
 use mathlib.Core.Bool.{Bool, true, false, true≢false}
 use mathlib.Core.List.{List, [], _∷_, _++_}
@@ -34,7 +33,7 @@ use Rattle.wires.specs.Layout.{stateBits}
 use Rattle.wires.specs.Packing.{inputBits}
 use Rattle.netlist.specs.Netlist.{gatesOn}
 use Rattle.netlist.specs.Outputs.{closed, outputBits, outputsIn}
-use Rattle.bristol.specs.declared.Written.the-variants.{Past}
+use Rattle.bristol.specs.declared.WrittenLine.the-variants.{Past}
 use Rattle.bristol.specs.Writing.{lineAt, writtenLine, requested}
 use Rattle.repeats.specs.Repeats.{Attempt, Lent, Repeat, circuitWords, marks, lastRun, repeatsEnded, longEnough, longOnes}
 use Rattle.demand3.proofs.Histories.{repeated, repeated-length, repeated-at}

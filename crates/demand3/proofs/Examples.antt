@@ -1,8 +1,6 @@
--- Demand 3 on small tables of two variables and a row each: the marks of a marked instance of document 01, two pairs of tables that are seen alike, and two
--- that
--- differ in one mark; then two pairs with one public row that are seen alike, and a pair with another that is not. What the plain run does is computed, the
--- rest
--- is what follows from the demand's statement.
+-- Demand 3 on small tables of two variables and a row each: the marks of a marked instance of document 01, two pairs of tables that are
+-- seen alike, and two that differ in one mark; then two pairs with one public row that are seen alike, and a pair with another that is not.
+-- What the plain run does is computed, the rest is what follows from the demand's statement.
 use mathlib.Core.Path.{_≡_, refl, sym, ap, _∙_}
 use mathlib.Core.Bool.{Bool, true, false, true≢false}
 use mathlib.Core.List.{List, [], _∷_}

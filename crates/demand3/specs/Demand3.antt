@@ -1,4 +1,5 @@
 -- Demand 3, as one statement about the generated circuit of some dimensions: every state, history, end, text and secrecy.
+-- Ask: Is the list of attempts any list?
 use Prim.Native.Nat.{ℕ, suc, _+_, _≤_, _<_, min}
 use mathlib.Core.Path.{_≡_}
 use mathlib.Core.Bool.{Bool, true}
@@ -21,7 +22,7 @@ use Rattle.netlist.specs.Netlist.{gatesOn}
 use Rattle.netlist.specs.Outputs.{CarriesOut}
 use Rattle.answers.specs.Printed.{answerText}
 use Rattle.bristol.specs.Text.{circuitText}
-use Rattle.bristol.specs.declared.Written.the-variants.{Past}
+use Rattle.bristol.specs.declared.WrittenLine.the-variants.{Past}
 use Rattle.bristol.specs.Writing.{lineAt, writtenLine, requested}
 use Rattle.repeats.specs.Repeats.{Accepts, Attempt, Repeat, returned, circuitWords, marks, lastRun, repeats, repeatsEnded, longOnes}
 
@@ -73,7 +74,7 @@ seen d tables budget attempts =
 
 -- ---- the demand
 
--- tables of these dimensions that none of 1 to 4 turns back, at every step
+-- tables of these dimensions that none of 1 to 4 refuses, at every step
 abbrev pub AllAccepts : Dimensions → (ℕ → Tables) → Type 0
 AllAccepts d tables = (i : ℕ) → Accepts d (tables i)
 
@@ -98,8 +99,7 @@ pub record Demand3 (d : Dimensions) : Type 0 where
       → (lent : ℕ → List ℕ) → ((i : ℕ) → length (lineAt d (circuitWords d) i) ≤ length (lent i)) → (k : ℕ) → 4 + length (gatesOn d) ≤ k
       → (requested d (circuitWords d) lent 0 k ≡ circuitTextOf d) × (writtenLine d (circuitWords d) k (lent k) ≡ Past)
   -- two pairs of tables with the same public rows, wherever their replacements fell, under one budget that agree in verdict, model and
-  -- count,
-  -- each with attempts of its own
+  -- count, each with attempts of its own
   pub secrecy : (tables tables′ : ℕ → Tables) → AllAccepts d tables → AllAccepts d tables′ → SamePublic d tables tables′
       → (budget : ℕ) (attempts attempts′ : List Attempt) → answerFor d tables budget ≡ answerFor d tables′ budget
       → repeatsEnded budget (historyOf d tables budget attempts) ≡ true → repeatsEnded budget (historyOf d tables′ budget attempts′) ≡ true

@@ -1,4 +1,4 @@
-// The evaluator of circuits (document 01, "Circuit"). Turned back: 9, then 10.
+// The evaluator of circuits, large ones in one pass (document 01, "Circuit"). Refusals: 9, then 10.
 mod values;
 
 ghost use mathlib.Core.Path.{_≡_};
@@ -11,7 +11,7 @@ ghost use Rattle.refusals.specs.Numbers.{codeOf, said};
 ghost use Rattle.gates.specs.Gates.{wiresOf};
 ghost use Rattle.gates.specs.Memory as Memory;
 ghost use Rattle.two_pass.specs.Evaluation.{evaluationChecks, filledWires};
-ghost use Rattle.evaluator.specs.Held.{held, plain};
+ghost use Rattle.evaluator.specs.TrialBytes.{trialBytes, wireBytes};
 use refusals::Outcome;
 use refusals::Refusal;
 
@@ -23,8 +23,8 @@ pub fn evaluate(gates: &[u32], inputs: &[u8], wires: &mut [u8]) -> Outcome
         ⌜ codeOf r ∷ [] ≡ said (outcome (evaluationChecks (now (gates .entry)) (now (inputs .entry)) (now (wires .entry)))) [] ⌝ }
 {
     let end = inputs.len() + gates.len() / 3;
-    // Few wires do not repay a trial's array. The giant step's largest circuit has 217,129 without public rows and 317,481 with them:
-    // two arrays, so that fewer wires do not clear the larger one.
+    // Few wires do not repay a trial's array. The giant step's largest circuit has 217,129 without public rows and 317,481 with them: two
+    // arrays, so that fewer wires do not clear the larger one.
     if 8192 <= end && end <= 221184 && gates::bits(inputs) {
         return try_out(gates, inputs, wires);
     }
@@ -34,7 +34,7 @@ pub fn evaluate(gates: &[u32], inputs: &[u8], wires: &mut [u8]) -> Outcome
     two_pass::evaluate(gates, inputs, wires)
 }
 
-// Tries the gates out in an array of its own, 216 KiB on the stack.
+// Tries the gates out in its own array, 216 KiB on the stack.
 fn try_out(gates: &[u32], inputs: &[u8], wires: &mut [u8]) -> Outcome
     requires { ⌜ length (now inputs) + length (now gates) / 3 ≤ 221184 ⌝ }
     requires { ⌜ Memory.bits (now inputs) ≡ true ⌝ }
@@ -80,7 +80,7 @@ fn try_in(gates: &[u32], inputs: &[u8], scratch: &mut [u8], wires: &mut [u8]) ->
 fn load_inputs(inputs: &[u8], scratch: &mut [u8])
     requires { ⌜ length (now inputs) ≤ length (now scratch) ⌝ }
     requires { ⌜ Memory.bits (now inputs) ≡ true ⌝ }
-    ensures { λ _. ⌜ now (scratch .exit) ≡ Memory.over (held (Memory.bitsOf (now (inputs .entry)))) (now (scratch .entry)) ⌝ }
+    ensures { λ _. ⌜ now (scratch .exit) ≡ Memory.over (trialBytes (Memory.bitsOf (now (inputs .entry)))) (now (scratch .entry)) ⌝ }
 {
     if inputs.len() == 0 {
         return;
@@ -93,17 +93,17 @@ fn load_inputs(inputs: &[u8], scratch: &mut [u8])
     }
 }
 
-// Whether the words are gates behind the inputs, which are loaded; if so, runs them.
+// Whether the words are gates after the inputs, which are loaded; if so, runs them.
 fn trial(gates: &[u32], inputs: &[u8], scratch: &mut [u8]) -> bool
     requires { ⌜ length (now inputs) + length (now gates) / 3 ≤ length (now scratch) ⌝ }
-    requires { ⌜ take (length (now inputs)) (now scratch) ≡ held (Memory.bitsOf (now inputs)) ⌝ }
+    requires { ⌜ take (length (now inputs)) (now scratch) ≡ trialBytes (Memory.bitsOf (now inputs)) ⌝ }
     ensures { λ r. ⌜ r ≡ Memory.accepted (length (now (inputs .entry))) (now (gates .entry)) ⌝ }
     ensures { λ r.
         ⌜ cond r (now (scratch .exit)) []
-        ≡ cond r (Memory.over (held (wiresOf (Memory.bitsOf (now (inputs .entry))) (Memory.gatesOf (now (gates .entry)))))
+        ≡ cond r (Memory.over (trialBytes (wiresOf (Memory.bitsOf (now (inputs .entry))) (Memory.gatesOf (now (gates .entry)))))
         (now (scratch .entry))) [] ⌝ }
 {
-    let values = values::HELD;
+    let values = values::TRIAL_VALUES;
     let stop = inputs.len() + gates.len() / 3;
     let mut i = 0;
     let mut m = inputs.len();
@@ -119,7 +119,7 @@ fn trial(gates: &[u32], inputs: &[u8], scratch: &mut [u8]) -> bool
         }
         let u = 4 * kind + (scratch[b] as usize);
         let at = 4 * u + (scratch[a] as usize);
-        // A known kind, and wire 0 behind INV: only it is held below 2. One test for both spares a jump.
+        // A known kind, and wire 0 after INV: only it is held below 2. One test for both spares a jump.
         if 40 <= at {
             return false;
         }
@@ -130,11 +130,11 @@ fn trial(gates: &[u32], inputs: &[u8], scratch: &mut [u8]) -> bool
     gates.len() % 3 == 0
 }
 
-// Stores so many wires' values: the held bytes without their 2.
+// Stores the values of the first `count` wires: the trial's bytes without their 2.
 fn store_wires(scratch: &[u8], wires: &mut [u8], count: usize)
     requires { ⌜ count ≤ length (now scratch) ⌝ }
     requires { ⌜ count ≤ length (now wires) ⌝ }
-    ensures { λ _. ⌜ now (wires .exit) ≡ Memory.over (plain (take count (now (scratch .entry)))) (now (wires .entry)) ⌝ }
+    ensures { λ _. ⌜ now (wires .exit) ≡ Memory.over (wireBytes (take count (now (scratch .entry)))) (now (wires .entry)) ⌝ }
 {
     let mut i = 0;
     while i < count {

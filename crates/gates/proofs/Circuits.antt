@@ -1,4 +1,4 @@
--- Laws of the wires' values, each by induction on the gates: what a gate reads is not changed by the wires behind it.
+-- Laws of the wires' values, each by induction on the gates: what a gate reads is not changed by the wires after it.
 use mathlib.Core.Path.{_≡_, refl, ap, ap₂, sym, _∙_}
 use mathlib.Core.Bool.{Bool, true, false, not, _&&_, and-assoc}
 use mathlib.Core.List.{List, [], _∷_, _++_}

@@ -27,7 +27,7 @@ gatesOf (k ∷ (a ∷ (b ∷ ws))) = gateOf k a b ∷ gatesOf ws
 abbrev pub drives : ℕ → ℕ → ℕ → ℕ → Bool
 drives m k a b = ltb k 3 && (ltb a m && cond (eqb k 2) (eqb b 0) (ltb b m))
 
--- words that are gates behind m wires: three for each gate, and each gate may drive its wire
+-- words that are gates after m wires: three for each gate, and each gate may drive its wire
 unfoldable pub accepted : ℕ → List ℕ → Bool
 accepted m [] = true
 accepted m (k ∷ []) = false

@@ -3,15 +3,15 @@ ghost use mathlib.Core.Path.{_≡_};
 ghost use Prim.Native.Nat.{_≤_};
 ghost use Rattle.gates.specs.Memory as Memory;
 
-// Whether the words are gates of a circuit with so many inputs; where not, refusal 9.
+// Whether the words are gates of a circuit with that number of inputs; where not, refusal 9.
 pub fn accepted(gates: &[u32], inputs: usize) -> bool
     ensures { λ r. ⌜ r ≡ Memory.accepted inputs (now (gates .entry)) ⌝ }
 {
     // No word names a wire at or above 2^32: further inputs change nothing, and the number of wires fits.
     if 4294967296 < inputs {
-        return judge(gates, 4294967296);
+        return all_gates(gates, 4294967296);
     }
-    judge(gates, inputs)
+    all_gates(gates, inputs)
 }
 
 // Whether each byte is 0 or 1.
@@ -45,12 +45,12 @@ fn drives(kind: u32, a: u32, b: u32, m: usize) -> bool
     if m <= wide(b) {
         return false;
     }
-    // Kind and second word, as one number: a known kind, and 0 behind INV. To choose between tests would take a jump more.
+    // Kind and second word, as one number: a known kind, and 0 after INV. To choose between tests would take one more jump.
     wide(kind) * 4294967296 + wide(b) <= 8589934592
 }
 
-// Whether words are gates behind n wires.
-fn judge(gates: &[u32], n: usize) -> bool
+// Whether words are gates after n wires.
+fn all_gates(gates: &[u32], n: usize) -> bool
     requires { ⌜ n ≤ 4294967296 ⌝ }
     ensures { λ r. ⌜ r ≡ Memory.accepted n (now (gates .entry)) ⌝ }
 {

@@ -36,11 +36,11 @@ all-append P (x ∷ xs) ys h k = (h .0, all-append P xs ys (h .1) k)
 
 -- how many gates a section has
 unfoldable pub size : Section → ℕ
-size s = (s .zeros + s .size * s .cells) * s .lines
+size s = (s .zeros + s .size * s .cells) * s .lanes
 
--- behind i inputs and gates that end at b: there, if it has lines
+-- behind i inputs and gates that end at b: there, if it has lanes
 abbrev pub Begins : ℕ → ℕ → Section → Type 0
-Begins i b s = (0 < s .lines → s .base ≡ b) × (i ≤ s .base) × (s .base ≤ b)
+Begins i b s = (0 < s .lanes → s .base ≡ b) × (i ≤ s .base) × (s .base ≤ b)
 
 -- the first begins at b, each where the one before ends, and the last ends at e
 abbrev pub Chain : ℕ → ℕ → List Section → ℕ → Type 0
@@ -81,7 +81,7 @@ pub joined-append : (xs ys : List Section) → joined (xs ++ ys) ≡ joined xs +
 joined-append [] ys = refl
 joined-append (x ∷ xs) ys = ap (λ (l : List Gate). gatesOf x ++ l) (joined-append xs ys) ∙ sym (append-assoc (gatesOf x) (joined xs) (joined ys))
 
--- ---- a family's five members, of which those for digits from b on have no lines
+-- ---- a family's five members, of which those for digits from b on have no lanes
 
 module _ (a : Addresses) (f : ℕ → Section) where
   member : (P : Section → Type 0) (d : ℕ) → (d < a .b → P (f d)) → (a .b ≤ d → P (noSection a)) → P (ifDigit a f d)

@@ -1,4 +1,4 @@
--- The sections one behind the other are the circuit: a section of one line, of cells alone or of one cell is an array too.
+-- The sections one after the other are the circuit: a section of one lane, of cells alone or of one cell is an array too.
 use mathlib.Core.Path.{_≡_, refl, ap, ap₂, sym, _∙_, subst}
 use mathlib.Core.List.{List, [], _∷_, _++_, append-assoc, append-nil}
 use Prim.Native.Nat.{ℕ, zero, suc, _+_, _*_, _-_, _^_, _≤_, _<_}
@@ -12,18 +12,19 @@ use Rattle.words.proofs.Truth.{on}
 use Rattle.gates.specs.Gates.{Gate}
 use Rattle.sections.specs.declared.Addresses.{Addresses}
 use Rattle.sections.specs.declared.Section.{Section}
+use Rattle.sections.specs.Cells.{allSize}
 use Rattle.sections.specs.Sections as Sections
 use Rattle.sections.specs.Sections.{noSection, five, first, sectionAt}
 use Rattle.sections.proofs.InOrder.{at-first, at-level, at-last}
 use Rattle.netlist.specs.Templates as Templates
-use Rattle.netlist.specs.Arrays.{cell, rows, along, none, cells, line, array}
+use Rattle.netlist.specs.Arrays.{cell, rows, along, none, cells, lane, array}
 use Rattle.netlist.specs.Netlist as Netlist
 use Rattle.netlist.specs.Netlist.{nextLevel, circuit}
 use Rattle.netlist.proofs.Sizes.{array-length}
 use Rattle.generator.specs.Storing.{templates, gatesOf}
 use Rattle.generator.proofs.Chain.{All, all-at, all-append, size, joined, joined-append, all-five, five-joined}
 
--- ---- arrays of one line, without zeros, of one cell
+-- ---- arrays of one lane, without zeros, of one cell
 
 along-none : (slots steps : List ℕ) → length slots ≡ length steps → along slots steps 0 ≡ slots
 along-none [] steps e = refl
@@ -32,14 +33,14 @@ along-none (x ∷ slots) (d ∷ steps) e =
     let h : x + d * 0 ≡ x = omega arith in
     ap₂ (λ (y : ℕ) (l : List ℕ). y ∷ l) h (along-none slots steps (omega arith))
 
-one-line : (z : ℕ) (t : List Gate) (slots inner : List ℕ) (b n : ℕ) → length slots ≡ 8 → array z t slots none inner b 1 n ≡ line z t slots inner b n
+one-lane : (z : ℕ) (t : List Gate) (slots inner : List ℕ) (b n : ℕ) → length slots ≡ 8 → array z t slots none inner b 1 n ≡ lane z t slots inner b n
 unfolding array
-one-line z t slots inner b n e =
+one-lane z t slots inner b n e =
     let h : b + (z + length t * n) * 0 ≡ b = omega arith in
-    ap₂ (λ (l : List ℕ) (k : ℕ). line z t l inner k n) (along-none slots none e) h
+    ap₂ (λ (l : List ℕ) (k : ℕ). lane z t l inner k n) (along-none slots none e) h
 
-no-zeros : (t : List Gate) (slots steps : List ℕ) (b n : ℕ) → line 0 t slots steps b n ≡ cells t slots steps b n
-unfolding line cells
+no-zeros : (t : List Gate) (slots steps : List ℕ) (b n : ℕ) → lane 0 t slots steps b n ≡ cells t slots steps b n
+unfolding lane cells
 no-zeros t slots steps b n =
     let h : b + 0 ≡ b = omega arith in
     ap (λ (k : ℕ). cells t slots steps k n) h
@@ -50,19 +51,19 @@ one-cell t slots b e =
     let h : b + length t * 0 ≡ b = omega arith in
     ap₂ (λ (l : List ℕ) (k : ℕ). cell l k t) (along-none slots none e) h
 
--- one line of cells
+-- one lane of cells
 in-cells : (t : List Gate) (slots inner : List ℕ) (b n : ℕ) → length slots ≡ 8 → array 0 t slots none inner b 1 n ≡ cells t slots inner b n
-in-cells t slots inner b n e = one-line 0 t slots inner b n e ∙ no-zeros t slots inner b n
+in-cells t slots inner b n e = one-lane 0 t slots inner b n e ∙ no-zeros t slots inner b n
 
 -- ---- how many gates a section has
 
-gates-size : (s : Section) → s .template + s .size ≤ 84 → length (gatesOf s) ≡ size s
+gates-size : (s : Section) → s .template + s .size ≤ allSize → length (gatesOf s) ≡ size s
 unfolding size
 gates-size s h =
-    let all : length templates ≡ 84 = refl in
+    let all : length templates ≡ allSize = refl in
     let room : s .size ≤ length (drop (s .template) templates) = omega (arith, length-drop (s .template) templates) in
-    array-length (s .zeros) (take (s .size) (drop (s .template) templates)) (s .slots) (s .outer) (s .inner) (s .base) (s .lines) (s .cells)
-    ∙ ap (λ (k : ℕ). (s .zeros + k * s .cells) * s .lines) (length-take-le (s .size) (drop (s .template) templates) room)
+    array-length (s .zeros) (take (s .size) (drop (s .template) templates)) (s .slots) (s .outer) (s .inner) (s .base) (s .lanes) (s .cells)
+    ∙ ap (λ (k : ℕ). (s .zeros + k * s .cells) * s .lanes) (length-take-le (s .size) (drop (s .template) templates) room)
 
 joined-last : (ss : List Section) (s : Section) → joined (ss ++ (s ∷ [])) ≡ joined ss ++ gatesOf s
 joined-last ss s = joined-append ss (s ∷ []) ∙ ap (λ (l : List Gate). joined ss ++ l) (append-nil (gatesOf s))
@@ -99,7 +100,7 @@ module _ (a : Addresses) where
       ∷ Sections.rule a ∷ Sections.root a ∷ []
 
   abbrev pub held : List Section
-  held = Sections.targets a ∷ Sections.guards a ∷ Sections.selectLine a ∷ Sections.selectEnd a ∷ []
+  held = Sections.targets a ∷ Sections.guards a ∷ Sections.selects a ∷ Sections.selectEnd a ∷ []
 
   abbrev pub changed : List Section
   changed =
@@ -148,7 +149,7 @@ module _ (a : Addresses) where
       (λ e′. subst P (at-level a k (ltb-false k 40 e) (ltb-true (k - 40) (a .n) e′)) (h .in-levels (k - 40) (ltb-true (k - 40) (a .n) e′)))
       (λ e′. subst P (at-last a k (ltb-false k 40 e) (ltb-false (k - 40) (a .n) e′)) (h .in-last)))
 
-  named : Each (λ s. s .template + s .size ≤ 84)
+  named : Each (λ s. s .template + s .size ≤ allSize)
   named = record {
     in-judged = omega arith;
     in-digits = omega arith;
@@ -164,7 +165,7 @@ module _ (a : Addresses) where
   }
 
   pub f-length : (k : ℕ) → length (f k) ≡ size (sectionAt a k)
-  f-length k = gates-size (sectionAt a k) (at-each (λ s. s .template + s .size ≤ 84) named k)
+  f-length k = gates-size (sectionAt a k) (at-each (λ s. s .template + s .size ≤ allSize) named k)
 
   -- ---- all sections
 
@@ -198,7 +199,7 @@ module _ (a : Addresses) where
   chosen-gates =
       ap₂ _++_ (in-cells Templates.sum _ _ _ (a .m) refl)
       (ap₂ _++_ (in-cells Templates.sum _ _ _ (a .m) refl)
-      (ap₂ _++_ (one-line 1 Templates.bye _ _ _ (3 + a .b) refl)
+      (ap₂ _++_ (one-lane 1 Templates.bye _ _ _ (3 + a .b) refl)
       (ap (λ (l : List Gate). Netlist.pairs a ++ (Netlist.nodes a ++ l))
       (ap₂ _++_ (in-cells Templates.choice _ _ _ (3 + a .b) refl)
       (ap₂ _++_ (in-cells Templates.rule _ _ _ 1 refl ∙ one-cell Templates.rule _ _ refl)
@@ -208,7 +209,7 @@ module _ (a : Addresses) where
   held-gates =
       ap₂ _++_ (in-cells Templates.target _ _ _ (a .n) refl)
       (ap (λ (l : List Gate). Netlist.guards a ++ l)
-      (ap₂ _++_ (one-line 1 Templates.select _ _ _ (a .n) refl) (append-nil _ ∙ in-cells Templates.sum _ _ _ 3 refl)))
+      (ap₂ _++_ (one-lane 1 Templates.select _ _ _ (a .n) refl) (append-nil _ ∙ in-cells Templates.sum _ _ _ 3 refl)))
 
   changed-gates : joined changed ≡ Netlist.changing a ++ (Netlist.nextAssignment a ++ Netlist.nextDepth a)
   changed-gates =

@@ -15,7 +15,7 @@ use Rattle.sections.specs.declared.Addresses.{Addresses}
 use Rattle.sections.specs.declared.Section.{Section}
 use Rattle.sections.specs.Addressing.{digitsTo, addressesOf}
 use Rattle.sections.specs.Sections as Sections
-use Rattle.sections.specs.Sections.{digitAt, five, first, sectionAt}
+use Rattle.sections.specs.Sections.{digitAt, nodeAt, five, first, sectionAt}
 use Rattle.sections.proofs.InOrder.{at-first, at-level, at-last}
 use Rattle.netlist.specs.Arrays.{rows, array}
 use Rattle.netlist.specs.Netlist.{circuit}
@@ -29,17 +29,17 @@ use Rattle.generator.proofs.Circuit.{f, last, judged, signed, chosen, h
 step : (i t f whole r e e′ : ℕ) → whole ≡ t + f → f ≡ r → i + t ≡ e → e′ ≡ e + r → i + whole ≡ e′
 step i t f whole r e e′ h₁ h₂ h₃ h₄ = omega arith
 
--- a section of no lines may stand anywhere
-anywhere : (s : Section) (i t : ℕ) (w : List ℕ) → (0 < s .lines → s .base ≡ i + t)
+-- a section of no lanes may be anywhere
+anywhere : (s : Section) (i t : ℕ) (w : List ℕ) → (0 < s .lanes → s .base ≡ i + t)
     → sets w (3 * (s .base - i)) (wordsOf (gatesOf s)) ≡ sets w (0 + 3 * t) (wordsOf (gatesOf s))
 unfolding array wordsOf
 anywhere s i t w h =
-    on (ltb 0 (s .lines))
+    on (ltb 0 (s .lanes))
     (λ e.
-    let p : 3 * (s .base - i) ≡ 0 + 3 * t = omega (arith, h (ltb-true 0 (s .lines) e)) in
+    let p : 3 * (s .base - i) ≡ 0 + 3 * t = omega (arith, h (ltb-true 0 (s .lanes) e)) in
     ap (λ (k : ℕ). sets w k (wordsOf (gatesOf s))) p)
     (λ e.
-    let z : s .lines ≡ 0 = omega (arith, ltb-false 0 (s .lines) e) in
+    let z : s .lanes ≡ 0 = omega (arith, ltb-false 0 (s .lanes) e) in
     let g : gatesOf s ≡ [] = rw z in
     ap (λ (l : List Gate). sets w (3 * (s .base - i)) (wordsOf l)) g ∙ sym (ap (λ (l : List Gate). sets w (0 + 3 * t) (wordsOf l)) g))
 
@@ -65,10 +65,10 @@ module _ (n m b : ℕ) (few : b ≤ 5) where
   unfolding size
   chosen-chained = omega arith
 
-  splits-chained : Chain (a .inputs) (a .rule + 12 + 2 * 2 ^ 0) (five a (Sections.split a)) (a .rule + 12 + 2 * 2 ^ b)
+  splits-chained : Chain (a .inputs) (nodeAt a (2 * 2 ^ 0)) (five a (Sections.split a)) (nodeAt a (2 * 2 ^ b))
   unfolding size
   splits-chained =
-      five-chained a (Sections.split a) few (λ d. a .rule + 12 + 2 * 2 ^ d) (λ d. refl) (λ d. omega (arith, pow-suc 2 d)) (λ d. omega arith)
+      five-chained a (Sections.split a) few (λ d. nodeAt a (2 * 2 ^ d)) (λ d. refl) (λ d. omega (arith, pow-suc 2 d)) (λ d. omega arith)
 
   held-chained : Chain (a .inputs) (a .targets) (held a) (a .levels)
   unfolding size
@@ -86,8 +86,8 @@ module _ (n m b : ℕ) (few : b ≤ 5) where
       (chain-append (a .inputs) (a .keys) (a .keys + m * (1 + 0)) _ _ (signed a) (from-keys a) (omega arith) refl
       (chain-append (a .inputs) (a .keys + m * (1 + 0)) (a .keys + m * (1 + b)) _ _ (five a (Sections.keyDigit a))
       ((chosen a) ++ (from-splits a)) keys-chained refl
-      (chain-append (a .inputs) (a .keys + m * (1 + b)) (a .rule + 14) (a .rule + 12 + 2 * 2 ^ 0) _ (chosen a) (from-splits a) chosen-chained (omega arith)
-      (chain-append (a .inputs) (a .rule + 12 + 2 * 2 ^ 0) (a .targets) _ _ (five a (Sections.split a)) ((held a) ++ (changed a)) splits-chained refl
+      (chain-append (a .inputs) (a .keys + m * (1 + b)) (a .rule + 14) (nodeAt a (2 * 2 ^ 0)) _ (chosen a) (from-splits a) chosen-chained (omega arith)
+      (chain-append (a .inputs) (nodeAt a (2 * 2 ^ 0)) (a .targets) _ _ (five a (Sections.split a)) ((held a) ++ (changed a)) splits-chained refl
       (chain-append (a .inputs) (a .targets) (a .levels) _ _ (held a) (changed a) held-chained refl changed-chained))))))
 
   reach : (k : ℕ) → k ≤ 40 → a .inputs + length (rows (f a) k) ≡ ends (a .inputs) (first a) k
@@ -132,7 +132,7 @@ module _ (n m b : ℕ) (few : b ≤ 5) where
       beginning : (s : Section) → a .inputs + length (rows (f a) k) ≡ s .base → a .inputs ≤ s .base → Begins (a .inputs) (a .inputs + length (rows (f a) k)) s
       beginning s e l = ((λ h′. sym e), l, omega arith)
 
-  -- a turn of the loop: one more section behind those that stand
+  -- a turn of the loop: one more section after those before
   pub section-more : (k : ℕ) → k < 41 + n → (i : ℕ) → i ≡ a .inputs → (s : Section) → s ≡ sectionAt a k → (w₀ w w′ : List ℕ)
       → w ≡ sets w₀ 0 (wordsOf (rows (f a) k)) → w′ ≡ sets w (3 * (s .base - i)) (wordsOf (gatesOf s)) → w′ ≡ sets w₀ 0 (wordsOf (rows (f a) (k + 1)))
   section-more k h i ei s es w₀ w w′ e e′ =

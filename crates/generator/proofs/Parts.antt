@@ -10,6 +10,9 @@ use lib.Seq.{length-take-le}
 use Rattle.words.proofs.Truth.{and-l, and-r}
 use Rattle.gates.specs.Gates.{Gate}
 use Rattle.gates.specs.Memory.{gateOf}
+use Rattle.sections.specs.Cells as Cells
+use Rattle.sections.specs.Cells.{Template, allSize}
+use Rattle.netlist.specs.Templates as Templates
 use Rattle.generator.specs.Storing.{gatesIn, tidy, templates}
 
 take-gates : (k : ℕ) (t : List ℕ) → gatesIn (take k t) ≡ take k (gatesIn t)
@@ -37,7 +40,7 @@ tidy-drop (suc k) [] e = refl
 tidy-drop (suc k) (g ∷ t) e = tidy-drop k t (and-r (ltb (g / 65536) 3) (tidy t) e)
 
 -- gates f to e of all templates t
-pub part : (t : List ℕ) → gatesIn t ≡ templates → tidy t ≡ true → length t ≡ 84 → (from end f k : ℕ) → from ≡ f → end ≡ f + k → f + k ≤ 84
+pub part : (t : List ℕ) → gatesIn t ≡ templates → tidy t ≡ true → length t ≡ allSize → (from end f k : ℕ) → from ≡ f → end ≡ f + k → f + k ≤ allSize
     → (tidy (take (end - from) (drop from t)) ≡ true) × (length (take (end - from) (drop from t)) ≡ k)
     × (gatesIn (take (end - from) (drop from t)) ≡ take k (drop f templates))
 part t g e l from end f k ef ee h =
@@ -48,3 +51,29 @@ part t g e l from end f k ef ee h =
       take-gates (end - from) (drop from t) ∙ ap (take (end - from)) (drop-gates from t ∙ ap (drop from) g) ∙ ap (λ (j : ℕ). take j (drop from templates)) size
           ∙ ap (λ (j : ℕ). take k (drop j templates)) ef,
     )
+
+-- ---- the numbers that `sections` has for the templates
+
+-- the gates that a template's numbers name
+abbrev numbered : Template → List Gate
+numbered t = take (t .size) (drop (t .first) templates)
+
+-- they are the template's
+pub templates-numbered :
+    (numbered Cells.sum ≡ Templates.sum)
+    × (numbered Cells.literal ≡ Templates.literal)
+    × (numbered Cells.count ≡ Templates.count)
+    × (numbered Cells.rank ≡ Templates.rank)
+    × (numbered Cells.bye ≡ Templates.bye)
+    × (numbered Cells.pair ≡ Templates.pair)
+    × (numbered Cells.node ≡ Templates.node)
+    × (numbered Cells.choice ≡ Templates.choice)
+    × (numbered Cells.rule ≡ Templates.rule)
+    × (numbered Cells.split ≡ Templates.split)
+    × (numbered Cells.target ≡ Templates.target)
+    × (numbered Cells.guard ≡ Templates.guard)
+    × (numbered Cells.select ≡ Templates.select)
+    × (numbered Cells.level ≡ Templates.level)
+    × (numbered Cells.assignment ≡ Templates.assignment)
+    × (numbered Cells.standing ≡ Templates.standing)
+templates-numbered = (refl, refl, refl, refl, refl, refl, refl, refl, refl, refl, refl, refl, refl, refl, refl, refl)

@@ -16,8 +16,8 @@ use Rattle.gates.specs.Gates.{Gate}
 use Rattle.gates.specs.Memory.{gateWords, wordsOf, gateOf}
 use Rattle.gates.proofs.InMemory.{words-append, words-length}
 use Rattle.netlist.specs.Templates.{sum}
-use Rattle.netlist.specs.Arrays.{operand, placed, cell, rows, along, none, cells, line, array}
-use Rattle.netlist.proofs.Sizes.{rows-length, cell-length, cells-length, line-length}
+use Rattle.netlist.specs.Arrays.{operand, placed, cell, rows, along, none, cells, lane, array}
+use Rattle.netlist.proofs.Sizes.{rows-length, cell-length, cells-length, lane-length}
 use Rattle.generator.specs.Storing.{gatesIn, tidy}
 
 -- the words of a placed gate
@@ -80,7 +80,7 @@ followed-by A B w₀ w w′ p q e h e′ =
     e′ ∙ ap₂ (λ (l : List ℕ) (k : ℕ). sets l k (wordsOf B)) e (h ∙ ap (λ (k : ℕ). p + k) (sym (words-length A)))
     ∙ sym (ap (λ (l : List ℕ). sets w₀ p l) (words-append A B) ∙ sets-append (wordsOf A) (wordsOf B) w₀ p)
 
--- a turn of a loop that places: one more row behind those that stand
+-- a turn of a loop that places: one more row after those before
 pub row-more : (f : ℕ → List Gate) (w₀ w w′ : List ℕ) (p q i : ℕ) → w ≡ sets w₀ p (wordsOf (rows f i)) → q ≡ p + 3 * length (rows f i)
     → w′ ≡ sets w q (wordsOf (f i)) → w′ ≡ sets w₀ p (wordsOf (rows f (i + 1)))
 row-more f w₀ w w′ p q i e h e′ = rw (add-one i) (followed-by (rows f i) (f i) w₀ w w′ p q e h e′)
@@ -98,25 +98,25 @@ cells-more t slots steps here b at size i w₀ w w′ p q e s h eh ea e′ =
     (λ j. cell-length (along slots steps j) (b + length t * j) t) i)))
     (e′ ∙ ap₂ (λ (l : List ℕ) (k : ℕ). sets w q (wordsOf (cell l k t))) eh (ea ∙ ap (λ (k : ℕ). b + k * i) s))
 
--- one more line
-pub lines-more : (z : ℕ) (t : List Gate) (slots outer inner here : List ℕ) (b at size n i : ℕ) (w₀ w w′ : List ℕ) (p q : ℕ)
+-- one more lane
+pub lanes-more : (z : ℕ) (t : List Gate) (slots outer inner here : List ℕ) (b at size n i : ℕ) (w₀ w w′ : List ℕ) (p q : ℕ)
     → w ≡ sets w₀ p (wordsOf (array z t slots outer inner b i n)) → size ≡ length t → q ≡ p + 3 * ((z + size * n) * i)
     → here ≡ along slots outer i → at ≡ b + (z + size * n) * i
-    → w′ ≡ sets w q (wordsOf (line z t here inner at n)) → w′ ≡ sets w₀ p (wordsOf (array z t slots outer inner b (i + 1) n))
+    → w′ ≡ sets w q (wordsOf (lane z t here inner at n)) → w′ ≡ sets w₀ p (wordsOf (array z t slots outer inner b (i + 1) n))
 unfolding array
-lines-more z t slots outer inner here b at size n i w₀ w w′ p q e s h eh ea e′ =
-    row-more (λ j. line z t (along slots outer j) inner (b + (z + length t * n) * j) n) w₀ w w′ p q i e
+lanes-more z t slots outer inner here b at size n i w₀ w w′ p q e s h eh ea e′ =
+    row-more (λ j. lane z t (along slots outer j) inner (b + (z + length t * n) * j) n) w₀ w w′ p q i e
     (h ∙ ap (λ (k : ℕ). p + 3 * k)
-    (ap (λ (k : ℕ). (z + k * n) * i) s ∙ sym (rows-length (λ j. line z t (along slots outer j) inner (b + (z + length t * n) * j) n) (z + length t * n)
-    (λ j. line-length z t (along slots outer j) inner (b + (z + length t * n) * j) n) i)))
-    (e′ ∙ ap₂ (λ (l : List ℕ) (k : ℕ). sets w q (wordsOf (line z t l inner k n))) eh (ea ∙ ap (λ (k : ℕ). b + (z + k * n) * i) s))
+    (ap (λ (k : ℕ). (z + k * n) * i) s ∙ sym (rows-length (λ j. lane z t (along slots outer j) inner (b + (z + length t * n) * j) n) (z + length t * n)
+    (λ j. lane-length z t (along slots outer j) inner (b + (z + length t * n) * j) n) i)))
+    (e′ ∙ ap₂ (λ (l : List ℕ) (k : ℕ). sets w q (wordsOf (lane z t l inner k n))) eh (ea ∙ ap (λ (k : ℕ). b + (z + k * n) * i) s))
 
 -- zeros, then cells
-pub line-whole : (z : ℕ) (t : List Gate) (slots steps : List ℕ) (b n : ℕ) (w₀ w w′ : List ℕ) (p q : ℕ)
+pub lane-whole : (z : ℕ) (t : List Gate) (slots steps : List ℕ) (b n : ℕ) (w₀ w w′ : List ℕ) (p q : ℕ)
     → w ≡ sets w₀ p (wordsOf (cells sum none none b z)) → q ≡ p + 3 * z
-    → w′ ≡ sets w q (wordsOf (cells t slots steps (b + z) n)) → w′ ≡ sets w₀ p (wordsOf (line z t slots steps b n))
-unfolding line
-line-whole z t slots steps b n w₀ w w′ p q e h e′ =
+    → w′ ≡ sets w q (wordsOf (cells t slots steps (b + z) n)) → w′ ≡ sets w₀ p (wordsOf (lane z t slots steps b n))
+unfolding lane
+lane-whole z t slots steps b n w₀ w w′ p q e h e′ =
     followed-by (cells sum none none b z) (cells t slots steps (b + z) n) w₀ w w′ p q e (omega (arith, cells-length sum none none b z)) e′
 
 -- the products of a turn

@@ -9,6 +9,7 @@ use Rattle.dimensions.specs.Sizes.{rowCount, ceiling}
 use Rattle.dimensions.proofs.Limits.{Within}
 use Rattle.sections.specs.declared.Addresses.{Addresses}
 use Rattle.sections.specs.declared.Section.{Section}
+use Rattle.sections.specs.Cells.{allSize}
 use Rattle.sections.specs.Addressing.{digitsFor, addressesOn, Small}
 use Rattle.sections.specs.Sections as Sections
 use Rattle.sections.specs.Sections.{sectionAt}
@@ -25,10 +26,10 @@ use Rattle.generator.proofs.Order.{inside}
 -- what is asked of a section's counts, slots and steps
 abbrev Asked : Section → Type 0
 Asked s =
-    ((s .template + s .size ≤ 84) × (s .size ≤ 16)) × ((s .zeros ≤ 4) × (s .lines ≤ 384) × (s .cells ≤ 384))
+    ((s .template + s .size ≤ allSize) × (s .size ≤ 16)) × ((s .zeros ≤ 4) × (s .lanes ≤ 384) × (s .cells ≤ 384))
     × (Below 16777216 (s .slots) × Below 65536 (s .outer) × Below 65536 (s .inner))
 
--- few variables, rows and lines of the tree
+-- few variables, rows and lanes of the tree
 abbrev Few : Addresses → Type 0
 Few a = (a .n ≤ 32) × (a .m ≤ 384) × (a .pairs ≤ 384) × (a .nodes ≤ 384) × (a .block ≤ 3104)
 
@@ -99,7 +100,7 @@ module _ (d : Dimensions) (w : Within d) where
       let f = at-each a Asked (each-asked a e few-enough) k in
       let p = inside (d .n) (rowCount d) (digitsFor (d .n)) (e .2) k l in
       let c = wires-few a refl in
-      let room : 3 * (t .base - a .inputs) + 3 * ((t .zeros + t .size * t .cells) * t .lines) ≤ len = omega (arith, p, c, h) in
+      let room : 3 * (t .base - a .inputs) + 3 * ((t .zeros + t .size * t .cells) * t .lanes) ≤ len = omega (arith, p, c, h) in
       let high : t .base ≤ 1048576 = omega (arith, p, c) in
       subst (λ (x : ℕ). Fits x s len) (sym ei) (subst (λ (x : Section). Fits (a .inputs) x len) (sym es)
       (record { named = f .0; counts = f .1; begins = (p .0, high); below = f .2; room = room }))

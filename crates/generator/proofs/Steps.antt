@@ -56,7 +56,7 @@ along-more slots steps here i k a h e =
     let m : 8 - k ≡ suc (8 - (k + 1)) = omega arith in
     rw (add-one k) (subst (λ (j : ℕ). sets here k (from slots steps i k j) ≡ a) (m ∙ ap (λ (j : ℕ). suc (8 - j)) (add-one k)) e)
 
--- steps further still stand below a bound
+-- slots that are steps further are still below a bound
 pub along-below : (b d k : ℕ) (slots steps : List ℕ) (i : ℕ) → Below b slots → Below d steps → i ≤ k → Below (b + d * k) (along slots steps i)
 along-below b d k [] steps i hs hd hi = tt
 along-below b d k (x ∷ slots) [] i hs hd hi = tt

@@ -32,7 +32,7 @@ abbrev pub generatedNumbers : Generated → List ℕ
 generatedNumbers (Of count) = count ∷ []
 generatedNumbers (Refused r) = []
 
--- the words afterwards: the gates, then what stood there; refused, as they were
+-- the words afterwards: the gates, then what was there; refused, as they were
 abbrev pub writtenWords : Dimensions → List ℕ → List ℕ
 writtenWords d words = given (outcome (generatorChecks d words)) (over (wordsOf (gatesOn d)) words) (λ r. words)
 

@@ -8,6 +8,7 @@ use Rattle.gates.specs.Gates.{Gate}
 use Rattle.gates.specs.Memory.{gateOf}
 use Rattle.dimensions.specs.declared.Dimensions.{Dimensions}
 use Rattle.sections.specs.declared.Section.{Section}
+use Rattle.sections.specs.Cells.{allSize}
 use Rattle.sections.specs.Addressing.{addressesOn}
 use Rattle.sections.specs.Sections.{sectionAt}
 use Rattle.netlist.specs.Templates.{sum, literal, count, rank, bye, pair, node, choice, rule, split, target, guard, select, level}
@@ -23,7 +24,7 @@ abbrev pub tidy : List ℕ → Bool
 tidy [] = true
 tidy (g ∷ t) = ltb (g / 65536) 3 && tidy t
 
--- all templates, one behind the other
+-- all templates, one after the other, as `sections/specs/Cells` numbers their gates
 abbrev pub templates : List Gate
 templates =
     sum ++ (literal ++ (count ++ (rank ++ (bye ++ (pair ++ (node ++ (choice ++ (rule ++ (split ++ (target ++ (guard
@@ -37,10 +38,10 @@ gatesOf s = inArray (take (s .size) (drop (s .template) templates)) s
 abbrev pub gatesAt : Dimensions → ℕ → List Gate
 gatesAt d k = gatesOf (sectionAt (addressesOn d) k)
 
--- sums over a section's numbers fit a word, and so many words, with room behind so many inputs
+-- sums over a section's numbers fit a word, and so many words, with room after so many inputs
 pub record Fits (inputs : ℕ) (s : Section) (len : ℕ) : Type 0 where
-  pub named : (s .template + s .size ≤ 84) × (s .size ≤ 16)
-  pub counts : (s .zeros ≤ 4) × (s .lines ≤ 384) × (s .cells ≤ 384)
+  pub named : (s .template + s .size ≤ allSize) × (s .size ≤ 16)
+  pub counts : (s .zeros ≤ 4) × (s .lanes ≤ 384) × (s .cells ≤ 384)
   pub begins : (inputs ≤ s .base) × (s .base ≤ 1048576)
   pub below : Below 16777216 (s .slots) × Below 65536 (s .outer) × Below 65536 (s .inner)
-  pub room : 3 * (s .base - inputs) + 3 * ((s .zeros + s .size * s .cells) * s .lines) ≤ len
+  pub room : 3 * (s .base - inputs) + 3 * ((s .zeros + s .size * s .cells) * s .lanes) ≤ len

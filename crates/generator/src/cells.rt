@@ -113,7 +113,7 @@ fn cells(
 }
 
 // Gates that are 0, then n cells.
-fn line(
+fn lane(
     words: &mut [u32],
     inputs: u32,
     base: u32,
@@ -129,13 +129,13 @@ fn line(
     requires { ⌜ 3 * (base - inputs) + 3 * (zeros + length (now template) * n) ≤ length (now words) ⌝ }
     ensures { λ _.
         ⌜ now (words .exit) ≡ sets (now (words .entry)) (3 * (base - inputs))
-        (wordsOf (Arrays.line zeros (gatesIn (now (template .entry))) slots steps base n)) ⌝ }
+        (wordsOf (Arrays.lane zeros (gatesIn (now (template .entry))) slots steps base n)) ⌝ }
 {
     cells(words, inputs, base, &templates::SUM, zeros, [0; 8], [0; 8]);
     cells(words, inputs, base + zeros, template, n, slots, steps);
 }
 
-// A section's lines, each with its slots a step on.
+// A section's lanes, each with its slots a step on.
 fn array(words: &mut [u32], inputs: u32, template: &[u32], s: Section)
     requires { ⌜ (tidy (now template) ≡ true) × (length (now template) ≡ s .size) ⌝ }
     requires { ⌜ Fits inputs s (length (now words)) ⌝ }
@@ -144,22 +144,22 @@ fn array(words: &mut [u32], inputs: u32, template: &[u32], s: Section)
 {
     let zeros = s.zeros;
     let n = s.cells;
-    let m = s.lines;
+    let m = s.lanes;
     let slots = s.slots;
     let outer = s.outer;
     let inner = s.inner;
-    let row = zeros + s.size * n;
+    let step = zeros + s.size * n;
     let mut at = s.base;
     let mut j = 0;
     while j < m {
         let here = along(slots, outer, j);
-        line(words, inputs, at, zeros, template, n, here, inner);
-        at += row;
+        lane(words, inputs, at, zeros, template, n, here, inner);
+        at += step;
         j += 1;
     }
 }
 
-// A section, whose template ends before gate `end` of all templates.
+// A section, whose template has the gates from `first` to before `end` of all templates.
 pub(crate) fn section(words: &mut [u32], inputs: u32, first: usize, end: usize, s: Section)
     requires { ⌜ (first ≡ s .template) × (end ≡ s .template + s .size) ⌝ }
     requires { ⌜ Fits inputs s (length (now words)) ⌝ }

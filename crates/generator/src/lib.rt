@@ -1,4 +1,4 @@
-// The generator of the giant step's circuit (document 01, "Circuit"). Turned back: 1, 2, 7.
+// The generator of the giant step's circuit, which writes it into lent words (document 01, "Circuit"). Refusals: 1, 2, 7.
 mod cells;
 mod templates;
 
@@ -39,10 +39,9 @@ pub fn generate(d: Dimensions, words: &mut [u32]) -> Generated
         ⌜ generatedCode r ∷ generatedNumbers r ≡ said (Checks.outcome (generatorChecks d (now (words .entry))))
         (length (gatesOn d) ∷ []) ⌝ }
 {
-    let outcome = d.check();
-    match outcome {
-        Outcome::Refused(refusal) => return Generated::Refused(refusal),
+    match d.check() {
         Outcome::Taken => {}
+        Outcome::Refused(refusal) => return Generated::Refused(refusal),
     }
     if words.len() < 3 * d.ceiling() {
         return Generated::Refused(Refusal::GateBuffer);

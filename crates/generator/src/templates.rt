@@ -1,11 +1,10 @@
 // The templates of the cells, a number a gate: its kind, then two hexadecimal digits for each operand. An operand below 8 is a slot, 8 + k
-// the cell's own gate k.
-// What each computes stands beside its namesake in netlist's definitions.
+// the cell's own gate k. `netlist/specs/Templates` says under the same names what each computes, `sections/specs/Cells` where it begins.
 
 // XOR of slots 0 and 1; on unused slots a gate that is 0.
 pub(crate) const SUM: [u32; 1] = [1];
 
-// All of them, one behind the other.
+// All of them, one after the other.
 pub(crate) const TEMPLATES: [u32; 84] = [
     // sum
     0x0_00_01,

@@ -43,7 +43,7 @@ use Rattle.bristol.proofs.Joining.{lines-whole}
 use Rattle.listing.specs.Listing.{listChecks, textFor}
 use Rattle.listing.proofs.Lengths.{served-short}
 
--- a text that was put: its length, and the bytes over whose front it stands
+-- a text that was put: its length, and the bytes over whose front it is put
 abbrev pub Put : List ℕ → List ℕ → ℕ → List ℕ → Type 0
 Put text lent k out = (k ≡ length text) × (out ≡ over text lent)
 

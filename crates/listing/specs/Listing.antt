@@ -1,12 +1,13 @@
 -- What the circuit program prints for a line of standard input: document 01, "Programs", refusals 8, then 1, 2, 7.
+-- Ask: Does the circuit program answer 8, then 1, 2, 7?
 use Prim.Native.Nat.{ℕ}
 use mathlib.Core.List.{List, [], _∷_, _++_}
 use lib.Dec.{ltb}
 use Rattle.refusals.specs.Checks.{Check, check, outcome, given}
 use Rattle.refusals.specs.declared.Refusal.the-variants.{GateBuffer}
-use Rattle.lines.specs.declared.Size.{Size}
-use Rattle.lines.specs.declared.Size.the-variants as size
-use Rattle.lines.specs.Numbers.{sizeOf}
+use Rattle.lines.specs.declared.DimensionLine.{DimensionLine}
+use Rattle.lines.specs.declared.DimensionLine.the-variants as dimension
+use Rattle.lines.specs.Numbers.{dimensionLineOf}
 use Rattle.dimensions.specs.declared.Dimensions.{Dimensions}
 use Rattle.dimensions.specs.Sizes.{dimensions, sizeChecks, ceiling}
 use Rattle.text.specs.Refused.{refusedLine}
@@ -22,10 +23,10 @@ abbrev pub textFor : Dimensions → List ℕ
 textFor d = given (outcome (listChecks d)) (circuitText d (gatesOn d)) refusedLine
 
 -- what is printed for four numbers, or for the lack of them
-abbrev pub sizeText : Size → List ℕ
-sizeText (size.Of n left right public) = textFor (dimensions n left right public)
-sizeText (size.Refused r) = refusedLine r
+abbrev pub sizeText : DimensionLine → List ℕ
+sizeText (dimension.Of n left right public) = textFor (dimensions n left right public)
+sizeText (dimension.Refused r) = refusedLine r
 
 -- what is printed for a line
 abbrev pub listed : List ℕ → List ℕ
-listed line = sizeText (sizeOf line)
+listed line = sizeText (dimensionLineOf line)

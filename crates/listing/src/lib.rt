@@ -3,7 +3,7 @@ use bristol::WrittenLines;
 use dimensions::CheckedDimensions;
 use dimensions::Dimensions;
 use generator::Generated;
-use lines::Size;
+use lines::DimensionLine;
 use refusals::Refusal;
 ghost use mathlib.Core.Path.{_≡_};
 ghost use Prim.Native.Nat.{_≤_};
@@ -66,11 +66,11 @@ pub fn list(line: &[u8], bytes: &mut [u8; ROOM]) -> usize
     ensures { λ _. ⌜ now (bytes .exit) ≡ over (listed (now (line .entry))) (now (bytes .entry)) ⌝ }
     ensures { λ r. ⌜ Counts r (now (bytes .exit)) ⌝ }
 {
-    match lines::read_size(line) {
-        Size::Of(n, left, right, public) => match Dimensions::new(n, left, right, public) {
+    match lines::read_dimensions(line) {
+        DimensionLine::Of(n, left, right, public) => match Dimensions::new(n, left, right, public) {
             CheckedDimensions::Of(d) => put_circuit(d, bytes),
             CheckedDimensions::Refused(refusal) => put_refusal(refusal, bytes),
         },
-        Size::Refused(refusal) => put_refusal(refusal, bytes),
+        DimensionLine::Refused(refusal) => put_refusal(refusal, bytes),
     }
 }

@@ -1,4 +1,4 @@
--- Each gate of the circuit reads earlier wires, so the evaluator takes it: every slot of every section stands before its cell.
+-- Each gate of the circuit reads earlier wires, so the evaluator takes it: every slot of every section is a wire before its cell.
 use mathlib.Core.Path.{_≡_, refl, ap, _∙_}
 use mathlib.Core.Bool.{true}
 use mathlib.Core.List.{List, [], _∷_, _++_}
@@ -10,19 +10,21 @@ use lib.Pow.{pow-pos}
 use Rattle.gates.specs.Gates.{Gate}
 use Rattle.gates.proofs.Circuits.{ordered}
 use Rattle.netlist.specs.Arrays.{none, rows, array}
-use Rattle.netlist.proofs.Arrays.{append-ordered, rows-ordered, cell-ordered, cells-ordered, zeros-ordered, line-ordered, array-ordered}
+use Rattle.netlist.proofs.Arrays.{append-ordered, rows-ordered, cell-ordered, cells-ordered, zeros-ordered, lane-ordered, array-ordered}
 use Rattle.netlist.specs.Templates as Templates
 use Rattle.sections.specs.declared.Addresses.{Addresses}
-use Rattle.sections.specs.Addressing.{thresholds, digitsTo, lineOf, addressesOf}
+use Rattle.sections.specs.Cells as Cells
+use Rattle.sections.specs.Cells.{treeLane}
+use Rattle.sections.specs.Addressing.{thresholds, digitsTo, levelsFrom, addressesOf}
 use Rattle.sections.specs.Sections as Sections
-use Rattle.sections.specs.Sections.{digitAt}
+use Rattle.sections.specs.Sections.{digitAt, nodeAt, guardsF}
 use Rattle.netlist.specs.Netlist.{zeroGate, literals, counts, ranks, digit, keySign, keyDigit, keyLow, keyHigh, bye, pairs, nodes, greatest, rule, root}
-use Rattle.netlist.specs.Netlist.{split, targets, guards, selectLine, selectEnd, levels, levelsT, levelsF, levelsV, assignT, assignF, depths}
+use Rattle.netlist.specs.Netlist.{split, targets, guards, selects, selectEnd, levels, levelsT, levelsF, levelsV, assignT, assignF, depths}
 use Rattle.netlist.specs.Netlist.{nextAssignment, nextDepth, nextLevel, nextStanding, judging, weighing, choosing, holding, changing, outputs, circuit}
 use Rattle.netlist.proofs.Families.{family-ordered}
 use Rattle.netlist.proofs.Counts.{literals-length, counts-length, digit-next, digits-length, keySign-length, keyDigit-next, keyDigits-length}
 use Rattle.netlist.proofs.Counts.{keyLow-length, bye-length, pairs-length, nodes-length, greatest-length, split-next, targets-length, guards-length}
-use Rattle.netlist.proofs.Counts.{select-line-length, levelsT-length, levelsF-length, levelsV-length, assignT-length, assignF-length}
+use Rattle.netlist.proofs.Counts.{selects-length, levelsT-length, levelsF-length, levelsV-length, assignT-length, assignF-length}
 use Rattle.netlist.proofs.Counts.{next-assignment-length, next-depth-length, next-level-length, next-levels-length, judging-length, weighing-length}
 use Rattle.netlist.proofs.Counts.{choosing-length, holding-length, changing-length}
 
@@ -94,13 +96,13 @@ module _ (n m b : ℕ) (room : n ≤ 2 ^ b) (a-row : 0 < m) where
 
   bye-ordered : ordered (a .tree) (bye a) ≡ true
   unfolding ordered
-  bye-ordered = line-ordered 1 Templates.bye refl _ _ _ _ (omega arith) (λ i g. (refl, omega (arith, mul-le-mul-left m g, a-row)))
+  bye-ordered = lane-ordered 1 Templates.bye refl _ _ _ _ (omega arith) (λ i g. (refl, omega (arith, mul-le-mul-left m g, a-row)))
 
-  pairs-ordered : ordered (a .tree + lineOf b) (pairs a) ≡ true
+  pairs-ordered : ordered (a .tree + treeLane b) (pairs a) ≡ true
   unfolding ordered
   pairs-ordered = array-ordered 1 Templates.pair refl _ _ _ _ _ _ (omega arith) (λ p i h g. (refl, omega (arith, mul-le-mul-left m g, mul-le-mul-left b h)))
 
-  nodes-ordered : ordered (a .tree + lineOf b + lineOf b * a .pairs) (nodes a) ≡ true
+  nodes-ordered : ordered (a .tree + treeLane b + treeLane b * a .pairs) (nodes a) ≡ true
   unfolding ordered
   nodes-ordered =
       array-ordered 1 Templates.node refl _ _ _ _ _ _ (omega arith)
@@ -119,7 +121,7 @@ module _ (n m b : ℕ) (room : n ≤ 2 ^ b) (a-row : 0 < m) where
   unfolding ordered
   root-ordered = cell-ordered (Sections.root a .slots) (a .rule + 13) refl (omega arith) Templates.sum refl
 
-  split-ordered : (d : ℕ) → d < b → ordered (a .rule + 12 + 2 * 2 ^ d) (split a d) ≡ true
+  split-ordered : (d : ℕ) → d < b → ordered (nodeAt a (2 * 2 ^ d)) (split a d) ≡ true
   unfolding ordered
   split-ordered d h = cells-ordered Templates.split refl _ _ _ _ (λ k l. (refl, omega (arith, pow-pos d)))
 
@@ -137,9 +139,9 @@ module _ (n m b : ℕ) (room : n ≤ 2 ^ b) (a-row : 0 < m) where
   guards-ordered : ordered (a .guards) (guards a) ≡ true
   guards-ordered = guard-ordered (a .guards) (a .state) (a .rule + 9) (a .rule + 6) (omega arith) (omega arith) (omega arith)
 
-  select-line-ordered : ordered (a .selects) (selectLine a) ≡ true
+  selects-ordered : ordered (a .selects) (selects a) ≡ true
   unfolding ordered
-  select-line-ordered = line-ordered 1 Templates.select refl _ _ _ _ (omega arith) (λ l h. (refl, omega arith))
+  selects-ordered = lane-ordered 1 Templates.select refl _ _ _ _ (omega arith) (λ l h. (refl, omega arith))
 
   select-end-ordered : ordered (a .selects + 1 + 3 * n) (selectEnd a) ≡ true
   select-end-ordered = zeros-ordered _ _ (omega arith)
@@ -153,13 +155,17 @@ module _ (n m b : ℕ) (room : n ≤ 2 ^ b) (a-row : 0 < m) where
       array-ordered 1 Templates.level refl _ _ _ _ _ _ (omega arith) (λ i l h k. (refl, omega (arith, mul-le-mul-left n k, mul-le-mul-left s h)))
 
   levelsT-ordered : ordered (a .levels) (levelsT a) ≡ true
-  levelsT-ordered = levels-ordered (a .levels) (a .state + 3 * n + 1) (a .guards + 1) 2 (omega arith) (omega arith) (omega arith)
+  levelsT-ordered = levels-ordered (a .levels) (levelsFrom n (a .state)) (a .guards + Cells.saved) (Cells.guard .size) (omega arith) (omega arith) (omega arith)
 
   levelsF-ordered : ordered (a .levels + a .block) (levelsF a) ≡ true
-  levelsF-ordered = levels-ordered (a .levels + a .block) (a .state + 4 * n + 1) (a .guards + 2 * n + 1) 2 (omega arith) (omega arith) (omega arith)
+  levelsF-ordered =
+      levels-ordered (a .levels + a .block) (levelsFrom n (a .state) + n) (guardsF a + Cells.saved) (Cells.guard .size) (omega arith) (omega arith)
+      (omega arith)
 
   levelsV-ordered : ordered (a .levels + 2 * a .block) (levelsV a) ≡ true
-  levelsV-ordered = levels-ordered (a .levels + 2 * a .block) (a .state + 5 * n + 1) (a .targets + 1) 3 (omega arith) (omega arith) (omega arith)
+  levelsV-ordered =
+      levels-ordered (a .levels + 2 * a .block) (levelsFrom n (a .state) + 2 * n) (a .targets + Cells.pushed) (Cells.target .size) (omega arith) (omega arith)
+      (omega arith)
 
   assignT-ordered : ordered (a .assignments) (assignT a) ≡ true
   unfolding ordered
@@ -215,23 +221,23 @@ module _ (n m b : ℕ) (room : n ≤ 2 ^ b) (a-row : 0 < m) where
       (family-ordered (keyDigit a) (λ d. a .keys + m * (1 + d)) b (keyDigit-next a) keyDigit-ordered)
       (followed _ (a .keys + m * (2 + b)) (keyLow a) _ (omega (arith, keyLow-length a)) keyLow-ordered keyHigh-ordered)))
 
-  splits-ordered : ordered (a .rule + 12 + 2 * 2 ^ 0) (rows (split a) b) ≡ true
-  splits-ordered = family-ordered (split a) (λ d. a .rule + 12 + 2 * 2 ^ d) b (split-next a) split-ordered
+  splits-ordered : ordered (nodeAt a (2 * 2 ^ 0)) (rows (split a) b) ≡ true
+  splits-ordered = family-ordered (split a) (λ d. nodeAt a (2 * 2 ^ d)) b (split-next a) split-ordered
 
   choosing-ordered : ordered (a .tree) (choosing a) ≡ true
   choosing-ordered =
-      followed _ (a .tree + lineOf b) (bye a) _ (omega (arith, bye-length a)) bye-ordered
-      (followed _ (a .tree + lineOf b + lineOf b * a .pairs) (pairs a) _ (omega (arith, pairs-length a)) pairs-ordered
+      followed _ (a .tree + treeLane b) (bye a) _ (omega (arith, bye-length a)) bye-ordered
+      (followed _ (a .tree + treeLane b + treeLane b * a .pairs) (pairs a) _ (omega (arith, pairs-length a)) pairs-ordered
       (followed _ (a .greatest) (nodes a) _ (omega (arith, nodes-length a)) nodes-ordered
       (followed _ (a .rule) (greatest a) _ (omega (arith, greatest-length a)) greatest-ordered
       (followed (a .rule) (a .rule + 13) (rule a) (root a ++ rows (split a) b) refl rule-ordered
-      (followed (a .rule + 13) (a .rule + 12 + 2 * 2 ^ 0) (root a) (rows (split a) b) (omega arith) root-ordered splits-ordered)))))
+      (followed (a .rule + 13) (nodeAt a (2 * 2 ^ 0)) (root a) (rows (split a) b) (omega arith) root-ordered splits-ordered)))))
 
   holding-ordered : ordered (a .targets) (holding a) ≡ true
   holding-ordered =
       followed _ (a .guards) (targets a) _ (omega (arith, targets-length a)) targets-ordered
       (followed _ (a .selects) (guards a) _ (omega (arith, guards-length a)) guards-ordered
-      (followed _ (a .selects + 1 + 3 * n) (selectLine a) (selectEnd a) (omega (arith, select-line-length a)) select-line-ordered select-end-ordered))
+      (followed _ (a .selects + 1 + 3 * n) (selects a) (selectEnd a) (omega (arith, selects-length a)) selects-ordered select-end-ordered))
 
   changing-ordered : ordered (a .levels) (changing a) ≡ true
   changing-ordered =

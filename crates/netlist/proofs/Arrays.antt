@@ -1,4 +1,4 @@
--- What the wires of arrays of cells hold, and that a circuit of them is accepted: an array is split into lines, a line into cells.
+-- What the wires of arrays of cells hold, and that a circuit of them is accepted: an array is split into lanes, a lane into cells.
 use mathlib.Core.Path.{_≡_, refl, ap, ap₂, sym, _∙_, subst}
 use mathlib.Core.Bool.{Bool, true, false}
 use mathlib.Core.List.{List, [], _∷_, _++_, map}
@@ -14,9 +14,9 @@ use Rattle.gates.specs.Gates.{Gate, wire, wiresOf}
 use Rattle.gates.specs.Gates.Gate.{XOR, AND, INV}
 use Rattle.gates.proofs.Circuits.{reads, ordered, ordered-append}
 use Rattle.netlist.specs.Templates.{sum}
-use Rattle.netlist.specs.Arrays.{operand, placed, cell, rows, along, none, cells, line, array, Below}
+use Rattle.netlist.specs.Arrays.{operand, placed, cell, rows, along, none, cells, lane, array, Below}
 use Rattle.netlist.proofs.Chains.{xor-self}
-use Rattle.netlist.proofs.Sizes.{rows-length, cell-length, cells-length, line-length}
+use Rattle.netlist.proofs.Sizes.{rows-length, cell-length, cells-length, lane-length}
 use Rattle.netlist.proofs.Values.{Holds, holds-left, holds-right, holds-rows, cell-wire}
 
 -- the same numbers, as equations that arithmetic can prove
@@ -35,19 +35,19 @@ agree (x ∷ xs) (y ∷ ys) h = ap₂ (λ (p : ℕ) (l : List ℕ). p ∷ l) (h 
 -- ---- values
 
 module _ (W : ℕ → Bool) (z : ℕ) (t : List Gate) where
-  line-holds : (slots steps : List ℕ) (b n : ℕ) → Holds W b (line z t slots steps b n) → Holds W (b + z) (cells t slots steps (b + z) n)
-  unfolding line
-  line-holds slots steps b n h =
+  lane-holds : (slots steps : List ℕ) (b n : ℕ) → Holds W b (lane z t slots steps b n) → Holds W (b + z) (cells t slots steps (b + z) n)
+  unfolding lane
+  lane-holds slots steps b n h =
       let e : b + length (cells sum none none b z) ≡ b + z = omega (arith, cells-length sum none none b z) in
       subst (λ (k : ℕ). Holds W k (cells t slots steps (b + z) n)) e
       (holds-right W b (cells sum none none b z) (cells t slots steps (b + z) n) h)
 
   array-holds : (slots outer inner : List ℕ) (b m n : ℕ) → Holds W b (array z t slots outer inner b m n) → (j : ℕ) → j < m
-      → Holds W (b + (z + length t * n) * j) (line z t (along slots outer j) inner (b + (z + length t * n) * j) n)
+      → Holds W (b + (z + length t * n) * j) (lane z t (along slots outer j) inner (b + (z + length t * n) * j) n)
   unfolding array
   array-holds slots outer inner b m n h j l =
-      holds-rows W (λ i. line z t (along slots outer i) inner (b + (z + length t * n) * i) n) (z + length t * n) b
-      (λ i. line-length z t (along slots outer i) inner (b + (z + length t * n) * i) n) m h j l
+      holds-rows W (λ i. lane z t (along slots outer i) inner (b + (z + length t * n) * i) n) (z + length t * n) b
+      (λ i. lane-length z t (along slots outer i) inner (b + (z + length t * n) * i) n) m h j l
 
 module _ (W : ℕ → Bool) (t : List Gate) (o : ordered 8 t ≡ true) where
   -- gate k of a cell, at wire x, on the slots s
@@ -67,19 +67,19 @@ module _ (W : ℕ → Bool) (t : List Gate) (o : ordered 8 t ≡ true) where
       (holds-rows W (λ j. cell (along slots steps j) (b + length t * j) t) (length t) b (λ j. cell-length (along slots steps j) (b + length t * j) t) n h i l)
 
   module _ (z : ℕ) where
-    -- of cell i of a line
-    pub line-at : (slots steps : List ℕ) (b n : ℕ) → Holds W b (line z t slots steps b n) → (i : ℕ) → i < n
+    -- of cell i of a lane
+    pub lane-at : (slots steps : List ℕ) (b n : ℕ) → Holds W b (lane z t slots steps b n) → (i : ℕ) → i < n
         → (s : List ℕ) → Agree (along slots steps i) s → length s ≡ 8 → (k x : ℕ) → k < length t → x ≡ b + z + length t * i + k
         → W x ≡ wire (wiresOf (map W s) t) (8 + k)
-    line-at slots steps b n h = cells-at slots steps (b + z) n (line-holds W z t slots steps b n h)
+    lane-at slots steps b n h = cells-at slots steps (b + z) n (lane-holds W z t slots steps b n h)
 
-    -- of cell i of line j of an array
+    -- of cell i of lane j of an array
     pub array-at : (slots outer inner : List ℕ) (b m n : ℕ) → Holds W b (array z t slots outer inner b m n) → (j i : ℕ) → j < m → i < n
         → (s : List ℕ) → Agree (along (along slots outer j) inner i) s → length s ≡ 8
         → (k x : ℕ) → k < length t → x ≡ b + (z + length t * n) * j + z + length t * i + k
         → W x ≡ wire (wiresOf (map W s) t) (8 + k)
     array-at slots outer inner b m n h j i l =
-        line-at (along slots outer j) inner (b + (z + length t * n) * j) n (array-holds W z t slots outer inner b m n h j l) i
+        lane-at (along slots outer j) inner (b + (z + length t * n) * j) n (array-holds W z t slots outer inner b m n h j l) i
 
 module _ (W : ℕ → Bool) where
   -- gates that are 0
@@ -88,16 +88,16 @@ module _ (W : ℕ → Bool) where
   zeros-at b z h i x l e = cells-at W sum refl none none b z h i l none (omega arith) refl 0 x (omega arith) (omega arith) ∙ xor-self (W 0)
 
   module _ (z : ℕ) (t : List Gate) where
-    -- those before the cells of a line
-    pub line-zero : (slots steps : List ℕ) (b n : ℕ) → Holds W b (line z t slots steps b n) → (k x : ℕ) → k < z → x ≡ b + k → W x ≡ false
-    unfolding line
-    line-zero slots steps b n h = zeros-at b z (holds-left W b (cells sum none none b z) (cells t slots steps (b + z) n) h)
+    -- those before the cells of a lane
+    pub lane-zero : (slots steps : List ℕ) (b n : ℕ) → Holds W b (lane z t slots steps b n) → (k x : ℕ) → k < z → x ≡ b + k → W x ≡ false
+    unfolding lane
+    lane-zero slots steps b n h = zeros-at b z (holds-left W b (cells sum none none b z) (cells t slots steps (b + z) n) h)
 
-    -- and of each line of an array
+    -- and of each lane of an array
     pub array-zero : (slots outer inner : List ℕ) (b m n : ℕ) → Holds W b (array z t slots outer inner b m n) → (j : ℕ) → j < m
         → (k x : ℕ) → k < z → x ≡ b + (z + length t * n) * j + k → W x ≡ false
     array-zero slots outer inner b m n h j l =
-        line-zero (along slots outer j) inner (b + (z + length t * n) * j) n (array-holds W z t slots outer inner b m n h j l)
+        lane-zero (along slots outer j) inner (b + (z + length t * n) * j) n (array-holds W z t slots outer inner b m n h j l)
 
 -- ---- acceptance
 
@@ -163,11 +163,11 @@ unfolding ordered
 zeros-ordered b z p = cells-ordered sum refl none none b z (λ i l. (refl, omega arith))
 
 module _ (z : ℕ) (t : List Gate) (o : ordered 8 t ≡ true) where
-  pub line-ordered : (slots steps : List ℕ) (b n : ℕ) → 0 < b
+  pub lane-ordered : (slots steps : List ℕ) (b n : ℕ) → 0 < b
       → ((i : ℕ) → i < n → (length (along slots steps i) ≡ 8) × Below (b + z + length t * i) (along slots steps i))
-      → ordered b (line z t slots steps b n) ≡ true
-  unfolding line
-  line-ordered slots steps b n p h =
+      → ordered b (lane z t slots steps b n) ≡ true
+  unfolding lane
+  lane-ordered slots steps b n p h =
       let e : b + length (cells sum none none b z) ≡ b + z = omega (arith, cells-length sum none none b z) in
       append-ordered b (cells sum none none b z) (cells t slots steps (b + z) n) (zeros-ordered b z p)
       (ap (λ (k : ℕ). ordered k (cells t slots steps (b + z) n)) e ∙ cells-ordered t o slots steps (b + z) n h)
@@ -178,6 +178,6 @@ module _ (z : ℕ) (t : List Gate) (o : ordered 8 t ≡ true) where
       → ordered b (array z t slots outer inner b m n) ≡ true
   unfolding array
   array-ordered slots outer inner b m n p h =
-      rows-ordered (λ j. line z t (along slots outer j) inner (b + (z + length t * n) * j) n) (z + length t * n) b
-      (λ j. line-length z t (along slots outer j) inner (b + (z + length t * n) * j) n) m
-      (λ j l. line-ordered (along slots outer j) inner (b + (z + length t * n) * j) n (omega arith) (λ i l′. h j i l l′))
+      rows-ordered (λ j. lane z t (along slots outer j) inner (b + (z + length t * n) * j) n) (z + length t * n) b
+      (λ j. lane-length z t (along slots outer j) inner (b + (z + length t * n) * j) n) m
+      (λ j l. lane-ordered (along slots outer j) inner (b + (z + length t * n) * j) n (omega arith) (λ i l′. h j i l l′))

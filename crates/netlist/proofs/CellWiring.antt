@@ -13,15 +13,16 @@ use Rattle.words.proofs.Truth.{on}
 use Rattle.gates.specs.Gates.{wiresOf}
 use Rattle.gates.proofs.Circuits.{ordered}
 use Rattle.sections.specs.declared.Addresses.{Addresses}
-use Rattle.sections.specs.Addressing.{thresholds, lineOf}
-use Rattle.sections.specs.Sections.{two, three, six, seven, digitAt}
+use Rattle.sections.specs.Cells.{rule, act, literalLane, countLane, treeLane}
+use Rattle.sections.specs.Addressing.{thresholds}
+use Rattle.sections.specs.Sections.{two, three, six, seven, digitAt, nodeAt, greatestAt}
 use Rattle.netlist.specs.Templates as Templates
 use Rattle.netlist.proofs.Chains.{xor-false, xor-self}
-use Rattle.netlist.proofs.Arrays.{cell-at, cells-at, line-at, array-at, array-zero}
+use Rattle.netlist.proofs.Arrays.{cell-at, cells-at, lane-at, array-at, array-zero}
 use Rattle.netlist.proofs.Digits.{greaterOf}
 use Rattle.netlist.proofs.Equations.{Wires, Cells, itemOf}
 use Rattle.netlist.proofs.SectionGates.{Sections}
-use Rattle.netlist.proofs.Wiring.{literalLine, countLine, gateOn, again, firstWires, copied}
+use Rattle.netlist.proofs.Wiring.{gateOn, again, firstWires, copied}
 
 module _ (W : ℕ → Bool) (a : Addresses) where
   abbrev n : ℕ
@@ -34,13 +35,13 @@ module _ (W : ℕ → Bool) (a : Addresses) where
   b = a .b
 
   abbrev l : ℕ
-  l = lineOf b
+  l = treeLane b
 
   abbrev row : ℕ
-  row = literalLine n
+  row = literalLane n
 
   abbrev counted : ℕ
-  counted = countLine n
+  counted = countLane n
 
   abbrev u : Wires
   u = firstWires W a
@@ -99,7 +100,7 @@ module _ (W : ℕ → Bool) (a : Addresses) where
 
     -- ---- the greatest key
 
-    -- what line k of the tree keeps; line 0 is the last row's
+    -- what lane k of the tree keeps; lane 0 is the last row's
     abbrev keptAt : ℕ → ℕ → Bool
     keptAt k i = W (a .tree + 2 + l * k + 8 * i) ⊕ (W (a .tree + l * k + 8 * (3 + b)) && W (a .tree + 5 + l * k + 8 * i))
 
@@ -108,7 +109,7 @@ module _ (W : ℕ → Bool) (a : Addresses) where
 
     bye-gate : (i : ℕ) → i < 3 + b → (k x : ℕ) → k < 8 → x ≡ a .tree + 1 + 8 * i + k → W x ≡ gateOn W (two (a .keys + m * i + (m - 1)) 0) Templates.bye k
     unfolding ordered
-    bye-gate i g = line-at W Templates.bye refl 1 _ _ _ _ (s .bye-holds) i g (two (a .keys + m * i + (m - 1)) 0) (omega arith) refl
+    bye-gate i g = lane-at W Templates.bye refl 1 _ _ _ _ (s .bye-holds) i g (two (a .keys + m * i + (m - 1)) 0) (omega arith) refl
 
     bye-kept : (i : ℕ) → i < 3 + b → keptAt 0 i ≡ u .key (m - 1) i
     unfolding wiresOf
@@ -126,7 +127,7 @@ module _ (W : ℕ → Bool) (a : Addresses) where
     unfolding ordered
     pair-gate p i h g k x u e = array-at W Templates.pair refl 1 _ _ _ _ _ _ (s .pairs-hold) p i h g (pairWires p i) (omega arith) refl k x u (omega arith)
 
-    -- line pairs + q takes lines skip + 2q and the next
+    -- lane pairs + q takes lanes skip + 2q and the next
     abbrev nodeWires : ℕ → ℕ → ℕ → List ℕ
     nodeWires k p i =
         seven (a .tree + 2 + l * k + 8 * i) (a .tree + 5 + l * k + 8 * i) (a .tree + l * k + 8 * (3 + b))
@@ -147,14 +148,14 @@ module _ (W : ℕ → Bool) (a : Addresses) where
         (three (a .tree + 2 + l * k + 8 * i) (a .tree + 5 + l * k + 8 * i) (a .tree + l * k + 8 * (3 + b)))
         (omega arith) refl 1 _ (omega arith) (omega arith)
 
-    -- the lines: those of two rows, the others of two lines; the last row is left over where the number of rows is odd
-    module _ (parity : a .skip + m ≡ 2 * a .pairs + 1) (once : a .skip ≤ 1) (lines : suc (a .pairs + a .nodes) ≡ m) where
+    -- the lanes: those of two rows, the others of two lanes; the last row is left over where the number of rows is odd
+    module _ (parity : a .skip + m ≡ 2 * a .pairs + 1) (once : a .skip ≤ 1) (lanes : suc (a .pairs + a .nodes) ≡ m) where
       row-item : (t i : ℕ) → t < m → item t i ≡ u .key t i
       row-item t i h =
           ap (λ (c : Bool). cond c (u .key t i) (u .left (t - m) i ⊕ (u .keep (t - m) && u .differs (t - m) i))) (lt-ltb t m h)
 
-      line-item : (t k i : ℕ) → 2 * a .pairs ≤ t → t + 1 ≡ m + k → i < 3 + b → item t i ≡ keptAt k i
-      line-item t k i h e g =
+      lane-item : (t k i : ℕ) → 2 * a .pairs ≤ t → t + 1 ≡ m + k → i < 3 + b → item t i ≡ keptAt k i
+      lane-item t k i h e g =
           on (ltb t m)
           (λ c. let low : t < m = ltb-true t m c in
           let q : t ≡ m - 1 = omega (arith, parity) in
@@ -164,43 +165,43 @@ module _ (W : ℕ → Bool) (a : Addresses) where
           ap (λ (c : Bool). cond c (u .key t i) (u .left (t - m) i ⊕ (u .keep (t - m) && u .differs (t - m) i))) c
           ∙ ap (λ (x : ℕ). keptAt x i) q)
 
-      -- a line of two rows, or of two lines
-      by-line : (P : ℕ → Type 0) → ((p : ℕ) → p < a .pairs → P p) → ((q : ℕ) → q < a .nodes → P (a .pairs + q)) → (p : ℕ) → suc p < m → P p
-      by-line P f g p h =
+      -- a lane of two rows, or of two lanes
+      by-lane : (P : ℕ → Type 0) → ((p : ℕ) → p < a .pairs → P p) → ((q : ℕ) → q < a .nodes → P (a .pairs + q)) → (p : ℕ) → suc p < m → P p
+      by-lane P f g p h =
           on (ltb p (a .pairs))
           (λ e. f p (ltb-true p (a .pairs) e))
           (λ e. let q : a .pairs + (p - a .pairs) ≡ p = omega (arith, ltb-false p (a .pairs) e) in
-          subst P q (g (p - a .pairs) (omega (arith, lines, ltb-false p (a .pairs) e))))
+          subst P q (g (p - a .pairs) (omega (arith, lanes, ltb-false p (a .pairs) e))))
 
-      -- the two items of a line of two rows
+      -- the two items of a lane of two rows
       pair-items : (p i : ℕ) → p < a .pairs → (item (2 * p) i ≡ u .key (2 * p) i) × (item (2 * p + 1) i ≡ u .key (2 * p + 1) i)
       pair-items p i h = (row-item (2 * p) i (omega (arith, parity, once)), row-item (2 * p + 1) i (omega (arith, parity, once)))
 
-      -- of a line of two lines
+      -- of a lane of two lanes
       node-items : (q i : ℕ) → i < 3 + b
           → (item (2 * (a .pairs + q)) i ≡ keptAt (a .skip + 2 * q) i) × (item (2 * (a .pairs + q) + 1) i ≡ keptAt (suc (a .skip + 2 * q)) i)
       node-items q i g = (
-        line-item (2 * (a .pairs + q)) (a .skip + 2 * q) i (omega arith) (omega (arith, parity)) g,
-        line-item (2 * (a .pairs + q) + 1) (suc (a .skip + 2 * q)) i (omega arith) (omega (arith, parity)) g,
+        lane-item (2 * (a .pairs + q)) (a .skip + 2 * q) i (omega arith) (omega (arith, parity)) g,
+        lane-item (2 * (a .pairs + q) + 1) (suc (a .skip + 2 * q)) i (omega arith) (omega (arith, parity)) g,
       )
 
       left-met : (i : ℕ) → i < 3 + b → (p : ℕ) → suc p < m → u .left p i ≡ item (2 * p) i
       unfolding wiresOf
       left-met i g =
-          by-line (λ p. u .left p i ≡ item (2 * p) i)
+          by-lane (λ p. u .left p i ≡ item (2 * p) i)
           (λ p h. pair-gate p i h g 1 _ (omega arith) (omega arith) ∙ again (u .key (2 * p) i) ∙ sym (pair-items p i h .0))
           (λ q h. node-gate q i h g 1 _ (omega arith) (omega arith) ∙ sym (node-items q i g .0))
 
       differs-met : (i : ℕ) → i < 3 + b → (p : ℕ) → suc p < m → u .differs p i ≡ item (2 * p) i ⊕ item (2 * p + 1) i
       unfolding wiresOf
       differs-met i g =
-          by-line (λ p. u .differs p i ≡ item (2 * p) i ⊕ item (2 * p + 1) i)
+          by-lane (λ p. u .differs p i ≡ item (2 * p) i ⊕ item (2 * p + 1) i)
           (λ p h. pair-gate p i h g 4 _ (omega arith) (omega arith) ∙ sym (ap₂ _⊕_ (pair-items p i h .0) (pair-items p i h .1)))
           (λ q h. node-gate q i h g 4 _ (omega arith) (omega arith) ∙ sym (ap₂ _⊕_ (node-items q i g .0) (node-items q i g .1)))
 
       greater-started : (p : ℕ) → suc p < m → u .greater p 0 ≡ false
       greater-started =
-          by-line (λ p. u .greater p 0 ≡ false)
+          by-lane (λ p. u .greater p 0 ≡ false)
           (λ p h. array-zero W 1 Templates.pair _ _ _ _ _ _ (s .pairs-hold) p h 0 _ (omega arith) (omega arith))
           (λ q h. array-zero W 1 Templates.node _ _ _ _ _ _ (s .nodes-hold) q h 0 _ (omega arith) (omega arith))
 
@@ -208,7 +209,7 @@ module _ (W : ℕ → Bool) (a : Addresses) where
           → u .greater p (suc i) ≡ greaterOf (item (2 * p) i) (item (2 * p + 1) i) (u .greater p i)
       unfolding wiresOf
       greater-met i g =
-          by-line (λ p. u .greater p (suc i) ≡ greaterOf (item (2 * p) i) (item (2 * p + 1) i) (u .greater p i))
+          by-lane (λ p. u .greater p (suc i) ≡ greaterOf (item (2 * p) i) (item (2 * p + 1) i) (u .greater p i))
           (λ p h. pair-gate p i h g 7 _ (omega arith) (omega arith)
           ∙ sym (ap₂ (λ (x y : Bool). greaterOf x y (u .greater p i)) (pair-items p i h .0) (pair-items p i h .1)))
           (λ q h. node-gate q i h g 7 _ (omega arith) (omega arith)
@@ -216,20 +217,20 @@ module _ (W : ℕ → Bool) (a : Addresses) where
 
       greatest-met : (i : ℕ) → i < 3 + b → u .greatest i ≡ item (2 * m - 2) i
       greatest-met i g =
-          greatest-gate i g ∙ sym (line-item (2 * m - 2) (a .pairs + a .nodes) i (omega (arith, parity, once, lines)) (omega (arith, lines)) g)
+          greatest-gate i g ∙ sym (lane-item (2 * m - 2) (a .pairs + a .nodes) i (omega (arith, parity, once, lanes)) (omega (arith, lanes)) g)
 
     -- ---- the decoder
 
-    split-gate : (d k : ℕ) → d < b → k < 2 ^ d → (i x : ℕ) → i < 2 → x ≡ a .rule + 12 + 2 * 2 ^ d + 2 * k + i
-        → W x ≡ gateOn W (two (a .rule + 12 + 2 ^ d + k) (a .greatest + 1 + 2 * suc (b - suc d))) Templates.split i
+    split-gate : (d k : ℕ) → d < b → k < 2 ^ d → (i x : ℕ) → i < 2 → x ≡ nodeAt a (2 * 2 ^ d) + 2 * k + i
+        → W x ≡ gateOn W (two (nodeAt a (2 ^ d) + k) (greatestAt a (suc (b - suc d)))) Templates.split i
     unfolding ordered
     split-gate d k h g =
-        cells-at W Templates.split refl _ _ _ _ (s .split-holds d h) k g (two (a .rule + 12 + 2 ^ d + k) (a .greatest + 1 + 2 * suc (b - suc d)))
+        cells-at W Templates.split refl _ _ _ _ (s .split-holds d h) k g (two (nodeAt a (2 ^ d) + k) (greatestAt a (suc (b - suc d))))
         (omega arith) refl
 
     pub cells-met : a .skip + m ≡ 2 * a .pairs + 1 → a .skip ≤ 1 → suc (a .pairs + a .nodes) ≡ m → Cells n m b u
     unfolding wiresOf ordered
-    cells-met parity once lines = record {
+    cells-met parity once lanes = record {
       satisfied-zero = λ j h. array-zero W 2 Templates.literal _ _ _ _ _ _ (s .literals-hold) j h 0 _ (omega arith) (omega arith);
       satisfied-suc = λ j i h g. literal-gate j i h g 10 _ (omega arith) (omega arith);
       literal-is = λ j i h g. literal-gate j i h g 8 _ (omega arith) (omega arith);
@@ -255,15 +256,15 @@ module _ (W : ℕ → Bool) (a : Addresses) where
       key-high = λ j h. cells-at W Templates.sum refl _ _ _ _ (s .keyHigh-holds) j h (two (a .ranks + 2 + 5 * j) (a .inputs))
           (omega arith) refl 0 _ (omega arith) (omega arith)
           ∙ copied W a s (a .ranks + 2 + 5 * j);
-      left-is = λ p i h g. left-met parity once lines i (omega arith) p h;
-      differs-is = λ p i h g. differs-met parity once lines i (omega arith) p h;
-      greater-zero = greater-started parity once lines;
-      greater-suc = λ p i h g. greater-met parity once lines i (omega arith) p h;
+      left-is = λ p i h g. left-met parity once lanes i (omega arith) p h;
+      differs-is = λ p i h g. differs-met parity once lanes i (omega arith) p h;
+      greater-zero = greater-started parity once lanes;
+      greater-suc = λ p i h g. greater-met parity once lanes i (omega arith) p h;
       keep-is = λ p h. ap W (omega arith);
-      greatest-is = λ i g. greatest-met parity once lines i (omega arith);
-      node-root = cell-at W Templates.sum refl (two (a .rule + 10) (a .inputs)) (a .rule + 13) (s .root-holds) (two (a .rule + 10) (a .inputs))
+      greatest-is = λ i g. greatest-met parity once lanes i (omega arith);
+      node-root = cell-at W Templates.sum refl (two (a .rule + act) (a .inputs)) (a .rule + rule .size) (s .root-holds) (two (a .rule + act) (a .inputs))
           (omega arith) refl 0 _ (omega arith) (omega arith)
-          ∙ copied W a s (a .rule + 10);
+          ∙ copied W a s (a .rule + act);
       node-one = λ d k h g. split-gate d k h g 0 _ (omega arith) (omega (arith, pow-suc 2 d));
       node-zero = λ d k h g. split-gate d k h g 1 _ (omega arith) (omega (arith, pow-suc 2 d));
     }

@@ -1,5 +1,5 @@
--- Chains: a wire that is computed from the wire of the cell before, against `any`, the parity and the count of the numbers before it.
--- One induction for each kind of chain.
+-- Chains: a wire that is computed from the wire of the cell before, against `any`, the parity and the count of the numbers before it. One induction for each
+-- kind of chain.
 use mathlib.Core.Path.{_≡_, refl, sym, ap, ap₂, _∙_}
 use mathlib.Core.Bool.{Bool, true, false, _&&_, _||_}
 use Prim.Native.Nat.{ℕ, zero, suc, _+_, _≤_, _<_, suc-le-suc}

@@ -9,14 +9,16 @@ use Rattle.words.specs.Booleans.{_⊕_}
 use Rattle.gates.specs.Gates.{wiresOf}
 use Rattle.gates.proofs.Circuits.{ordered}
 use Rattle.sections.specs.declared.Addresses.{Addresses}
+use Rattle.sections.specs.Cells as Cells
+use Rattle.sections.specs.Cells.{levelLane}
 use Rattle.sections.specs.Sections.{two, three, four, six}
 use Rattle.sections.specs.Sections as Numbers
 use Rattle.netlist.specs.Templates as Templates
 use Rattle.netlist.proofs.Chains.{xor-false}
-use Rattle.netlist.proofs.Arrays.{cell-at, cells-at, line-at, array-at, zeros-at, line-zero, array-zero}
+use Rattle.netlist.proofs.Arrays.{cell-at, cells-at, lane-at, array-at, zeros-at, lane-zero, array-zero}
 use Rattle.netlist.proofs.Changes.{Wires, Changes}
 use Rattle.netlist.proofs.SectionGates.{Sections}
-use Rattle.netlist.proofs.Wiring.{levelLine, gateOn, secondWires, zero-wire}
+use Rattle.netlist.proofs.Wiring.{gateOn, secondWires, zero-wire}
 
 module _ (W : ℕ → Bool) (a : Addresses) where
   abbrev n : ℕ
@@ -26,7 +28,7 @@ module _ (W : ℕ → Bool) (a : Addresses) where
   b = a .b
 
   abbrev lrow : ℕ
-  lrow = levelLine n
+  lrow = levelLane n
 
   abbrev w : Wires
   w = secondWires W a
@@ -41,33 +43,34 @@ module _ (W : ℕ → Bool) (a : Addresses) where
   module _ (s : Sections W a) (e : a .standing ≡ a .state + 3 * n + 1 + 3 * (n * n)) where
     abbrev ruleWires : List ℕ
     ruleWires =
-        six satisfiedAt refutedAt (a .greatest + 1 + 2 * (2 + b)) (a .greatest + 1 + 2 * (1 + b)) (a .greatest + 1) (a .state + (n + (n + 0)))
+        six satisfiedAt refutedAt (Numbers.greatestAt a (2 + b)) (Numbers.greatestAt a (1 + b)) (a .greatest + Cells.kept) (a .state + (n + (n + 0)))
 
     rule-gate : (k x : ℕ) → k < 13 → x ≡ a .rule + k → W x ≡ gateOn W ruleWires Templates.rule k
     unfolding ordered
     rule-gate = cell-at W Templates.rule refl (Numbers.rule a .slots) (a .rule) (s .rule-holds) ruleWires (omega (arith, e)) refl
 
     abbrev targetWires : ℕ → List ℕ
-    targetWires i = three (a .rule + 12 + 2 ^ b + (2 ^ b - n) + i) (a .rule + 12) (a .rule + 6)
+    targetWires i = three (Numbers.nodeAt a (2 ^ b) + (2 ^ b - n) + i) (a .rule + Cells.setF) (a .rule + Cells.push)
 
     target-gate : (i : ℕ) → i < n → (k x : ℕ) → k < 3 → x ≡ a .targets + 3 * i + k → W x ≡ gateOn W (targetWires i) Templates.target k
     unfolding ordered
     target-gate i h = cells-at W Templates.target refl _ _ _ _ (s .targets-hold) i h (targetWires i) (omega arith) refl
 
-    -- T in line 0, F in line 1
+    -- T in lane 0, F in lane 1
     guard-gate : (j i : ℕ) → j < 2 → i < n → (y : ℕ) → y ≡ a .state + n * j + i → (k x : ℕ) → k < 2 → x ≡ a .guards + 2 * n * j + 2 * i + k
-        → W x ≡ gateOn W (three y (a .rule + 9) (a .rule + 6)) Templates.guard k
+        → W x ≡ gateOn W (three y (a .rule + Cells.pop) (a .rule + Cells.push)) Templates.guard k
     unfolding ordered
     guard-gate j i h g y ey k x u ex =
-        array-at W Templates.guard refl 0 _ _ _ _ _ _ (s .guards-hold) j i h g (three y (a .rule + 9) (a .rule + 6))
+        array-at W Templates.guard refl 0 _ _ _ _ _ _ (s .guards-hold) j i h g (three y (a .rule + Cells.pop) (a .rule + Cells.push))
         (omega arith) refl k x u (omega arith)
 
     select-wire : (k : ℕ) → k < n
-        → w .changes (suc k) ≡ (W (a .rule + 6) ⊕ W (a .state + (n + (n + suc k)))) && (W (a .rule + 9) ⊕ W (a .state + (n + (n + k))))
+        → w .changes (suc k) ≡ (W (a .rule + Cells.push) ⊕ W (a .state + (n + (n + suc k)))) && (W (a .rule + Cells.pop) ⊕ W (a .state + (n + (n + k))))
     unfolding wiresOf ordered
     select-wire k h =
-        line-at W Templates.select refl 1 _ _ _ _ (s .select-line-holds) k h
-        (four (a .rule + 6) (a .state + (n + (n + suc k))) (a .rule + 9) (a .state + (n + (n + k)))) (omega arith) refl 2 _ (omega arith) (omega arith)
+        lane-at W Templates.select refl 1 _ _ _ _ (s .selects-hold) k h
+        (four (a .rule + Cells.push) (a .state + (n + (n + suc k))) (a .rule + Cells.pop) (a .state + (n + (n + k)))) (omega arith) refl 2 _ (omega arith)
+        (omega arith)
 
     -- level k's wire y of its three sets, what is pushed onto it, and the total before
     abbrev levelWires : ℕ → ℕ → ℕ → ℕ → List ℕ
@@ -90,11 +93,11 @@ module _ (W : ℕ → Bool) (a : Addresses) where
     levelV-gate i k h q = array-at W Templates.level refl 1 _ _ _ _ _ _ (s .levelsV-hold) i k h q (levelWires k (n + (n + i)) _ _) (omega arith) refl
 
     standing-gate : (k x : ℕ) → k < 3 → x ≡ a .outputs + 3 * n + 1 + 3 * n * n + k
-        → W x ≡ gateOn W (four satisfiedAt (a .rule + 7) refutedAt (a .rule + 8)) Templates.standing k
+        → W x ≡ gateOn W (four satisfiedAt (a .rule + Cells.done) refutedAt (a .rule + Cells.refute)) Templates.standing k
     unfolding ordered
     standing-gate =
         cell-at W Templates.standing refl (Numbers.nextStanding a .slots) (a .outputs + 3 * n + 1 + 3 * n * n) (s .next-standing-holds)
-        (four satisfiedAt (a .rule + 7) refutedAt (a .rule + 8)) (omega (arith, e)) refl
+        (four satisfiedAt (a .rule + Cells.done) refutedAt (a .rule + Cells.refute)) (omega (arith, e)) refl
 
     assignT-wire : (i : ℕ) → i < n
         → w .δT i ≡ ((((w .popT i ⊕ w .totalT i n) ⊕ w .pushT i) ⊕ w .setsT i) ⊕ W (a .inputs)) ⊕ W (a .inputs)
@@ -130,22 +133,22 @@ module _ (W : ℕ → Bool) (a : Addresses) where
     unfolding wiresOf ordered
     changes-met = record {
       rule-is = λ k. record {
-        done = rule-gate 7 (a .rule + 7) (omega arith) refl k;
-        refute = rule-gate 8 (a .rule + 8) (omega arith) refl k;
-        pop = rule-gate 9 (a .rule + 9) (omega arith) refl k;
-        push = rule-gate 6 (a .rule + 6) (omega arith) refl k;
-        setF = rule-gate 12 (a .rule + 12) (omega arith) refl k;
-        setT = rule-gate 10 (a .rule + 10) (omega arith) refl k ⊕ rule-gate 12 (a .rule + 12) (omega arith) refl k;
+        done = rule-gate Cells.done (a .rule + Cells.done) (omega arith) refl k;
+        refute = rule-gate Cells.refute (a .rule + Cells.refute) (omega arith) refl k;
+        pop = rule-gate Cells.pop (a .rule + Cells.pop) (omega arith) refl k;
+        push = rule-gate Cells.push (a .rule + Cells.push) (omega arith) refl k;
+        setF = rule-gate Cells.setF (a .rule + Cells.setF) (omega arith) refl k;
+        setT = rule-gate Cells.act (a .rule + Cells.act) (omega arith) refl k ⊕ rule-gate Cells.setF (a .rule + Cells.setF) (omega arith) refl k;
       };
-      act-is = rule-gate 10 _ (omega arith) refl;
+      act-is = rule-gate Cells.act _ (omega arith) refl;
       setsF-is = λ i h. target-gate i h 0 _ (omega arith) (omega arith);
-      pushed-is = λ i h. target-gate i h 1 _ (omega arith) (omega arith);
-      setsT-is = λ i h. target-gate i h 2 _ (omega arith) (omega arith);
+      pushed-is = λ i h. target-gate i h Cells.pushed _ (omega arith) (omega arith);
+      setsT-is = λ i h. target-gate i h Cells.setsT _ (omega arith) (omega arith);
       popT-is = λ i h. guard-gate 0 i (omega arith) h _ (omega arith) 0 _ (omega arith) (omega arith);
       pushT-is = λ i h. guard-gate 0 i (omega arith) h _ (omega arith) 1 _ (omega arith) (omega arith);
       popF-is = λ i h. guard-gate 1 i (omega arith) h _ (omega arith) 0 _ (omega arith) (omega arith);
       pushF-is = λ i h. guard-gate 1 i (omega arith) h _ (omega arith) 1 _ (omega arith) (omega arith);
-      changes-zero = line-zero W 1 Templates.select _ _ _ _ (s .select-line-holds) 0 _ (omega arith) (omega arith);
+      changes-zero = lane-zero W 1 Templates.select _ _ _ _ (s .selects-hold) 0 _ (omega arith) (omega arith);
       changes-suc = select-wire;
       changes-end = zeros-at W _ 3 (s .select-end-holds) 2 _ (omega arith) (omega arith);
       δlevelT-is = λ k i h g. levelT-gate i k g h 1 _ (omega arith) (omega arith);

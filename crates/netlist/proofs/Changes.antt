@@ -1,6 +1,6 @@
--- The sections from rule to output: their equations, and that the outputs are the state's bits moved by the signals, as `moved` writes them out.
--- A level's wire and what is pushed onto it are never both set, nor are pop and push, so one product serves both; the XOR of the changes along
--- the levels is what a pop restores, and what a push adds is taken off.
+-- The sections from rule to output: their equations, and that the outputs are the state's bits moved by the signals, as `moved` writes them out. A level's wire
+-- and what is pushed onto it are never both set, nor are pop and push, so one product serves both; the XOR of the changes along the levels is what a pop
+-- restores, and what a push adds is taken off.
 use mathlib.Core.Path.{_≡_, refl, sym, ap, ap₂, _∙_, subst}
 use mathlib.Core.Bool.{Bool, true, false, not, _&&_, and-false, true≢false, false≢true}
 use mathlib.Core.List.{List}

@@ -1,5 +1,5 @@
 -- The circuit carries out the giant step: fed with the bits of rows and of a well-formed state, its last wires are those of the next state,
--- then whether it is closed. Its gates hold of its wires, so the wires meet the equations; the inputs stand in front, the outputs at the end.
+-- then whether it is closed. Its gates hold of its wires, so the wires meet the equations; the inputs come first, the outputs last.
 use mathlib.Core.Path.{_≡_, ap, ap₂, sym, _∙_, subst, fun-ext}
 use mathlib.Core.Bool.{Bool, true}
 use mathlib.Core.List.{List, [], _∷_, _++_, append-assoc}

@@ -13,15 +13,16 @@ use Rattle.words.specs.Sets.{lowest}
 use Rattle.words.proofs.Truth.{on}
 use Rattle.gates.specs.Gates.{Gate}
 use Rattle.sections.specs.declared.Addresses.{Addresses}
-use Rattle.sections.specs.Addressing.{digitsFor, thresholds, digitsTo, lineOf, addressesOf, addresses}
+use Rattle.sections.specs.Cells.{treeLane}
+use Rattle.sections.specs.Addressing.{digitsFor, thresholds, digitsTo, addressesOf, addresses}
 use Rattle.sections.specs.Sections as Sections
 use Rattle.sections.specs.Sections.{digitAt}
 use Rattle.netlist.specs.Templates as Templates
 use Rattle.netlist.specs.Arrays.{none, rows, cells}
 use Rattle.netlist.specs.Netlist.{zeroGate, literals, counts, ranks, digit, keySign, keyDigit, keyLow, bye, pairs, nodes, greatest, rule, root, split}
-use Rattle.netlist.specs.Netlist.{targets, guards, selectLine, selectEnd, levelsT, levelsF, levelsV, assignT, assignF, nextAssignment, nextDepth}
+use Rattle.netlist.specs.Netlist.{targets, guards, selects, selectEnd, levelsT, levelsF, levelsV, assignT, assignF, nextAssignment, nextDepth}
 use Rattle.netlist.specs.Netlist.{nextLevel, nextStanding, judging, weighing, choosing, holding, changing, outputs, circuit, gatesFor}
-use Rattle.netlist.proofs.Sizes.{Count, allGates, ands, ands-append, andGates, rows-count, cells-count, line-count, array-count}
+use Rattle.netlist.proofs.Sizes.{Count, allGates, ands, ands-append, andGates, rows-count, cells-count, lane-count, array-count}
 use Rattle.netlist.proofs.Families.{family-end}
 
 module _ (a : Addresses) where
@@ -38,14 +39,14 @@ module _ (a : Addresses) where
 
   module _ (c : Count) where
     -- k cells behind z gates that are 0
-    abbrev inLine : ℕ → List Gate → ℕ → ℕ
-    inLine z t k = c .of Templates.sum * z + c .of t * k
+    abbrev inLane : ℕ → List Gate → ℕ → ℕ
+    inLane z t k = c .of Templates.sum * z + c .of t * k
 
     join : (xs ys : List Gate) (p q : ℕ) → c .of xs ≡ p → c .of ys ≡ q → c .of (xs ++ ys) ≡ p + q
     join xs ys p q e f = c .of-append xs ys ∙ ap₂ _+_ e f
 
     judging-count : c .of (judging a)
-        ≡ c .of Templates.sum + (inLine 2 Templates.literal n * m + (inLine 2 Templates.count n * m + c .of Templates.rank * m))
+        ≡ c .of Templates.sum + (inLane 2 Templates.literal n * m + (inLane 2 Templates.count n * m + c .of Templates.rank * m))
     judging-count =
         join (zeroGate a) (literals a ++ (counts a ++ ranks a)) _ _ (c .of-cell none (a .inputs) Templates.sum)
         (join (literals a) _ _ _ (array-count c 2 Templates.literal _ _ _ _ _ _)
@@ -60,10 +61,10 @@ module _ (a : Addresses) where
         (join (keyLow a) _ _ _ (cells-count c Templates.sum _ _ _ m) (cells-count c Templates.sum _ _ _ m))))
 
     choosing-count : c .of (choosing a)
-        ≡ inLine 1 Templates.bye (3 + b) + (inLine 1 Templates.pair (3 + b) * a .pairs + (inLine 1 Templates.node (3 + b) * a .nodes
+        ≡ inLane 1 Templates.bye (3 + b) + (inLane 1 Templates.pair (3 + b) * a .pairs + (inLane 1 Templates.node (3 + b) * a .nodes
         + (c .of Templates.choice * (3 + b) + (c .of Templates.rule + (c .of Templates.sum + c .of (rows (split a) b))))))
     choosing-count =
-        join (bye a) _ _ _ (line-count c 1 Templates.bye _ _ _ _)
+        join (bye a) _ _ _ (lane-count c 1 Templates.bye _ _ _ _)
         (join (pairs a) _ _ _ (array-count c 1 Templates.pair _ _ _ _ _ _)
         (join (nodes a) _ _ _ (array-count c 1 Templates.node _ _ _ _ _ _)
         (join (greatest a) _ _ _ (cells-count c Templates.choice _ _ _ _)
@@ -71,14 +72,14 @@ module _ (a : Addresses) where
         (join (root a) (rows (split a) b) _ _ (c .of-cell (Sections.root a .slots) (a .rule + 13) Templates.sum) refl)))))
 
     holding-count : c .of (holding a)
-        ≡ c .of Templates.target * n + (inLine 0 Templates.guard n * 2 + (inLine 1 Templates.select n + c .of Templates.sum * 3))
+        ≡ c .of Templates.target * n + (inLane 0 Templates.guard n * 2 + (inLane 1 Templates.select n + c .of Templates.sum * 3))
     holding-count =
         join (targets a) _ _ _ (cells-count c Templates.target _ _ _ _)
         (join (guards a) _ _ _ (array-count c 0 Templates.guard _ _ _ _ 2 n)
-        (join (selectLine a) (selectEnd a) _ _ (line-count c 1 Templates.select _ _ _ _) (cells-count c Templates.sum _ _ _ 3)))
+        (join (selects a) (selectEnd a) _ _ (lane-count c 1 Templates.select _ _ _ _) (cells-count c Templates.sum _ _ _ 3)))
 
     changing-count : c .of (changing a)
-        ≡ inLine 1 Templates.level n * n + (inLine 1 Templates.level n * n + (inLine 1 Templates.level n * n
+        ≡ inLane 1 Templates.level n * n + (inLane 1 Templates.level n * n + (inLane 1 Templates.level n * n
         + (c .of Templates.assignment * n + (c .of Templates.assignment * n + c .of Templates.sum * (n + 1)))))
     changing-count =
         join (levelsT a) _ _ _ (array-count c 1 Templates.level _ _ _ _ _ _)
@@ -88,12 +89,12 @@ module _ (a : Addresses) where
         (join (assignF a) _ _ _ (cells-count c Templates.assignment _ _ _ _) (cells-count c Templates.sum _ _ _ _)))))
 
     outputs-count : c .of (outputs a)
-        ≡ inLine 0 Templates.sum n * 2 + (c .of Templates.sum * (n + 1) + (inLine 0 Templates.sum n * 3 * n + c .of Templates.standing))
+        ≡ inLane 0 Templates.sum n * 2 + (c .of Templates.sum * (n + 1) + (inLane 0 Templates.sum n * 3 * n + c .of Templates.standing))
     outputs-count =
         join (nextAssignment a) _ _ _ (array-count c 0 Templates.sum _ _ _ _ 2 n)
         (join (nextDepth a) _ _ _ (cells-count c Templates.sum _ _ _ (n + 1))
         (join (rows (nextLevel a) n) (nextStanding a) _ _
-        (rows-count c (nextLevel a) (inLine 0 Templates.sum n * 3) (λ l. array-count c 0 Templates.sum _ _ _ _ 3 n) n)
+        (rows-count c (nextLevel a) (inLane 0 Templates.sum n * 3) (λ l. array-count c 0 Templates.sum _ _ _ _ 3 n) n)
         (c .of-cell (Sections.nextStanding a .slots) (a .outputs + 3 * n + 1 + 3 * n * n) Templates.standing)))
 
     circuit-count : c .of (circuit a)
@@ -139,13 +140,13 @@ module _ (a : Addresses) where
   pub keyLow-length : length (keyLow a) ≡ m
   keyLow-length = copies-length _ _ _
 
-  pub bye-length : length (bye a) ≡ lineOf b
-  bye-length = line-count allGates 1 Templates.bye _ _ _ _
+  pub bye-length : length (bye a) ≡ treeLane b
+  bye-length = lane-count allGates 1 Templates.bye _ _ _ _
 
-  pub pairs-length : length (pairs a) ≡ lineOf b * a .pairs
+  pub pairs-length : length (pairs a) ≡ treeLane b * a .pairs
   pairs-length = array-count allGates 1 Templates.pair _ _ _ _ _ _
 
-  pub nodes-length : length (nodes a) ≡ lineOf b * a .nodes
+  pub nodes-length : length (nodes a) ≡ treeLane b * a .nodes
   nodes-length = array-count allGates 1 Templates.node _ _ _ _ _ _
 
   pub greatest-length : length (greatest a) ≡ 2 * (3 + b)
@@ -163,8 +164,8 @@ module _ (a : Addresses) where
   pub guards-length : length (guards a) ≡ 4 * n
   guards-length = array-count allGates 0 Templates.guard _ _ _ _ 2 n ∙ omega arith
 
-  pub select-line-length : length (selectLine a) ≡ 1 + 3 * n
-  select-line-length = line-count allGates 1 Templates.select _ _ _ _
+  pub selects-length : length (selects a) ≡ 1 + 3 * n
+  selects-length = lane-count allGates 1 Templates.select _ _ _ _
 
   pub levelsT-length : length (levelsT a) ≡ (1 + 3 * n) * n
   levelsT-length = array-count allGates 1 Templates.level _ _ _ _ _ _
@@ -201,7 +202,7 @@ module _ (a : Addresses) where
   pub weighing-length : length (weighing a) ≡ digitsTo n m b + m * (3 + b)
   weighing-length = omega (arith, weighing-count allGates, digits-length, keyDigits-length)
 
-  pub choosing-length : length (choosing a) ≡ lineOf b + (lineOf b * a .pairs + (lineOf b * a .nodes + (2 * (3 + b) + (12 + 2 * 2 ^ b))))
+  pub choosing-length : length (choosing a) ≡ treeLane b + (treeLane b * a .pairs + (treeLane b * a .nodes + (2 * (3 + b) + (12 + 2 * 2 ^ b))))
   choosing-length = omega (arith, choosing-count allGates, splits-length)
 
   pub holding-length : length (holding a) ≡ 3 * n + (4 * n + (4 + 3 * n))

@@ -1,5 +1,5 @@
--- A tree of one AND gate a node decodes a number: each node goes to its two children by the next digit, the highest first,
--- and the leaf that is set is the number's. By induction on the digits.
+-- A tree of one AND gate a node decodes a number: each node goes to its two children by the next digit, the highest first, and the leaf that is set is the
+-- number's. By induction on the digits.
 use mathlib.Core.Path.{_≡_, refl, sym, ap, _∙_}
 use mathlib.Core.Bool.{Bool, true, false, _&&_}
 use Prim.Native.Nat.{ℕ, zero, suc, _+_, _*_, _-_, _/_, _%_, _^_, _≤_, _<_}

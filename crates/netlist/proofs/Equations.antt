@@ -60,7 +60,7 @@ pub record Wires : Type 0 where
   pub sum : ℕ → ℕ → ℕ → Bool
   -- key: row, then digit
   pub key : ℕ → ℕ → Bool
-  -- pair, node: a line of the tree, then digit. Its left item, where its two items differ, and the right one greater; the right one is kept
+  -- pair, node: a lane of the tree, then digit. Its left item, where its two items differ, and the right one greater; the right one is kept
   pub left : ℕ → ℕ → Bool
   pub differs : ℕ → ℕ → Bool
   pub greater : ℕ → ℕ → Bool
@@ -71,7 +71,7 @@ pub record Wires : Type 0 where
   pub act : Bool
   pub node : ℕ → ℕ → Bool
 
--- the items that the tree compares: the keys of m rows, then what each line keeps
+-- the items that the tree compares: the keys of m rows, then what each lane keeps
 abbrev pub itemOf : ℕ → Wires → ℕ → ℕ → Bool
 itemOf m w t i = cond (ltb t m) (w .key t i) (w .left (t - m) i ⊕ (w .keep (t - m) && w .differs (t - m) i))
 
@@ -106,7 +106,7 @@ pub record Cells (n m b : ℕ) (w : Wires) : Type 0 where
   pub key-digit : (j d : ℕ) → j < m → d < b → w .key j (suc d) ≡ w .sum d j ((n - 1) / 2 ^ d)
   pub key-low : (j : ℕ) → j < m → w .key j (suc b) ≡ w .low j
   pub key-high : (j : ℕ) → j < m → w .key j (suc (suc b)) ≡ w .high j
-  -- pair, node: line s compares items 2s and 2s + 1
+  -- pair, node: lane s compares items 2s and 2s + 1
   pub left-is : (s i : ℕ) → suc s < m → i < suc (suc (suc b)) → w .left s i ≡ itemOf m w (2 * s) i
   pub differs-is : (s i : ℕ) → suc s < m → i < suc (suc (suc b)) → w .differs s i ≡ itemOf m w (2 * s) i ⊕ itemOf m w (2 * s + 1) i
   pub greater-zero : (s : ℕ) → suc s < m → w .greater s 0 ≡ false

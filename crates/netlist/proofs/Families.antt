@@ -1,4 +1,4 @@
--- Families of sections, one behind the other, of sizes that differ: each member's gates hold at its base, and are accepted there. By induction on their number.
+-- Families of sections, one after the other, of sizes that differ: each member's gates hold at its base, and are accepted there. By induction on their number.
 use mathlib.Core.Path.{_≡_, refl, ap, _∙_, subst}
 use mathlib.Core.Bool.{Bool, true}
 use mathlib.Core.List.{List}

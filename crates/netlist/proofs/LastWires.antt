@@ -1,4 +1,4 @@
--- Gates' wires stand behind the inputs, and the last wires of a list are those from a number on: each by induction.
+-- Gates' wires come after the inputs, and the last wires of a list are those from a number on: each by induction.
 use mathlib.Core.Path.{_≡_, sym, ap, ap₂, _∙_}
 use mathlib.Core.Bool.{Bool, false}
 use mathlib.Core.List.{List, [], _∷_, _++_, append-assoc, append-nil}

@@ -1,5 +1,5 @@
--- What the signals of a rule make of a state's bits: `moved` writes out the sections from select to output, and each rule's signals make the bits
--- of the next state. The depth is one-hot, so the XOR over the levels is what stands at the last one.
+-- What the signals of a rule make of a state's bits: `moved` writes out the sections from select to output, and each rule's signals make the bits of the next
+-- state. The depth is one-hot, so the XOR over the levels is what is at the last one.
 use mathlib.Core.Path.{_≡_, refl, sym, ap, ap₂, _∙_}
 use mathlib.Core.Bool.{Bool, true, false, _&&_, or-false}
 use mathlib.Core.List.{List, _∷_}

@@ -1,6 +1,6 @@
--- The sections literal, count and rank: the chains of a row say whether it is satisfied and, where it is not, which literals are free,
--- whether there is one and whether there are two, and of a unit row its sign; the rank says which of four kinds the row is.
--- A truth table gives each cell, the laws of chains give the row.
+-- The sections literal, count and rank: the chains of a row say whether it is satisfied and, where it is not, which literals are free, whether there is one and
+-- whether there are two, and of a unit row its sign; the rank says which of four kinds the row is. A truth table gives each cell, the laws of chains give the
+-- row.
 use mathlib.Core.Path.{_≡_, refl, sym, ap, ap₂, _∙_}
 use mathlib.Core.Bool.{Bool, true, false, not, _&&_, _||_}
 use mathlib.Core.List.{List}

@@ -7,17 +7,18 @@ use native.Mathlib.Omega.{arith}
 use lib.ListN.{length}
 use Rattle.gates.specs.Gates.{Gate}
 use Rattle.sections.specs.declared.Addresses.{Addresses}
-use Rattle.sections.specs.Addressing.{digitsTo, lineOf, addressesOf}
-use Rattle.sections.specs.Sections.{digitAt}
+use Rattle.sections.specs.Cells.{treeLane}
+use Rattle.sections.specs.Addressing.{digitsTo, addressesOf}
+use Rattle.sections.specs.Sections.{digitAt, nodeAt}
 use Rattle.netlist.specs.Arrays.{rows}
 use Rattle.netlist.specs.Netlist.{zeroGate, literals, counts, ranks, digit, keySign, keyDigit, keyLow, keyHigh, bye, pairs, nodes, greatest, rule, root}
-use Rattle.netlist.specs.Netlist.{split, targets, guards, selectLine, selectEnd, levelsT, levelsF, levelsV, assignT, assignF, depths, nextAssignment}
+use Rattle.netlist.specs.Netlist.{split, targets, guards, selects, selectEnd, levelsT, levelsF, levelsV, assignT, assignF, depths, nextAssignment}
 use Rattle.netlist.specs.Netlist.{nextDepth, nextLevel, nextStanding, judging, weighing, choosing, holding, changing, outputs, circuit}
 use Rattle.netlist.proofs.Values.{Holds, holds-left, holds-right, holds-rows}
 use Rattle.netlist.proofs.Families.{family-holds}
 use Rattle.netlist.proofs.Counts.{literals-length, counts-length, digit-next, digits-length, keySign-length, keyDigit-next, keyDigits-length}
 use Rattle.netlist.proofs.Counts.{keyLow-length, bye-length, pairs-length, nodes-length, greatest-length, split-next, targets-length, guards-length}
-use Rattle.netlist.proofs.Counts.{select-line-length, levelsT-length, levelsF-length, levelsV-length, assignT-length, assignF-length}
+use Rattle.netlist.proofs.Counts.{selects-length, levelsT-length, levelsF-length, levelsV-length, assignT-length, assignF-length}
 use Rattle.netlist.proofs.Counts.{next-assignment-length, next-depth-length, next-level-length, next-levels-length, judging-length, weighing-length}
 use Rattle.netlist.proofs.Counts.{choosing-length, holding-length, changing-length}
 
@@ -33,15 +34,15 @@ pub record Sections (W : ℕ → Bool) (a : Addresses) : Type 0 where
   pub keyLow-holds : Holds W (a .keys + a .m * (1 + a .b)) (keyLow a)
   pub keyHigh-holds : Holds W (a .keys + a .m * (2 + a .b)) (keyHigh a)
   pub bye-holds : Holds W (a .tree) (bye a)
-  pub pairs-hold : Holds W (a .tree + lineOf (a .b)) (pairs a)
-  pub nodes-hold : Holds W (a .tree + lineOf (a .b) + lineOf (a .b) * a .pairs) (nodes a)
+  pub pairs-hold : Holds W (a .tree + treeLane (a .b)) (pairs a)
+  pub nodes-hold : Holds W (a .tree + treeLane (a .b) + treeLane (a .b) * a .pairs) (nodes a)
   pub greatest-holds : Holds W (a .greatest) (greatest a)
   pub rule-holds : Holds W (a .rule) (rule a)
   pub root-holds : Holds W (a .rule + 13) (root a)
-  pub split-holds : (d : ℕ) → d < a .b → Holds W (a .rule + 12 + 2 * 2 ^ d) (split a d)
+  pub split-holds : (d : ℕ) → d < a .b → Holds W (nodeAt a (2 * 2 ^ d)) (split a d)
   pub targets-hold : Holds W (a .targets) (targets a)
   pub guards-hold : Holds W (a .guards) (guards a)
-  pub select-line-holds : Holds W (a .selects) (selectLine a)
+  pub selects-hold : Holds W (a .selects) (selects a)
   pub select-end-holds : Holds W (a .selects + 1 + 3 * a .n) (selectEnd a)
   pub levelsT-hold : Holds W (a .levels) (levelsT a)
   pub levelsF-hold : Holds W (a .levels + a .block) (levelsF a)
@@ -58,7 +59,7 @@ module _ (W : ℕ → Bool) (n m b : ℕ) where
   abbrev a : Addresses
   a = addressesOf n m b
 
-  -- what stands behind gates from wire x on begins at wire y
+  -- what follows gates from wire x on begins at wire y
   behind : (x y : ℕ) (xs ys : List Gate) → Holds W x (xs ++ ys) → x + length xs ≡ y → Holds W y ys
   behind x y xs ys h e = subst (λ (k : ℕ). Holds W k ys) e (holds-right W x xs ys h)
 
@@ -79,8 +80,8 @@ module _ (W : ℕ → Bool) (n m b : ℕ) where
       let weighed₂ = behind _ (a .keys + m * (1 + 0)) (keySign a) _ weighed₁ (omega (arith, keySign-length a)) in
       let weighed₃ = behind _ (a .keys + m * (1 + b)) (rows (keyDigit a) b) _ weighed₂ (omega (arith, keyDigits-length a)) in
       let chosen = holds-left W _ (choosing a) _ choose in
-      let chosen₁ = behind _ (a .tree + lineOf b) (bye a) _ chosen (omega (arith, bye-length a)) in
-      let chosen₂ = behind _ (a .tree + lineOf b + lineOf b * a .pairs) (pairs a) _ chosen₁ (omega (arith, pairs-length a)) in
+      let chosen₁ = behind _ (a .tree + treeLane b) (bye a) _ chosen (omega (arith, bye-length a)) in
+      let chosen₂ = behind _ (a .tree + treeLane b + treeLane b * a .pairs) (pairs a) _ chosen₁ (omega (arith, pairs-length a)) in
       let chosen₃ = behind _ (a .greatest) (nodes a) _ chosen₂ (omega (arith, nodes-length a)) in
       let chosen₄ = behind _ (a .rule) (greatest a) _ chosen₃ (omega (arith, greatest-length a)) in
       let chosen₅ = behind (a .rule) (a .rule + 13) (rule a) (root a ++ rows (split a) b) chosen₄ refl in
@@ -112,12 +113,12 @@ module _ (W : ℕ → Bool) (n m b : ℕ) where
         greatest-holds = holds-left W _ (greatest a) _ chosen₃;
         rule-holds = holds-left W (a .rule) (rule a) (root a ++ rows (split a) b) chosen₄;
         root-holds = holds-left W (a .rule + 13) (root a) (rows (split a) b) chosen₅;
-        split-holds = family-holds (split a) (λ d. a .rule + 12 + 2 * 2 ^ d) b (split-next a) W
-            (behind (a .rule + 13) (a .rule + 12 + 2 * 2 ^ 0) (root a) (rows (split a) b) chosen₅ (omega arith));
+        split-holds = family-holds (split a) (λ d. nodeAt a (2 * 2 ^ d)) b (split-next a) W
+            (behind (a .rule + 13) (nodeAt a (2 * 2 ^ 0)) (root a) (rows (split a) b) chosen₅ (omega arith));
         targets-hold = holds-left W _ (targets a) _ held;
         guards-hold = holds-left W _ (guards a) _ held₁;
-        select-line-holds = holds-left W _ (selectLine a) _ held₂;
-        select-end-holds = behind _ (a .selects + 1 + 3 * n) (selectLine a) _ held₂ (omega (arith, select-line-length a));
+        selects-hold = holds-left W _ (selects a) _ held₂;
+        select-end-holds = behind _ (a .selects + 1 + 3 * n) (selects a) _ held₂ (omega (arith, selects-length a));
         levelsT-hold = holds-left W _ (levelsT a) _ changed;
         levelsF-hold = holds-left W _ (levelsF a) _ changed₁;
         levelsV-hold = holds-left W _ (levelsV a) _ changed₂;

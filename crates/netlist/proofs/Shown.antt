@@ -1,5 +1,5 @@
--- The sections up to the decoder find the rule that applies: the greatest key's rank says which one, and its variable and sign are those of rule 3 or 4.
--- By the greatest key's rank; a row that spoke for another rule, a lower variable or the other sign would have a greater key.
+-- The sections up to the decoder find the rule that applies: the greatest key's rank says which one, and its variable and sign are those of rule 3 or 4. By the
+-- greatest key's rank; a row that spoke for another rule, a lower variable or the other sign would have a greater key.
 use mathlib.Core.Path.{_≡_, refl, sym, ap, ap₂, _∙_}
 use mathlib.Core.Bool.{Bool, true, false, not, _&&_, _||_, true≢false}
 use mathlib.Core.List.{List}
@@ -142,7 +142,7 @@ module _ (n b : ℕ) (rows : List Row) (t f : ℕ) (w : Wires) (on-state : OnSta
         rank-le (w .high j) (w .low j) (w .high best) (w .low best) (under j) (under best) (2 ^ suc b)
         (below-lt n b rows t f w on-state j) (below-lt n b rows t f w on-state best) (most n b rows t f w on-state j h)
 
-    -- with the same rank, neither is what stands below the rank
+    -- with the same rank, neither is what is below the rank
     below-most : w .high j ≡ w .high best → w .low j ≡ w .low best → under j ≤ under best
     below-most p q =
         let same : ranked (w .high j) (w .low j) (under j) (2 ^ suc b) ≡ ranked (w .high best) (w .low best) (under j) (2 ^ suc b) =

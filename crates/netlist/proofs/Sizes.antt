@@ -8,7 +8,7 @@ use lib.ListN.{length, length-append, length-map}
 use Rattle.gates.specs.Gates.{Gate}
 use Rattle.gates.specs.Gates.Gate.{XOR, AND, INV}
 use Rattle.netlist.specs.Templates.{sum}
-use Rattle.netlist.specs.Arrays.{placed, cell, rows, along, none, cells, line, array}
+use Rattle.netlist.specs.Arrays.{placed, cell, rows, along, none, cells, lane, array}
 
 -- ---- what is counted
 
@@ -60,9 +60,9 @@ module _ (c : Count) where
   cells-count t slots steps b n =
       rows-count (λ i. cell (along slots steps i) (b + length t * i) t) (c .of t) (λ i. c .of-cell (along slots steps i) (b + length t * i) t) n
 
-  pub line-count : (z : ℕ) (t : List Gate) (slots steps : List ℕ) (b n : ℕ) → c .of (line z t slots steps b n) ≡ c .of sum * z + c .of t * n
-  unfolding line
-  line-count z t slots steps b n =
+  pub lane-count : (z : ℕ) (t : List Gate) (slots steps : List ℕ) (b n : ℕ) → c .of (lane z t slots steps b n) ≡ c .of sum * z + c .of t * n
+  unfolding lane
+  lane-count z t slots steps b n =
       c .of-append (cells sum none none b z) (cells t slots steps (b + z) n)
       ∙ omega (arith, cells-count sum none none b z, cells-count t slots steps (b + z) n)
 
@@ -70,8 +70,8 @@ module _ (c : Count) where
       → c .of (array z t slots outer inner b m n) ≡ (c .of sum * z + c .of t * n) * m
   unfolding array
   array-count z t slots outer inner b m n =
-      rows-count (λ i. line z t (along slots outer i) inner (b + (z + length t * n) * i) n) (c .of sum * z + c .of t * n)
-      (λ i. line-count z t (along slots outer i) inner (b + (z + length t * n) * i) n) m
+      rows-count (λ i. lane z t (along slots outer i) inner (b + (z + length t * n) * i) n) (c .of sum * z + c .of t * n)
+      (λ i. lane-count z t (along slots outer i) inner (b + (z + length t * n) * i) n) m
 
 -- ---- all gates
 
@@ -83,11 +83,11 @@ rows-length = rows-count allGates
 pub cells-length : (t : List Gate) (slots steps : List ℕ) (b n : ℕ) → length (cells t slots steps b n) ≡ length t * n
 cells-length = cells-count allGates
 
--- a line of z zeros and n cells has z gates and n times its template's
-pub line-length : (z : ℕ) (t : List Gate) (slots steps : List ℕ) (b n : ℕ) → length (line z t slots steps b n) ≡ z + length t * n
-line-length z t slots steps b n = line-count allGates z t slots steps b n ∙ omega arith
+-- a lane of z zeros and n cells has z gates and n times its template's
+pub lane-length : (z : ℕ) (t : List Gate) (slots steps : List ℕ) (b n : ℕ) → length (lane z t slots steps b n) ≡ z + length t * n
+lane-length z t slots steps b n = lane-count allGates z t slots steps b n ∙ omega arith
 
--- m lines of z zeros and n cells each have m times the gates of one such line
+-- m lanes of z zeros and n cells each have m times the gates of one such lane
 pub array-length : (z : ℕ) (t : List Gate) (slots outer inner : List ℕ) (b m n : ℕ) → length (array z t slots outer inner b m n) ≡ (z + length t * n) * m
 array-length z t slots outer inner b m n =
     array-count allGates z t slots outer inner b m n ∙ ap (λ (k : ℕ). (k + length t * n) * m) (let h : 1 * z ≡ z = omega arith in h)

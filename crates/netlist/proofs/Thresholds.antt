@@ -1,6 +1,6 @@
--- The lowest variable as a number with no AND gate: the digits of n - 1 - v are parities of the wires that say whether some variable
--- below a threshold passes, the thresholds a power of two apart.
--- Such a wire says that v is below the threshold; how many say so is a quotient, and its parity a digit. By induction on the thresholds.
+-- The lowest variable as a number with no AND gate: the digits of n - 1 - v are parities of the wires that say whether some variable below a threshold passes,
+-- the thresholds a power of two apart. Such a wire says that v is below the threshold; how many say so is a quotient, and its parity a digit. By induction on
+-- the thresholds.
 use mathlib.Core.Path.{_≡_, refl, sym, ap, _∙_}
 use mathlib.Core.Bool.{Bool, true, false, not}
 use Prim.Native.Nat.{ℕ, zero, suc, _+_, _*_, _-_, _/_, _%_, _^_, _≤_, _<_, zero-le, suc-le-suc}

@@ -1,6 +1,5 @@
--- The greatest of the rows' keys: items 0 to m - 1 are the keys, item m + s is the greater of items 2s and 2s + 1.
--- Then the last item is the key of some row, and no key is greater.
--- Each item is a key, by induction on its number; none is greater than the last, by induction on how far it is from the last.
+-- The greatest of the rows' keys: items 0 to m - 1 are the keys, item m + s is the greater of items 2s and 2s + 1. Then the last item is the key of some row,
+-- and no key is greater. Each item is a key, by induction on its number; none is greater than the last, by induction on how far it is from the last.
 use mathlib.Core.Path.{_≡_, sym, ap, _∙_}
 use mathlib.Core.Bool.{Bool, true, false}
 use Prim.Native.Nat.{ℕ, zero, suc, _+_, _*_, _-_, _/_, _≤_, _<_}

@@ -9,8 +9,9 @@ use Rattle.gates.specs.Gates.{Gate, wire, wiresOf}
 use Rattle.gates.proofs.Circuits.{ordered}
 use Rattle.wires.specs.Bits.{stateAt}
 use Rattle.sections.specs.declared.Addresses.{Addresses}
-use Rattle.sections.specs.Addressing.{thresholds, lineOf}
-use Rattle.sections.specs.Sections.{digitAt}
+use Rattle.sections.specs.Cells as Cells
+use Rattle.sections.specs.Addressing.{thresholds, levelsFrom}
+use Rattle.sections.specs.Sections.{digitAt, guardsF}
 use Rattle.netlist.specs.Templates as Templates
 use Rattle.netlist.specs.Arrays.{none}
 use Rattle.netlist.proofs.Chains.{xor-false, xor-self}
@@ -19,16 +20,6 @@ use Rattle.netlist.proofs.Equations as First
 use Rattle.netlist.proofs.Changes as Second
 use Rattle.netlist.proofs.Steps.{Joined}
 use Rattle.netlist.proofs.SectionGates.{Sections}
-
--- how many wires a row's line of cells has: of literals, of counts; and a variable's line of levels
-abbrev pub literalLine : ℕ → ℕ
-literalLine n = 2 + 12 * n
-
-abbrev pub countLine : ℕ → ℕ
-countLine n = 2 + 6 * n
-
-abbrev pub levelLine : ℕ → ℕ
-levelLine n = 1 + 3 * n
 
 -- gate k of a cell that takes these wires
 abbrev pub gateOn : (ℕ → Bool) → List ℕ → List Gate → ℕ → Bool
@@ -52,59 +43,59 @@ module _ (W : ℕ → Bool) (a : Addresses) where
     q = λ j i. W (2 * n * j + n + i);
     T = λ i. W (a .state + i);
     F = λ i. W (a .state + n + i);
-    satisfied = λ j i. W (a .literals + literalLine n * j + 12 * i);
-    sign = λ j i. W (a .literals + 1 + literalLine n * j + 12 * i);
-    literal = λ j i. W (a .literals + 10 + literalLine n * j + 12 * i);
-    some = λ j i. W (a .counts + countLine n * j + 6 * i);
-    many = λ j i. W (a .counts + 1 + countLine n * j + 6 * i);
-    high = λ j. W (a .ranks + 2 + 5 * j);
-    low = λ j. W (a .ranks + 4 + 5 * j);
+    satisfied = λ j i. W (a .literals + Cells.literalLane n * j + Cells.literal .size * i);
+    sign = λ j i. W (a .literals + Cells.sign + Cells.literalLane n * j + Cells.literal .size * i);
+    literal = λ j i. W (a .literals + Cells.free + Cells.literalLane n * j + Cells.literal .size * i);
+    some = λ j i. W (a .counts + Cells.countLane n * j + Cells.count .size * i);
+    many = λ j i. W (a .counts + Cells.many + Cells.countLane n * j + Cells.count .size * i);
+    high = λ j. W (a .ranks + Cells.high + Cells.rank .size * j);
+    low = λ j. W (a .ranks + Cells.low + Cells.rank .size * j);
     sum = λ d j k. W (digitAt a d + (1 + thresholds n d) * j + k);
     key = λ j i. W (a .keys + a .m * i + j);
-    left = λ p i. W (a .tree + 2 + lineOf b * suc p + 8 * i);
-    differs = λ p i. W (a .tree + 5 + lineOf b * suc p + 8 * i);
-    greater = λ p i. W (a .tree + lineOf b * suc p + 8 * i);
-    keep = λ p. W (a .tree + lineOf b * suc p + 8 * (3 + b));
-    greatest = λ i. W (a .greatest + 1 + 2 * i);
-    act = W (a .rule + 10);
-    node = λ d k. W (a .rule + 12 + 2 ^ d + k);
+    left = λ p i. W (a .tree + Cells.left + Cells.treeLane b * suc p + Cells.node .size * i);
+    differs = λ p i. W (a .tree + Cells.differs + Cells.treeLane b * suc p + Cells.node .size * i);
+    greater = λ p i. W (a .tree + Cells.treeLane b * suc p + Cells.node .size * i);
+    keep = λ p. W (a .tree + Cells.treeLane b * suc p + Cells.node .size * (3 + b));
+    greatest = λ i. W (a .greatest + Cells.kept + Cells.choice .size * i);
+    act = W (a .rule + Cells.act);
+    node = λ d k. W (a .rule + Cells.decoder + 2 ^ d + k);
   }
 
   abbrev pub secondWires : Second.Wires
   secondWires = record {
     now = stateAt n (λ k. W (a .state + k));
-    high = W (a .greatest + 1 + 2 * (2 + b));
-    low = W (a .greatest + 1 + 2 * (1 + b));
-    sign = W (a .greatest + 1);
+    high = W (a .greatest + Cells.kept + Cells.choice .size * (2 + b));
+    low = W (a .greatest + Cells.kept + Cells.choice .size * (1 + b));
+    sign = W (a .greatest + Cells.kept);
     rule = record {
-      done = W (a .rule + 7);
-      refute = W (a .rule + 8);
-      pop = W (a .rule + 9);
-      push = W (a .rule + 6);
-      setF = W (a .rule + 12);
-      setT = W (a .rule + 10) ⊕ W (a .rule + 12);
+      done = W (a .rule + Cells.done);
+      refute = W (a .rule + Cells.refute);
+      pop = W (a .rule + Cells.pop);
+      push = W (a .rule + Cells.push);
+      setF = W (a .rule + Cells.setF);
+      setT = W (a .rule + Cells.act) ⊕ W (a .rule + Cells.setF);
     };
-    act = W (a .rule + 10);
-    variable = λ i. W (a .rule + 12 + 2 ^ b + (2 ^ b - n) + i);
-    setsF = λ i. W (a .targets + 3 * i);
-    pushed = λ i. W (a .targets + 1 + 3 * i);
-    setsT = λ i. W (a .targets + 2 + 3 * i);
-    popT = λ i. W (a .guards + 2 * i);
-    pushT = λ i. W (a .guards + 1 + 2 * i);
-    popF = λ i. W (a .guards + 2 * n + 2 * i);
-    pushF = λ i. W (a .guards + 2 * n + 1 + 2 * i);
-    changes = λ k. W (a .selects + 3 * k);
-    δlevelT = λ k i. W (a .levels + 2 + levelLine n * i + 3 * k);
-    δlevelF = λ k i. W (a .levels + a .block + 2 + levelLine n * i + 3 * k);
-    δchosen = λ k i. W (a .levels + 2 * a .block + 2 + levelLine n * i + 3 * k);
-    totalT = λ i k. W (a .levels + levelLine n * i + 3 * k);
-    totalF = λ i k. W (a .levels + a .block + levelLine n * i + 3 * k);
-    totalV = λ i k. W (a .levels + 2 * a .block + levelLine n * i + 3 * k);
-    δT = λ i. W (a .assignments + 4 + 5 * i);
-    δF = λ i. W (a .assignments + 5 * n + 4 + 5 * i);
+    act = W (a .rule + Cells.act);
+    variable = λ i. W (a .rule + Cells.decoder + 2 ^ b + (2 ^ b - n) + i);
+    setsF = λ i. W (a .targets + Cells.target .size * i);
+    pushed = λ i. W (a .targets + Cells.pushed + Cells.target .size * i);
+    setsT = λ i. W (a .targets + Cells.setsT + Cells.target .size * i);
+    popT = λ i. W (a .guards + Cells.guard .size * i);
+    pushT = λ i. W (a .guards + Cells.saved + Cells.guard .size * i);
+    popF = λ i. W (guardsF a + Cells.guard .size * i);
+    pushF = λ i. W (guardsF a + Cells.saved + Cells.guard .size * i);
+    changes = λ k. W (a .selects + Cells.select .size * k);
+    δlevelT = λ k i. W (a .levels + Cells.levelChange + Cells.levelLane n * i + Cells.level .size * k);
+    δlevelF = λ k i. W (a .levels + a .block + Cells.levelChange + Cells.levelLane n * i + Cells.level .size * k);
+    δchosen = λ k i. W (a .levels + 2 * a .block + Cells.levelChange + Cells.levelLane n * i + Cells.level .size * k);
+    totalT = λ i k. W (a .levels + Cells.levelLane n * i + Cells.level .size * k);
+    totalF = λ i k. W (a .levels + a .block + Cells.levelLane n * i + Cells.level .size * k);
+    totalV = λ i k. W (a .levels + 2 * a .block + Cells.levelLane n * i + Cells.level .size * k);
+    δT = λ i. W (a .assignments + Cells.change + Cells.assignment .size * i);
+    δF = λ i. W (a .assignments + Cells.assignment .size * n + Cells.change + Cells.assignment .size * i);
     δdepth = λ k. W (a .depths + k);
     next = stateAt n (λ k. W (a .outputs + k));
-    closing = W (a .outputs + 3 * n + 1 + 3 * n * n + 2);
+    closing = W (levelsFrom n (a .outputs) + 3 * n * n + 2);
   }
 
   pub halves-joined : Joined n b firstWires secondWires

@@ -23,7 +23,7 @@ placed slots b (INV x) = INV (operand slots b x)
 abbrev pub cell : List ℕ → ℕ → List Gate → List Gate
 cell slots b template = map (placed slots b) template
 
--- f 0, f 1, .. , one behind the other
+-- f 0, f 1, .. , one after the other
 abbrev pub rows : (ℕ → List Gate) → ℕ → List Gate
 rows f zero = []
 rows f (suc n) = rows f n ++ f n
@@ -43,12 +43,12 @@ abbrev pub none : List ℕ
 none = 0 ∷ 0 ∷ 0 ∷ 0 ∷ 0 ∷ 0 ∷ 0 ∷ 0 ∷ []
 
 -- z gates that are 0, then n cells: where a cell's last z gates are what the next cell takes, the first takes zeros
-unfoldable pub line : ℕ → List Gate → List ℕ → List ℕ → ℕ → ℕ → List Gate
-line z t slots steps b n = cells sum none none b z ++ cells t slots steps (b + z) n
+unfoldable pub lane : ℕ → List Gate → List ℕ → List ℕ → ℕ → ℕ → List Gate
+lane z t slots steps b n = cells sum none none b z ++ cells t slots steps (b + z) n
 
--- m lines
+-- m lanes
 unfoldable pub array : ℕ → List Gate → List ℕ → List ℕ → List ℕ → ℕ → ℕ → ℕ → List Gate
-array z t slots outer inner b m n = rows (λ i. line z t (along slots outer i) inner (b + (z + length t * n) * i) n) m
+array z t slots outer inner b m n = rows (λ i. lane z t (along slots outer i) inner (b + (z + length t * n) * i) n) m
 
 -- a section's gates, with each cell this template: one cell
 abbrev pub oneCell : List Gate → Section → List Gate
@@ -58,13 +58,13 @@ oneCell t s = cell (s .slots) (s .base) t
 abbrev pub inCells : List Gate → Section → List Gate
 inCells t s = cells t (s .slots) (s .inner) (s .base) (s .cells)
 
--- cells behind zeros
-abbrev pub inLine : List Gate → Section → List Gate
-inLine t s = line (s .zeros) t (s .slots) (s .inner) (s .base) (s .cells)
+-- zeros, then cells
+abbrev pub inLane : List Gate → Section → List Gate
+inLane t s = lane (s .zeros) t (s .slots) (s .inner) (s .base) (s .cells)
 
--- lines of them
+-- lanes of them
 abbrev pub inArray : List Gate → Section → List Gate
-inArray t s = array (s .zeros) t (s .slots) (s .outer) (s .inner) (s .base) (s .lines) (s .cells)
+inArray t s = array (s .zeros) t (s .slots) (s .outer) (s .inner) (s .base) (s .lanes) (s .cells)
 
 -- every slot is below k
 abbrev pub Below : ℕ → List ℕ → Type 0

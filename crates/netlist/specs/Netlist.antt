@@ -1,4 +1,4 @@
--- The circuit of the giant step for n variables and m rows: its sections, one behind the other.
+-- The circuit of the giant step for n variables and m rows: its sections, one after the other.
 use mathlib.Core.List.{List, _++_}
 use Prim.Native.Nat.{ℕ}
 use Rattle.dimensions.specs.declared.Dimensions.{Dimensions}
@@ -8,7 +8,7 @@ use Rattle.sections.specs.Addressing.{addresses}
 use Rattle.sections.specs.Sections as Sections
 use Rattle.gates.specs.Gates.{Gate}
 use Rattle.netlist.specs.Templates as Templates
-use Rattle.netlist.specs.Arrays.{rows, oneCell, inCells, inLine, inArray}
+use Rattle.netlist.specs.Arrays.{rows, oneCell, inCells, inLane, inArray}
 
 module _ (a : Addresses) where
   -- ---- what the rows say
@@ -55,17 +55,17 @@ module _ (a : Addresses) where
 
   -- the last row's key, which an odd number of rows leaves over
   abbrev pub bye : List Gate
-  bye = inLine Templates.bye (Sections.bye a)
+  bye = inLane Templates.bye (Sections.bye a)
 
-  -- the lines of two rows, a chain along the digits
+  -- the lanes of two rows, a chain along the digits
   abbrev pub pairs : List Gate
   pairs = inArray Templates.pair (Sections.pairs a)
 
-  -- the lines of two lines, a chain likewise
+  -- the lanes of two lanes, a chain likewise
   abbrev pub nodes : List Gate
   nodes = inArray Templates.node (Sections.nodes a)
 
-  -- what the last line keeps
+  -- what the last lane keeps
   abbrev pub greatest : List Gate
   greatest = inCells Templates.choice (Sections.greatest a)
 
@@ -94,10 +94,10 @@ module _ (a : Addresses) where
   guards = inArray Templates.guard (Sections.guards a)
 
   -- whether each level changes, between zeros
-  abbrev pub selectLine : List Gate
-  selectLine = inLine Templates.select (Sections.selectLine a)
+  abbrev pub selects : List Gate
+  selects = inLane Templates.select (Sections.selects a)
 
-  -- the zeros behind the last level
+  -- the zeros after the last level
   abbrev pub selectEnd : List Gate
   selectEnd = inCells Templates.sum (Sections.selectEnd a)
 
@@ -165,7 +165,7 @@ module _ (a : Addresses) where
 
   -- what the rule does
   abbrev pub holding : List Gate
-  holding = targets ++ (guards ++ (selectLine ++ selectEnd))
+  holding = targets ++ (guards ++ (selects ++ selectEnd))
 
   -- all changes
   abbrev pub changing : List Gate

@@ -1,4 +1,5 @@
 -- The circuit's output values, and what is asked of a circuit in memory: document 01, "Circuit".
+-- Ask: Are the last wires the next state and its closing bit?
 use Prim.Native.Nat.{ℕ, _+_, _*_, _-_, _/_, _≤_}
 use mathlib.Core.Path.{_≡_}
 use mathlib.Core.Bool.{Bool, true, false}
@@ -32,9 +33,8 @@ abbrev pub outputsIn : Dimensions → List ℕ → List ℕ → List ℕ
 outputsIn d gates wires = take (stateWires (d .n) + 1) (drop (inputWires d + length gates / 3 - (stateWires (d .n) + 1)) wires)
 
 -- gate words that carry out the giant step: no more than the ceiling, accepted by the evaluator, and on the packed bytes of any tables of
--- these dimensions
--- and any well-formed state, in lent wires that are long enough, its last wires are the packed bytes of the next state, then whether that
--- is closed
+-- these dimensions and any well-formed state, in lent wires that are long enough, its last wires are the packed bytes of the next state,
+-- then whether that is closed
 pub record CarriesOut (d : Dimensions) (gates : List ℕ) : Type 0 where
   pub few : length gates ≤ 3 * ceiling d
   pub taken : accepted (inputWires d) gates ≡ true

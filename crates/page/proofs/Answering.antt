@@ -71,7 +71,7 @@ module _ (run : Run) where
     pub page-shaped : outcome (modelChecks run) ≡ Taken → outcome (shapeChecks (run .n) p s (length page)) ≡ outcome (pageChecks run p s (length page))
     page-shaped e = sym (outcome-taken (modelChecks run) (shapeChecks (run .n) p s (length page)) e)
 
-    -- what stands in the lent page
+    -- what the lent page holds
     pub page-left : (o : Outcome) → o ≡ outcome (pageChecks run p s (length page))
         → (m : ℕ) → m ≡ run .t → given o (sets page 0 (pageOf p s m)) (λ r. page) ≡ pageAfter run p s page
     unfolding pageAfter

@@ -1,5 +1,5 @@
--- What the round trips come to, from their statements alone: no page stands for two models and no model has two pages, what is refused with
--- 27 is no model's page, and the model of a satisfied run of six variables is read off its page.
+-- What the round trips come to, from their statements alone: no page shows two models and no model has two pages, what is refused with 27 is no model's page,
+-- and the model of a satisfied run of six variables is read off its page.
 use mathlib.Core.Path.{_≡_, refl, sym, ap, _∙_}
 use mathlib.Core.Bool.{false}
 use mathlib.Core.List.{List}

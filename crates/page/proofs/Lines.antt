@@ -1,5 +1,5 @@
--- Where each byte of a page stands: the number's three columns, then two for each watch, spaces, and the line feed in column 80.
--- By the parts of a line, and of a page by induction on its lines.
+-- Where each byte of a page is: the number's three columns, then two for each watch, spaces, and the line feed in column 80. By the parts
+-- of a line, and of a page by induction on its lines.
 use mathlib.Core.Path.{_≡_, refl, sym, ap, ap₂, _∙_}
 use mathlib.Core.Bool.{Bool, true, false, cond}
 use mathlib.Core.List.{List, [], _∷_, _++_}

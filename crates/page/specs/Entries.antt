@@ -1,5 +1,6 @@
 -- What the entries give: document 02, "The watch page", refusals 12, 14, 25, 26 for a page that is made and 1, 25, 26, 27 for one that is
 -- read, "in that order".
+-- Ask: Is p × s a product of numbers, and 12, 14, 25, 26 the order, or 1, 25, 26, 27?
 use Prim.Native.Nat.{ℕ, _*_}
 use mathlib.Core.Bool.{not}
 use mathlib.Core.List.{List, [], _∷_, _++_}
@@ -16,7 +17,7 @@ use Rattle.verdicts.specs.Verdicts.{modelChecks}
 use Rattle.page.specs.Page.{pageOf}
 use Rattle.page.specs.Reading.{marked, isPage}
 
--- 25: p × s is not n, the product of the numbers; 26: so many lent bytes are fewer than 80 × p
+-- 25: p × s is not n, the product of the numbers; 26: the lent bytes are fewer than 80 × p
 abbrev pub shapeChecks : ℕ → ℕ → ℕ → ℕ → List Check
 shapeChecks n p s size = check (not (eqb (p * s) n)) WatchCount ∷ check (ltb size (80 * p)) PageBuffer ∷ []
 
@@ -24,7 +25,7 @@ shapeChecks n p s size = check (not (eqb (p * s) n)) WatchCount ∷ check (ltb s
 abbrev pub pageChecks : Run → ℕ → ℕ → ℕ → List Check
 pageChecks run p s size = modelChecks run ++ shapeChecks (run .n) p s size
 
--- the lent page afterwards: that of the run's model, T, and then what stood there; refused, as it was
+-- the lent page afterwards: that of the run's model, T, and then what was there; refused, as it was
 unfoldable pub pageAfter : Run → ℕ → ℕ → List ℕ → List ℕ
 pageAfter run p s page = given (outcome (pageChecks run p s (length page))) (sets page 0 (pageOf p s (run .t))) (λ r. page)
 

@@ -1,5 +1,7 @@
 -- The watch page: document 02, "The watch page". "variable (i−1) × s + j stands for pilot i on watch j"; pilots, watches and bits are
 -- counted from 0 here, so that pilot i has the s bits from i × s on.
+-- Ask: Have document 02's paragraph on the watch page beside you. Is each part of a line there, up to column 79 and its line feed? Which
+-- bits are a pilot's?
 use Prim.Native.Nat.{ℕ, zero, suc, _+_, _-_, _*_}
 use mathlib.Core.Bool.{Bool, true, false}
 use mathlib.Core.List.{List, [], _++_}
@@ -9,7 +11,7 @@ use Rattle.lexer.specs.Spelling.{bytes}
 use Rattle.text.specs.Decimal.{decimal}
 use Rattle.text.specs.Refused.{withLineFeed}
 
--- so many spaces
+-- k spaces
 abbrev pub spaces : ℕ → List ℕ
 spaces k = replicate k 32
 

@@ -1,4 +1,5 @@
 -- A model read off a page: document 02, "The watch page", "and the model can be read off it again".
+-- Ask: Is 27 about every byte of the first 80 × p?
 use Prim.Native.Nat.{ℕ, _+_, _*_, _/_, _%_}
 use mathlib.Core.Bool.{Bool}
 use mathlib.Core.List.{List}
@@ -8,7 +9,7 @@ use Rattle.words.specs.Sets.{wordOf}
 use Rattle.words.specs.Sameness.{same}
 use Rattle.page.specs.Page.{pageOf}
 
--- where bit v has its mark, with s watches: in the line of pilot v / s, behind the number's three columns and a space for watch v % s
+-- where bit v has its mark, with s watches: in the line of pilot v / s, after the number's three columns and a space for watch v % s
 abbrev pub markPlace : ℕ → ℕ → ℕ
 markPlace s v = 80 * (v / s) + (4 + 2 * (v % s))
 

@@ -1,5 +1,5 @@
 // The watch page: a run's model as pilots read it, a line a pilot, and the model read off a page again (document 02, "The watch page").
-// Turned back by 12, 14, 25 and 26 where a page is made, by 1, 25, 26 and 27 where one is read.
+// Refusals: 12, 14, 25 and 26 where a page is made, 1, 25, 26 and 27 where one is read.
 use dimensions::Dimensions;
 use refusals::Outcome;
 use refusals::Refusal;
@@ -107,8 +107,8 @@ fn marked(n: usize, watches: usize, page: &[u8]) -> u32
     word
 }
 
-// Whether so many pilots with so many watches each are n variables, and so many bytes are enough for their page: 25 or 26 if not. Numbers
-// above n are no factors of it, and the product of two that are not above 32 is no machine word's remainder.
+// Whether p pilots with s watches each are n variables, and the lent bytes are enough for their page: 25 or 26 if not. Numbers above n are
+// no factors of it, and the product of two that are not above 32 is no machine word's remainder.
 fn check_shape(n: usize, pilots: usize, watches: usize, size: usize) -> Outcome
     requires { ⌜ (1 ≤ n) × (n ≤ 32) ⌝ }
     ensures { λ r. ⌜ r ≡ outcome (shapeChecks n pilots watches size) ⌝ }
@@ -128,14 +128,13 @@ fn check_shape(n: usize, pilots: usize, watches: usize, size: usize) -> Outcome
     Outcome::Taken
 }
 
-// Writes the page of a model of n variables: 25 or 26 if it is turned back, and the page is then as it was.
+// Writes the page of a model of n variables: 25 or 26 if it is refused, and the page is then as it was.
 fn show_model(n: usize, model: u32, pilots: usize, watches: usize, page: &mut [u8]) -> Outcome
     requires { ⌜ (1 ≤ n) × (n ≤ 32) ⌝ }
     ensures { λ r. ⌜ r ≡ outcome (shapeChecks n pilots watches (length (now (page .entry)))) ⌝ }
     ensures { λ r. ⌜ now (page .exit) ≡ given r (sets (now (page .entry)) 0 (pageOf pilots watches model)) (λ _. now (page .entry)) ⌝ }
 {
-    let shape = check_shape(n, pilots, watches, page.len());
-    match shape {
+    match check_shape(n, pilots, watches, page.len()) {
         Outcome::Taken => {}
         Outcome::Refused(refusal) => return Outcome::Refused(refusal),
     }
@@ -143,23 +142,21 @@ fn show_model(n: usize, model: u32, pilots: usize, watches: usize, page: &mut [u
     Outcome::Taken
 }
 
-// Writes the page of a run's model, 80 bytes for each of so many pilots with so many watches each, over the front of the lent bytes: 12,
-// 14, 25 or 26 if it is turned back, and the page is then as it was. Bytes past the page stay.
+// Writes the page of a run's model, 80 bytes for each of p pilots with s watches, over the front of the lent bytes: 12, 14, 25 or 26 if it
+// is refused, and the page is then as it was. Bytes past the page stay.
 pub fn show(run: Run, pilots: usize, watches: usize, page: &mut [u8]) -> Outcome
     ensures { λ r. ⌜ r ≡ outcome (pageChecks run pilots watches (length (now (page .entry)))) ⌝ }
     ensures { λ _. ⌜ now (page .exit) ≡ pageAfter run pilots watches (now (page .entry)) ⌝ }
     ensures { λ r. ⌜ codeOf r ∷ [] ≡ said (outcome (pageChecks run pilots watches (length (now (page .entry))))) [] ⌝ }
 {
     match verdicts::model(run) {
-        Modelled::Model(model) => {
-            return show_model(run.n as usize, model, pilots, watches, page);
-        }
-        Modelled::Refused(refusal) => return Outcome::Refused(refusal),
+        Modelled::Model(model) => show_model(run.n as usize, model, pilots, watches, page),
+        Modelled::Refused(refusal) => Outcome::Refused(refusal),
     }
 }
 
-// The model of n variables on a page of so many pilots with so many watches each: 1, 25, 26 or 27 if there is none. Bytes past the page
-// are not looked at.
+// The model of n variables on a page of so many pilots with so many watches each: 1, 25, 26 or 27 if there is none. Bytes past the page are
+// not looked at.
 pub fn read(n: usize, pilots: usize, watches: usize, page: &[u8]) -> Modelled
     ensures { λ r. ⌜ r ≡ modelOn n pilots watches (now (page .entry)) ⌝ }
     ensures { λ r.
@@ -169,8 +166,7 @@ pub fn read(n: usize, pilots: usize, watches: usize, page: &[u8]) -> Modelled
     if (n < 1) | (Dimensions::VARIABLES < n as u64) {
         return Modelled::Refused(Refusal::Variables);
     }
-    let shape = check_shape(n, pilots, watches, page.len());
-    match shape {
+    match check_shape(n, pilots, watches, page.len()) {
         Outcome::Taken => {}
         Outcome::Refused(refusal) => return Modelled::Refused(refusal),
     }

@@ -43,7 +43,7 @@ use Rattle.readback.specs.Reading.{readChecks, readBack}
 use Rattle.readback.proofs.StateBack.{unpacked-is}
 use Rattle.readback.proofs.Checks.{read-taken, run-variables}
 
--- the wires in the bytes of some bits, whatever stands behind them
+-- the wires in the bytes of some bits, whatever follows them
 wires-back : (w : List Bool) (rest : List ℕ) (k : ℕ) → wireIn (bytesOf w ++ rest) k ≡ wire (w ++ bitsOf rest) k
 wires-back w rest k =
     sym (List·getD-map (λ x. eqb x 1) (bytesOf w ++ rest) k 0)

@@ -1,4 +1,4 @@
--- Levels read into the run's array; only the crate's own functions cite this.
+-- Levels read into the run's array.
 use Prim.Native.Nat.{ℕ, _+_, _-_}
 use mathlib.Core.List.{List, _++_, reverse}
 use lib.ListN.{replicate}

@@ -1,4 +1,5 @@
 -- A run of n read back from bytes: document 01, "Circuit", refusals 1, 10 and 12. Bytes past the state's wires are not looked at.
+-- Ask: What is given with 10 and 12?
 use Prim.Native.Nat.{ℕ}
 use mathlib.Core.Bool.{not}
 use mathlib.Core.List.{List, [], _∷_}

@@ -50,7 +50,7 @@ unpacked n b = record {
 unfoldable pub runIn : ℕ → List ℕ → Run
 runIn n bytes = runOf n (unpacked n (stateAt n (λ k. wireIn bytes k)))
 
--- bytes of a well-formed state: the run in them is one, and packed again it gives them back.
--- So a byte other than 0 or 1, no depth wire or two, both closing bits or an unused level that is not zero are no such bytes.
+-- bytes of a well-formed state: the run in them is one, and packed again it gives them back. So a byte other than 0 or 1, no depth wire or
+-- two, both closing bits or an unused level that is not zero are no such bytes.
 unfoldable pub holdsState : ℕ → List ℕ → Bool
 holdsState n bytes = wellFormed (runIn n bytes) && same (bytesOf (stateBits n (stateOf (runIn n bytes)))) (take (stateWires n) bytes)

@@ -1,4 +1,4 @@
-// A run read back from bytes, a byte a wire (document 01, "Circuit"). Turned back by 1, 10 and 12.
+// A run read back from bytes, a byte a wire (document 01, "Circuit"). Refusals: 1, 10 and 12.
 mod unpacking;
 
 use dimensions::Dimensions;
@@ -27,6 +27,18 @@ pub struct Read {
     pub run: Run,
 }
 
+impl Read {
+    // A refusal, with the fresh run of n.
+    fn refused(n: u8, refusal: Refusal) -> Self
+        ensures { λ r. ⌜ r ≡ record { outcome = Refused refusal; run = runOf n fresh } ⌝ }
+    {
+        Read {
+            outcome: Outcome::Refused(refusal),
+            run: Run::fresh(n),
+        }
+    }
+}
+
 // Whether the run is a well-formed state that gives these bytes when it is packed.
 fn gives(n: u8, run: Run, bytes: &[u8]) -> bool
     requires { ⌜ n ≤ 32 ⌝ }
@@ -42,30 +54,20 @@ fn gives(n: u8, run: Run, bytes: &[u8]) -> bool
     check::same(&again[..k], &bytes[..k])
 }
 
-// The fresh run of n, and why no other is given.
-fn refused(n: u8, refusal: Refusal) -> Read
-    ensures { λ r. ⌜ r ≡ record { outcome = Refused refusal; run = runOf n fresh } ⌝ }
-{
-    Read {
-        outcome: Outcome::Refused(refusal),
-        run: Run::fresh(n),
-    }
-}
-
 // The run of n that the front of the bytes holds; 1, 10 or 12 if there is none.
 pub fn read_back(n: u8, bytes: &[u8]) -> Read
     ensures { λ r. ⌜ r ≡ readBack n (now (bytes .entry)) ⌝ }
     ensures { λ r. ⌜ codeOf (r .outcome) ∷ [] ≡ said (outcome (readChecks n (now (bytes .entry)))) [] ⌝ }
 {
     if Dimensions::variables_outside(n as u64) {
-        return refused(n, Refusal::Variables);
+        return Read::refused(n, Refusal::Variables);
     }
     if bytes.len() < Dimensions::state_wires_of(n) {
-        return refused(n, Refusal::Wires);
+        return Read::refused(n, Refusal::Wires);
     }
     let run = unpacking::get_run(n, bytes);
     if !gives(n, run, bytes) {
-        return refused(n, Refusal::State);
+        return Read::refused(n, Refusal::State);
     }
     Read {
         outcome: Outcome::Taken,

@@ -1,5 +1,5 @@
--- One attempt at a well-formed state with the generated circuit: where it is long enough it gives the giant step and its mark, else it is turned back.
--- The packed bytes are evaluated, the last wires are the outputs, and what is handed of these is read back.
+-- One attempt at a well-formed state with the generated circuit: where it is long enough it gives the giant step and its mark, else it is refused. The packed
+-- bytes are evaluated, the last wires are the outputs, and what is handed of these is read back.
 use mathlib.Core.Path.{_≡_, refl, sym, ap, ap₂, _∙_}
 use mathlib.Core.Bool.{Bool, true, false, _&&_, cond, true≢false}
 use mathlib.Core.List.{List, [], _∷_, _++_, map-append}

@@ -1,4 +1,4 @@
--- Buffers that are used again: the front that one repeat writes, the next one writes over, so only lengths and what stands behind the front matter.
+-- Buffers that are used again: the front that one repeat writes, the next one writes over, so only lengths and what follows the front matter.
 -- From what packing and evaluation leave.
 use mathlib.Core.Path.{_≡_, refl, sym, ap, _∙_}
 use mathlib.Core.Bool.{Bool}

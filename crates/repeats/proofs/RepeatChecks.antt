@@ -1,12 +1,13 @@
--- What the checks of a call of `repeat` lead to, each by its condition, what a call that passes them may take for granted, and what the call gives then.
--- From the order of the checks.
-use mathlib.Core.Path.{_≡_, refl, sym, ap, _∙_}
+-- What the checks of a call of `repeat` lead to, each by its condition, what a call that passes them may take for granted, and what the call gives then. From
+-- the order of the checks.
+use mathlib.Core.Path.{_≡_, refl, sym, ap, ap₂, _∙_}
 use mathlib.Core.Bool.{true, false, _||_}
 use mathlib.Core.List.{List, [], _∷_, _++_}
 use Prim.Native.Nat.{ℕ, _+_, _*_, _-_, _≤_, _<_}
 use native.Mathlib.Omega.{arith}
 use lib.Dec.{ltb}
-use lib.ListN.{length}
+use lib.ListN.{length, take, drop, length-append}
+use lib.Seq.{take-at}
 use borrow.Author.Tests.{lt-ltb, le-ltb, ltb-false}
 use Rattle.refusals.specs.Checks.{Check, check, outcome, given}
 use Rattle.refusals.specs.Numbers.{codeOf, said}
@@ -29,10 +30,11 @@ use Rattle.sections.specs.declared.Addresses.{Addresses}
 use Rattle.sections.specs.Addressing.{digitsFor, addressesOn}
 use Rattle.netlist.specs.Netlist.{gatesFor, gatesOn}
 use Rattle.netlist.proofs.Counts.{circuit-length}
-use Rattle.generator.specs.Generation.{generatorChecks, writtenWords}
+use Rattle.generator.specs.declared.Generated.the-variants as generator
+use Rattle.generator.specs.Generation.{generatorChecks, generated, writtenWords}
 use Rattle.generator.proofs.Room.{wires-few}
 use Rattle.repeats.specs.declared.Repeated.{Repeated}
-use Rattle.repeats.specs.Repeats.{circuitWords}
+use Rattle.repeats.specs.Repeats.{circuitWords, circuitIn}
 use Rattle.repeats.specs.Repeating.{generationChecks, wireChecks, repeatChecks, made, bytesLeft, wiresLeft, repeatedBy, refusedWith}
 use Rattle.repeats.specs.Repeating.{allowed, repeated, gatesAfter, bytesAfter, wiresAfter}
 
@@ -125,18 +127,6 @@ passed d tables gates bytes wires run e =
 
 -- ---- the circuit's words
 
--- the inputs are among the wires
-pub inputs-first : (d : Dimensions) (a : Addresses) → a ≡ addressesOn d → a .inputs ≤ a .wires
-inputs-first d a q = rw q (omega (arith, all-wires d))
-
--- as many as three for each wire that is no input
-pub words-length-is : (d : Dimensions) → 3 * (addressesOn d .wires - addressesOn d .inputs) ≡ length (circuitWords d)
-unfolding circuitWords gatesFor
-words-length-is d = go _ _ _ _ (circuit-length (d .n) (rowCount d) (digitsFor (d .n))) (words-length (gatesOn d))
-  where
-    go : (inputs gates wires words : ℕ) → inputs + gates ≡ wires → words ≡ 3 * gates → 3 * (wires - inputs) ≡ words
-    go inputs gates wires words e h = omega arith
-
 -- accepted tables and room for the ceiling's gate words: the generator takes them
 pub generates : (d : Dimensions) (tables : Tables) (gates : List ℕ) → outcome (tableChecks d tables) ≡ Taken → 3 * ceiling d ≤ length gates
     → outcome (generatorChecks d gates) ≡ Taken
@@ -149,13 +139,42 @@ pub written-is : (d : Dimensions) (gates : List ℕ) → outcome (generatorCheck
 unfolding circuitWords
 written-is d gates e = ap (λ (o : Outcome). given o (over (wordsOf (gatesOn d)) gates) (λ r. gates)) e
 
--- then the words have room for it
-pub words-fit : (d : Dimensions) (gates : List ℕ) → outcome (generatorChecks d gates) ≡ Taken → length (circuitWords d) ≤ length gates
-words-fit d gates e =
-    let parts = outcome-parts (sizeChecks d) (check (ltb (length gates) (3 * ceiling d)) GateBuffer ∷ []) e in
-    let w = wires-few d (within d (parts .0)) (addressesOn d) refl in
-    let room = ltb-false (length gates) (3 * ceiling d) (check-passed (ltb (length gates) (3 * ceiling d)) GateBuffer Taken (parts .1)) in
-    omega (arith, w .2, room, words-length-is d)
+-- and what it writes is the circuit
+pub circuit-written : (d : Dimensions) (gates : List ℕ) → outcome (generatorChecks d gates) ≡ Taken → circuitIn d gates ≡ circuitWords d
+circuit-written d gates e = ap (λ (o : Outcome). given o (circuitWords d) (λ r. [])) e
+
+-- so many words were written, and they are the front of what is left
+abbrev pub Writes : Dimensions → List ℕ → List ℕ → ℕ → Type 0
+Writes d gates out count =
+    (count ≡ length (circuitIn d gates)) × ((count ≤ length out) × ((take count out ≡ circuitIn d gates) × (out ≡ writtenWords d gates)))
+
+module _ (d : Dimensions) (gates out : List ℕ) (p : out ≡ writtenWords d gates) where
+  -- the generator took the words: three for each gate that it says
+  pub write-taken : (k : ℕ) → generated d gates ≡ generator.Of k → Writes d gates out (3 * k)
+  unfolding circuitWords
+  write-taken k e =
+      let t = go (outcome (generatorChecks d gates)) e in
+      let is = circuit-written d gates (t .0) in
+      let count : 3 * k ≡ length (circuitWords d) = ap (λ (x : ℕ). 3 * x) (t .1) ∙ sym (words-length (gatesOn d)) in
+      let whole : out ≡ over (circuitWords d) gates = p ∙ written-is d gates (t .0) in
+      let size = ap length whole ∙ length-append (circuitWords d) (drop (length (circuitWords d)) gates) in
+      let front : take (3 * k) out ≡ circuitWords d =
+      ap₂ (λ (i : ℕ) (l : List ℕ). take i l) count whole ∙ take-at (circuitWords d) _ (length (circuitWords d)) refl in
+      (count ∙ ap length (sym is), (omega (arith, count, size), (front ∙ sym is, p)))
+    where
+      go : (o : Outcome) → given o (generator.Of (length (gatesOn d))) generator.Refused ≡ generator.Of k → (o ≡ Taken) × (k ≡ length (gatesOn d))
+      go Taken h = (refl, cc)
+      go (Refused r) h = absurd (let z : _≡_ {A = ℕ} 0 1 = cc in omega arith)
+
+  -- it refused: none
+  pub write-refused : (r : Refusal) → generated d gates ≡ generator.Refused r → Writes d gates out 0
+  write-refused r e =
+      let is : circuitIn d gates ≡ [] = ap (λ (o : Outcome). given o (circuitWords d) (λ q. [])) (go (outcome (generatorChecks d gates)) e) in
+      (ap length (sym is), (omega arith, (sym is, p)))
+    where
+      go : (o : Outcome) → given o (generator.Of (length (gatesOn d))) generator.Refused ≡ generator.Refused r → o ≡ Refused r
+      go Taken h = absurd (let z : _≡_ {A = ℕ} 0 1 = cc in omega arith)
+      go (Refused q) h = cc
 
 -- ---- the call
 
@@ -170,9 +189,9 @@ module _ (d : Dimensions) (tables : Tables) (times : ℕ) (gates bytes wires : L
       × (codeOf (x .outcome) ∷ [] ≡ said (outcome (repeatChecks d tables (length gates) (length bytes) (length wires) run)) []))))
 
   pub repeat-refused : (r : Refusal) → outcome (repeatChecks d tables (length gates) (length bytes) (length wires) run) ≡ Refused r
-      → Meets (refusedWith run r) gates bytes wires
+      → (x : Repeated) → x ≡ refusedWith run r → Meets x gates bytes wires
   unfolding allowed repeated gatesAfter bytesAfter wiresAfter
-  repeat-refused r e = rw e (refl, (refl, (refl, (refl, refl))))
+  repeat-refused r e x p = rw e (p, (refl, (refl, (refl, ap (λ (y : Repeated). codeOf (y .outcome) ∷ []) p))))
 
   pub repeat-taken : outcome (repeatChecks d tables (length gates) (length bytes) (length wires) run) ≡ Taken
       → (x : Repeated) (g b w : List ℕ) → x ≡ repeatedBy run (made d tables times bytes wires run) → g ≡ writtenWords d gates

@@ -1,5 +1,5 @@
--- One application of a circuit to a run: document 01, "Circuit". Turned back by packing, 1, 2, 4, 3, 10, 12, 13, by evaluation, 9, 10, or
--- by reading back, 10, 12.
+-- One application of a circuit to a run: document 01, "Circuit". Refused by packing, 1, 2, 4, 3, 10, 12, 13, by evaluation, 9, 10, or by
+-- reading back, 10, 12.
 use Prim.Native.Nat.{ℕ}
 use mathlib.Core.Bool.{false}
 use mathlib.Core.List.{List, _++_}
@@ -24,7 +24,7 @@ abbrev pub turnedBack : Run → Refusal → Applied
 turnedBack run r = record { outcome = Refused r; run = run; mark = false }
 
 -- the next run from those of a circuit's output wires that are handed to the read-back, from the first on, and its mark, the closing wire
--- behind the state's
+-- after the state's
 unfoldable pub nextRun : ℕ → Run → ℕ → List ℕ → Applied
 nextRun n run handed outputs =
     let read = readBack n (take handed outputs) in
@@ -39,11 +39,11 @@ module _ (d : Dimensions) (tables : Tables) (gates : List ℕ) (run : Run) (byte
   unfoldable pub applicationOutcome : Outcome
   applicationOutcome = outcome (packChecks d tables run (length bytes) ++ evaluationChecks gates (inputs d tables run bytes) wires)
 
-  -- the wires afterwards: what evaluation leaves; as they were where packing turns back
+  -- the wires afterwards: what evaluation leaves; as they were where packing is refused
   abbrev pub wiresAfter : List ℕ
   wiresAfter = given (outcome (packChecks d tables run (length bytes))) (filledWires gates (inputs d tables run bytes) wires) (λ r. wires)
 
-  -- the next run and its mark, where so many of the output wires are handed to the read-back; refused, the run as it was
+  -- the next run and its mark, where `handed` of the output wires go to the read-back; refused, the run as it was
   unfoldable pub applied : ℕ → Applied
   unfolding applicationOutcome nextRun
   applied handed = given applicationOutcome (nextRun (d .n) run handed (outputsIn d gates wiresAfter)) (turnedBack run)

@@ -1,6 +1,6 @@
 -- The circuit of some dimensions, generated and then repeated on a run: document 01, "Circuit". All that turns a call back is judged before
--- anything is written:
--- 1, 2, 4, 3, 7, 10, 12, 13.
+-- anything is written: 1, 2, 4, 3, 7, 10, 12, 13.
+-- Ask: Are all refusals judged first, and are its repeats demand 3's?
 use Prim.Native.Nat.{ℕ, _+_, _*_, _-_}
 use mathlib.Core.Bool.{false, _||_}
 use mathlib.Core.List.{List, [], _∷_, _++_}
@@ -26,11 +26,11 @@ use Rattle.repeats.specs.declared.Repeated.{Repeated}
 use Rattle.repeats.specs.Application as Application
 use Rattle.repeats.specs.Repeats.{Attempt, Lent, Repeat, circuitWords, lastRun, repeats}
 
--- 1, 2, 4, 3; 7 where so many gate words are below three for each gate of the ceiling
+-- 1, 2, 4, 3; 7 where there are fewer gate words than three for each gate of the ceiling
 abbrev pub generationChecks : Dimensions → Tables → ℕ → List Check
 generationChecks d tables gates = tableChecks d tables ++ (check (ltb gates (3 * ceiling d)) GateBuffer ∷ [])
 
--- 10 where so many bytes are below the inputs, or so many wires below the inputs and the circuit's own gates
+-- 10 where the bytes are fewer than the inputs, or the wires fewer than the inputs and the circuit's own gates
 abbrev pub wireChecks : Dimensions → ℕ → ℕ → List Check
 wireChecks d bytes wires = check (ltb bytes (inputWires d) || ltb wires (inputWires d + length (gatesOn d))) Wires ∷ []
 
@@ -44,7 +44,7 @@ repeatChecks d tables gates bytes wires run = generationChecks d tables gates ++
 abbrev pub whole : Dimensions → List ℕ → List ℕ → Attempt
 whole d bytes wires = Lent bytes wires (stateWires (d .n) + 1)
 
--- demand 3's repeats over tables that stay, so many at most; none of a run that is closed
+-- demand 3's repeats over tables that stay, at most a given number; none of a run that is closed
 unfoldable pub made : Dimensions → Tables → ℕ → List ℕ → List ℕ → Run → List Repeat
 made d tables times bytes wires run = ifOpen (run .standing) (repeats d (λ i. tables) times run (replicate times (whole d bytes wires))) []
 

@@ -1,5 +1,6 @@
--- The repeats of a circuit over three tables: document 01, "Circuit", second paragraph; each reads the rows as they stand when it begins
+-- The repeats of a circuit over three tables: document 01, "Circuit", second paragraph; each reads the rows as they are when it begins
 -- (document 02, Req 06).
+-- Ask: Is a repeat the run that it returned and its mark? Is an attempt that is turned back, for whatever cause, none?
 use Prim.Native.Nat.{ℕ, zero, suc, _+_}
 use mathlib.Core.Path.{_≡_}
 use mathlib.Core.Bool.{Bool, false, _||_, _&&_, cond}
@@ -19,6 +20,7 @@ use Rattle.state.specs.State.{State, runOf}
 use Rattle.gates.specs.Memory.{wordsOf}
 use Rattle.netlist.specs.Netlist.{gatesOn}
 use Rattle.netlist.specs.Outputs.{closed}
+use Rattle.generator.specs.Generation.{generatorChecks}
 use Rattle.repeats.specs.declared.Applied.{Applied}
 use Rattle.repeats.specs.Application.{turnedBack, applied}
 
@@ -26,12 +28,16 @@ use Rattle.repeats.specs.Application.{turnedBack, applied}
 unfoldable pub circuitWords : Dimensions → List ℕ
 circuitWords d = wordsOf (gatesOn d)
 
--- tables of these dimensions that none of 1 to 4 turns back
+-- what the generator writes over the front of lent words: the circuit, and nothing where it refuses
+abbrev pub circuitIn : Dimensions → List ℕ → List ℕ
+circuitIn d words = given (outcome (generatorChecks d words)) (circuitWords d) (λ r. [])
+
+-- tables of these dimensions that none of 1 to 4 refuses
 abbrev pub Accepts : Dimensions → Tables → Type 0
 Accepts d tables = outcome (tableChecks d tables) ≡ Taken
 
--- an attempt to apply the circuit: with the buffers that the host lends and so many of the output wires handed to the read-back, or turned
--- back for any other cause
+-- an attempt to apply the circuit: with the buffers that the host lends and a number of the output wires handed to the read-back, or
+-- refused for any other cause
 pub data Attempt : Type 0 where
   Lent : (bytes wires : List ℕ) (handed : ℕ) → Attempt
   Otherwise : (cause : Refusal) → Attempt
@@ -59,9 +65,8 @@ unfoldable pub lastRun : Run → List Repeat → Run
 lastRun run [] = run
 lastRun run (r ∷ later) = lastRun (r .run) later
 
--- what comes of an attempt, where later ones go on from a run, as they would have without it or one repeat further: turned back, it is no
--- repeat and has no mark;
--- the first mark that is 1 is the last
+-- what comes of an attempt, where later ones go on from a run, as they would have without it or one repeat further: refused, it is no
+-- repeat and has no mark; the first mark that is 1 is the last
 abbrev pub comesOf : Applied → (Run → List Repeat) → (Run → List Repeat) → List Repeat
 comesOf r again further =
     given (r .outcome) (record { run = r .run; mark = r .mark } ∷ cond (r .mark) [] (further (r .run))) (λ refusal. again (r .run))
@@ -70,7 +75,7 @@ comesOf r again further =
 abbrev pub laterTables : (ℕ → Tables) → ℕ → Tables
 laterTables tables = λ i. tables (suc i)
 
--- the attempts, from a run on, with so many repeats left; tables i are those that a repeat reads that i others precede
+-- the attempts, from a run on, with a number of repeats left; tables i are those that a repeat reads that i others precede
 unfoldable pub repeats : Dimensions → (ℕ → Tables) → ℕ → Run → List Attempt → List Repeat
 unfolding applied circuitWords
 repeats d tables budget run [] = []

@@ -1,5 +1,6 @@
-// The circuit of some dimensions, generated and then repeated on a run (document 01, "Circuit"). Turned back: 1, 2, 4, 3, 7, 10, 12, 13.
+// The circuit of some dimensions, generated and then repeated on a run (document 01, "Circuit"). Refusals: 1, 2, 4, 3, 7, 10, 12, 13.
 use dimensions::Dimensions;
+use generator::Generated;
 use refusals::Outcome;
 use refusals::Refusal;
 use sections::Addresses;
@@ -7,7 +8,7 @@ use state::Run;
 ghost use mathlib.Core.Path.{_≡_};
 ghost use mathlib.Core.List.{[], _∷_};
 ghost use Prim.Native.Nat.{_+_, _≤_};
-ghost use lib.ListN.{length};
+ghost use lib.ListN.{length, take};
 ghost use Rattle.refusals.specs.Checks.{outcome};
 ghost use Rattle.refusals.specs.Numbers.{codeOf, said};
 ghost use Rattle.refusals.specs.declared.Outcome.the-variants.{Taken};
@@ -17,12 +18,13 @@ ghost use Rattle.tables.specs.Acceptance.{tableChecks};
 ghost use Rattle.state.specs.WellFormed.{stateChecks};
 ghost use Rattle.wires.specs.Packing.{packed};
 ghost use Rattle.netlist.specs.Netlist.{gatesOn};
+ghost use Rattle.generator.specs.Generation.{writtenWords};
 ghost use Rattle.repeats.specs.Application.{turnedBack, nextRun, applied};
 ghost use Rattle.repeats.specs.Application as Application;
-ghost use Rattle.repeats.specs.Repeats.{circuitWords};
+ghost use Rattle.repeats.specs.Repeats.{circuitWords, circuitIn};
 ghost use Rattle.repeats.specs.Repeating as Repeating;
 ghost use Rattle.repeats.specs.Repeating.{generationChecks, wireChecks, repeatChecks};
-ghost use Rattle.repeats.specs.Repeating.{made, bytesLeft, wiresLeft, repeatedBy, repeated, gatesAfter, bytesAfter};
+ghost use Rattle.repeats.specs.Repeating.{made, bytesLeft, wiresLeft, repeatedBy, refusedWith, repeated, gatesAfter, bytesAfter};
 
 // The next run and its mark, whether that run is closed; refused, the run as it was and no mark.
 pub struct Applied {
@@ -31,12 +33,39 @@ pub struct Applied {
     pub mark: bool,
 }
 
+impl Applied {
+    // A refusal, with the run as it was and no mark.
+    fn refused(run: Run, refusal: Refusal) -> Self
+        ensures { λ r. ⌜ r ≡ turnedBack run refusal ⌝ }
+    {
+        Applied {
+            outcome: Outcome::Refused(refusal),
+            run,
+            mark: false,
+        }
+    }
+}
+
 // The run after the repeats, how many there were, and the last mark, whether that run is closed; refused, the run as it was.
 pub struct Repeated {
     pub outcome: Outcome,
     pub run: Run,
     pub repeats: u64,
     pub mark: bool,
+}
+
+impl Repeated {
+    // A refusal, with the run as it was, no repeat and no mark.
+    fn refused(run: Run, refusal: Refusal) -> Self
+        ensures { λ r. ⌜ r ≡ refusedWith run refusal ⌝ }
+    {
+        Repeated {
+            outcome: Outcome::Refused(refusal),
+            run,
+            repeats: 0,
+            mark: false,
+        }
+    }
 }
 
 // Whether the tables are accepted and so many gate words have room for the circuit: 1, 2, 4, 3 or 7 if not.
@@ -60,7 +89,7 @@ pub fn check_words(
     Outcome::Taken
 }
 
-// Whether so many bytes have room for the inputs, and so many wires for all of the circuit's: 10 if not.
+// Whether the bytes have room for the inputs, and the wires for all of the circuit's: 10 if not.
 pub fn check_room(d: Dimensions, bytes: usize, wires: usize) -> Outcome
     ensures { λ r. ⌜ r ≡ outcome (wireChecks d bytes wires) ⌝ }
     ensures { λ r. ⌜ codeOf r ∷ [] ≡ said (outcome (wireChecks d bytes wires)) [] ⌝ }
@@ -73,7 +102,7 @@ pub fn check_room(d: Dimensions, bytes: usize, wires: usize) -> Outcome
 }
 
 // Whether tables, so many gate words, bytes and wires, and the run allow repeats: 1, 2, 4, 3, 7, 10, 12 or 13 if not.
-fn check(
+fn check_repeat(
     d: Dimensions,
     left: &[u32],
     right: &[u32],
@@ -96,26 +125,21 @@ fn check(
     state::check_state(d, run)
 }
 
-// How many words the generated circuit has.
-pub fn circuit_words(d: Dimensions) -> usize
-    ensures { λ r. ⌜ r ≡ length (circuitWords d) ⌝ }
+// Generates the circuit of these dimensions into the front of the gate words; how many words it has. Where the generator refuses, 0, and no
+// word is changed.
+pub fn write_circuit(d: Dimensions, gates: &mut [u32]) -> usize
+    ensures { λ r. ⌜ r ≡ length (circuitIn d (now (gates .entry))) ⌝ }
+    ensures { λ r. ⌜ r ≤ length (now (gates .exit)) ⌝ }
+    ensures { λ r. ⌜ take r (now (gates .exit)) ≡ circuitIn d (now (gates .entry)) ⌝ }
+    ensures { λ _. ⌜ now (gates .exit) ≡ writtenWords d (now (gates .entry)) ⌝ }
 {
-    let a = Addresses::of(d);
-    3 * (a.wires - a.inputs) as usize
-}
-
-// Turned back: the run as it was, and no mark.
-fn turned_back(run: Run, refusal: Refusal) -> Applied
-    ensures { λ r. ⌜ r ≡ turnedBack run refusal ⌝ }
-{
-    Applied {
-        outcome: Outcome::Refused(refusal),
-        run,
-        mark: false,
+    match generator::generate(d, gates) {
+        Generated::Of(count) => 3 * count,
+        Generated::Refused(_) => 0,
     }
 }
 
-// The next run and its mark from a circuit's output wires: a state's, and the closing one behind them.
+// The next run and its mark from a circuit's output wires: a state's, then the closing one.
 fn next_run(n: u8, run: Run, outputs: &[u8]) -> Applied
     requires { ⌜ length (now outputs) ≡ stateWires n + 1 ⌝ }
     ensures { λ r. ⌜ r ≡ nextRun n run (stateWires n + 1) (now (outputs .entry)) ⌝ }
@@ -123,21 +147,20 @@ fn next_run(n: u8, run: Run, outputs: &[u8]) -> Applied
     let read = readback::read_back(n, outputs);
     let outcome = read.outcome;
     match outcome {
-        Outcome::Refused(refusal) => turned_back(run, refusal),
-        Outcome::Taken => {
-            let next = read.run;
-            let closing = Dimensions::state_wires_of(n);
-            Applied {
-                outcome: Outcome::Taken,
-                run: next,
-                mark: outputs[closing] == 1,
-            }
-        }
+        Outcome::Taken => {}
+        Outcome::Refused(refusal) => return Applied::refused(run, refusal),
+    }
+    let next = read.run;
+    let closing = Dimensions::state_wires_of(n);
+    Applied {
+        outcome: Outcome::Taken,
+        run: next,
+        mark: outputs[closing] == 1,
     }
 }
 
-// Demand 3's attempt: rows and run are packed, the gates evaluated, and all of their outputs read back. Turned back by any of these, the
-// run is as it was, and what was packed or evaluated before stays in the bytes and wires.
+// Demand 3's attempt: rows and run are packed, the gates evaluated, and all of their outputs read back. Refused by any of these, the run is
+// as it was, and what was packed or evaluated before stays in the bytes and wires.
 pub fn apply(
     d: Dimensions,
     left: &[u32],
@@ -160,20 +183,20 @@ pub fn apply(
         (now (wires .entry)) (stateWires (d .n) + 1) .outcome) [] ⌝ }
 {
     match wires::pack(d, left, right, public, run, bytes) {
-        Outcome::Refused(refusal) => return turned_back(run, refusal),
         Outcome::Taken => {}
+        Outcome::Refused(refusal) => return Applied::refused(run, refusal),
     }
     let inputs = d.input_wires();
     match evaluator::evaluate(gates, &bytes[..inputs], wires) {
-        Outcome::Refused(refusal) => return turned_back(run, refusal),
         Outcome::Taken => {}
+        Outcome::Refused(refusal) => return Applied::refused(run, refusal),
     }
     let end = inputs + gates.len() / 3;
     let start = end - (d.state_wires() + 1);
     next_run(d.n, run, &wires[start..end])
 }
 
-// Repeats the circuit on the run until it is closed, at most so many times.
+// Repeats the circuit on the run until it is closed, at most a given number of times.
 fn repeat_circuit(
     d: Dimensions,
     left: &[u32],
@@ -212,8 +235,8 @@ fn repeat_circuit(
     }
 }
 
-// Generates the circuit of these dimensions into the gate words, then repeats it on the run until that is closed, at most so many times.
-// The bytes then hold the last repeat's inputs, the wires its wires. Refused, all is as it was.
+// Generates the circuit of these dimensions into the gate words, then repeats it on the run until that is closed, at most a given number of
+// times. The bytes then hold the last repeat's inputs, the wires its wires. Refused, all is as it was.
 pub fn repeat(
     d: Dimensions,
     left: &[u32],
@@ -241,19 +264,11 @@ pub fn repeat(
         (length (now (bytes .entry))) (length (now (wires .entry))) run)) [] ⌝ }
 {
     let lent = gates.len();
-    match check(d, left, right, public, lent, bytes.len(), wires.len(), run) {
+    match check_repeat(d, left, right, public, lent, bytes.len(), wires.len(), run) {
         Outcome::Taken => {}
-        Outcome::Refused(refusal) => {
-            return Repeated {
-                outcome: Outcome::Refused(refusal),
-                run,
-                repeats: 0,
-                mark: false,
-            };
-        }
+        Outcome::Refused(refusal) => return Repeated::refused(run, refusal),
     }
-    generator::generate(d, gates);
-    let words = circuit_words(d);
+    let words = write_circuit(d, gates);
     let circuit = &gates[..words];
     repeat_circuit(d, left, right, public, times, circuit, bytes, wires, run)
 }

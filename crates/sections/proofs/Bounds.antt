@@ -4,17 +4,18 @@ use Prim.Native.Nat.{ℕ, _+_, _*_, _-_, _/_, _≤_}
 use native.Mathlib.Nat.{mul-le-mul}
 use native.Mathlib.Omega.{arith}
 use Rattle.sections.specs.declared.Addresses.{Addresses}
-use Rattle.sections.specs.Addressing.{digitsFor, digitsTo, lineOf, addressesOf, addresses, Small}
+use Rattle.sections.specs.Cells as Cells
+use Rattle.sections.specs.Addressing.{digitsFor, digitsTo, addressesOf, addresses, Small}
 use Rattle.sections.proofs.DigitLaws.{digits-most, power-few, digits-few}
 
 module _ (n m b : ℕ) (hn : n ≤ 255) (hm : m ≤ 765) (hb : b ≤ 5) where
   pub products : (n * m ≤ 195075) × (n * n ≤ 65025) × (m * b ≤ 3825)
   products = (mul-le-mul hn hm, mul-le-mul hn hn, mul-le-mul hm hb)
 
-  -- so many lines of the tree
-  pub lines-few : (k : ℕ) → k ≤ 765 → lineOf b * k ≤ 49725
-  lines-few k h =
-      let few : lineOf b ≤ 65 = omega arith in
+  -- so many lanes of the tree
+  pub lanes-few : (k : ℕ) → k ≤ 765 → Cells.treeLane b * k ≤ 49725
+  lanes-few k h =
+      let few : Cells.treeLane b ≤ 65 = omega arith in
       mul-le-mul few h
 
   small-of : Small (addressesOf n m b)
@@ -28,7 +29,7 @@ module _ (n m b : ℕ) (hn : n ≤ 255) (hm : m ≤ 765) (hb : b ≤ 5) where
       let skipped : b * (2 * (m / 2) + 1 - m) ≤ 5 = mul-le-mul hb skip in
       let digits : digitsTo n m b ≤ 979200 = omega (arith, digits-few n m hn hm b) in
       let q = power-few b hb in
-      omega (arith, lines-few (m / 2) half, lines-few (m - 1 - m / 2) rest)
+      omega (arith, lanes-few (m / 2) half, lanes-few (m - 1 - m / 2) rest)
 
 module _ (n m : ℕ) (hn : n ≤ 255) (hm : m ≤ 765) where
   -- the addresses for at most 255 variables and at most 765 rows are so small that sums over them fit a word

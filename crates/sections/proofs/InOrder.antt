@@ -1,4 +1,4 @@
--- Which section stands at a number: by the tests of the definition, and by the places in the list of those before the next levels.
+-- Which section is at a number: by the tests of the definition, and by the places in the list of those before the next levels.
 use mathlib.Core.Path.{_≡_, refl, ap, sym, _∙_}
 use Prim.Native.Nat.{ℕ, zero, suc, _+_, _-_, _≤_, _<_}
 use native.Mathlib.Omega.{arith}
@@ -8,15 +8,20 @@ use Rattle.sections.specs.declared.Addresses.{Addresses}
 use Rattle.sections.specs.declared.Section.{Section}
 use Rattle.sections.specs.Sections.{digit, keyDigit, split, nextLevel, nextStanding, noSection, ifDigit, first, sectionAt}
 
--- k is none of j numbers from i on
-unfoldable pub Past : ℕ → ℕ → ℕ → Type 0
-Past i zero k = Unit {0}
-Past i (suc j) k = Past i j k × (k ≡ i + j → ⊥)
+-- facts P, and that k is none of j numbers from i on
+unfoldable pub Past : Type 0 → ℕ → ℕ → ℕ → Type 0
+Past P i zero k = P
+Past P i (suc j) k = Past P i j k × (k ≡ i + j → ⊥)
 
-pub past-least : (i j k : ℕ) → i ≤ k → Past i j k → i + j ≤ k
+pub past-least : (P : Type 0) (i j k : ℕ) → Past P i j k → i ≤ k → i + j ≤ k
 unfolding Past
-past-least i zero k h p = omega arith
-past-least i (suc j) k h p = omega (arith, past-least i j k h (p .0), p .1)
+past-least P i zero k p h = omega arith
+past-least P i (suc j) k p h = omega (arith, past-least P i j k (p .0) h, p .1)
+
+pub earlier : (P : Type 0) (i j k : ℕ) → Past P i j k → P
+unfolding Past
+earlier P i zero k p = p
+earlier P i (suc j) k p = earlier P i j k (p .0)
 
 module _ (a : Addresses) where
   -- ---- a family's members
@@ -25,7 +30,7 @@ module _ (a : Addresses) where
   pub if-digit : (f : ℕ → Section) (d : ℕ) → d < a .b → f d ≡ ifDigit a f d
   if-digit f d h = rw (lt-ltb d (a .b) h)
 
-  -- for a digit that it does not have, the section of no lines is
+  -- for a digit that it does not have, the section of no lanes is
   pub no-digit : (f : ℕ → Section) (d : ℕ) → a .b ≤ d → noSection a ≡ ifDigit a f d
   no-digit f d h = rw (le-ltb d (a .b) h)
 
@@ -68,10 +73,10 @@ module _ (a : Addresses) where
     pub at-first : k < 40 → firstAt k ≡ sectionAt a k
     at-first h = rw (lt-ltb k 40 h)
 
-    -- from section 40 on stand the n sections of the next levels, in order
+    -- from section 40 on come the n sections of the next levels, in order
     pub at-level : 40 ≤ k → k - 40 < a .n → nextLevel a (k - 40) ≡ sectionAt a k
     at-level h l = rw (le-ltb k 40 h, lt-ltb (k - 40) (a .n) l)
 
-    -- at every number behind these stands the section of the next standing
+    -- at every number after these is the section of the next standing
     pub at-last : 40 ≤ k → a .n ≤ k - 40 → nextStanding a ≡ sectionAt a k
     at-last h l = rw (le-ltb k 40 h, le-ltb (k - 40) (a .n) l)

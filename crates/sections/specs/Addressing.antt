@@ -7,6 +7,7 @@ use Rattle.dimensions.specs.Sizes.{rowCount}
 use Rattle.sections.specs.declared.ReadingAddresses.{ReadingAddresses}
 use Rattle.sections.specs.declared.ActingAddresses.{ActingAddresses}
 use Rattle.sections.specs.declared.Addresses.{Addresses}
+use Rattle.sections.specs.Cells as Cells
 
 -- how many binary digits the number of one of n variables has, n at most 32: the least b with n ≤ 2^b
 abbrev pub digitsFor : ℕ → ℕ
@@ -21,19 +22,25 @@ unfoldable pub digitsTo : ℕ → ℕ → ℕ → ℕ
 digitsTo n m zero = 0
 digitsTo n m (suc d) = digitsTo n m d + (1 + thresholds n d) * m
 
--- how many gates a line of the tree has
-abbrev pub lineOf : ℕ → ℕ
-lineOf b = 1 + 8 * (3 + b)
+-- where F, the depth and the levels begin in a state of n variables that begins at wire x
+abbrev pub falsesFrom : ℕ → ℕ → ℕ
+falsesFrom n x = x + n
 
--- the sections that read the rows and find the greatest key, behind so many inputs, for b digits of a variable's number
+abbrev pub depthFrom : ℕ → ℕ → ℕ
+depthFrom n x = x + 2 * n
+
+abbrev pub levelsFrom : ℕ → ℕ → ℕ
+levelsFrom n x = x + 3 * n + 1
+
+-- the sections that read the rows and find the greatest key, after that number of inputs, for b digits of a variable's number
 abbrev pub readingOf : ℕ → ℕ → ℕ → ℕ → ReadingAddresses
 readingOf n m b inputs =
     let pairs = m / 2 in
     let nodes = m - 1 - pairs in
     let literals = inputs + 1 in
-    let counts = literals + (2 + 12 * n) * m in
-    let ranks = counts + (2 + 6 * n) * m in
-    let digits = ranks + 5 * m in
+    let counts = literals + Cells.literalLane n * m in
+    let ranks = counts + Cells.countLane n * m in
+    let digits = ranks + Cells.rank .size * m in
     let keys = digits + digitsTo n m b in
     let tree = keys + m * (3 + b) in
     record {
@@ -45,20 +52,20 @@ readingOf n m b inputs =
       digits = digits;
       keys = keys;
       tree = tree;
-      greatest = tree + lineOf b + lineOf b * pairs + lineOf b * nodes;
+      greatest = tree + Cells.treeLane b + Cells.treeLane b * pairs + Cells.treeLane b * nodes;
     }
 
 -- the sections that act on it
 abbrev pub actingOf : ℕ → ℕ → ℕ → ActingAddresses
 actingOf n b greatest =
-    let rule = greatest + 2 * (3 + b) in
-    let targets = rule + 12 + 2 * 2 ^ b in
-    let guards = targets + 3 * n in
-    let selects = guards + 4 * n in
-    let levels = selects + 4 + 3 * n in
-    let block = (1 + 3 * n) * n in
+    let rule = greatest + Cells.choice .size * (3 + b) in
+    let targets = rule + Cells.decoder + 2 * 2 ^ b in
+    let guards = targets + Cells.target .size * n in
+    let selects = guards + 2 * Cells.guard .size * n in
+    let levels = selects + 4 + Cells.select .size * n in
+    let block = Cells.levelLane n * n in
     let assignments = levels + 3 * block in
-    let depths = assignments + 10 * n in
+    let depths = assignments + 2 * Cells.assignment .size * n in
     record {
       rule = rule;
       targets = targets;

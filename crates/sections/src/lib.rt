@@ -1,12 +1,12 @@
 // The numbers of the circuit's sections: where each begins, how many cells it has, and to which wires the slots of its cells go. `netlist`
 // says which gates these are.
+mod cells;
 mod changing;
 mod choosing;
 mod digits;
 mod holding;
 mod judging;
 mod outputs;
-mod templates;
 mod weighing;
 
 use dimensions::Dimensions;
@@ -17,10 +17,8 @@ ghost use Rattle.sections.specs.Addressing.{readingOf, actingOf, address
 ghost use Rattle.sections.specs.Sections as Sections;
 
 // Where the state, its standing and each section begin, for n variables and m rows, and how many wires there are. A variable's number has b
-// digits.
-// The tree has `pairs` lines of two rows and `nodes` lines of two lines, the first of which is line `skip`. A block is all cells of one of
-// a level's three
-// sets of wires.
+// digits. The tree has `pairs` lanes of two rows and `nodes` lanes of two lanes, the first of which takes lane `skip` and the next. A block
+// is all cells of one of a level's three sets of wires.
 pub struct Addresses {
     pub n: u32,
     pub m: u32,
@@ -76,14 +74,14 @@ struct ActingAddresses {
     outputs: u32,
 }
 
-// Lines of cells, each behind some gates that are 0. A cell has the gates of a template, which begin with this one of all templates' gates.
-// The slots of a cell move on from line to line by `outer`, from cell to cell by `inner`.
+// Lanes of cells, before each lane some gates that are 0. A cell has `size` gates of all templates' gates, from gate `template` on. Its
+// slots move on from lane to lane by `outer`, from cell to cell by `inner`.
 pub struct Section {
     pub base: u32,
     pub zeros: u32,
     pub template: u32,
     pub size: u32,
-    pub lines: u32,
+    pub lanes: u32,
     pub cells: u32,
     pub slots: [u32; 8],
     pub outer: [u32; 8],
@@ -141,7 +139,7 @@ fn layout(n: u32, m: u32, b: u32) -> Addresses
     }
 }
 
-// The sections that read the rows, behind so many inputs.
+// The sections that read the rows, after so many inputs.
 fn layout_reading(n: u32, m: u32, b: u32, inputs: u32) -> ReadingAddresses
     requires { ⌜ (n ≤ 255) × (m ≤ 765) × (b ≤ 5) × (n * m ≤ 195075) × (m * b ≤ 3825) × (inputs ≤ 1048576) ⌝ }
     ensures { λ r. ⌜ r ≡ readingOf n m b inputs ⌝ }
@@ -149,11 +147,11 @@ fn layout_reading(n: u32, m: u32, b: u32, inputs: u32) -> ReadingAddresses
 {
     let pairs = m / 2;
     let nodes = digits::less(digits::less(m, 1), pairs);
-    let line = 1 + 8 * (3 + b);
+    let lane = 1 + cells::NODE_SIZE * (3 + b);
     let literals = inputs + 1;
-    let counts = literals + (2 + 12 * n) * m;
-    let ranks = counts + (2 + 6 * n) * m;
-    let digits = ranks + 5 * m;
+    let counts = literals + (2 + cells::LITERAL_SIZE * n) * m;
+    let ranks = counts + (2 + cells::COUNT_SIZE * n) * m;
+    let digits = ranks + cells::RANK_SIZE * m;
     let keys = digits + digits::digits_to(n, m, b);
     let tree = keys + m * (3 + b);
     ReadingAddresses {
@@ -165,7 +163,7 @@ fn layout_reading(n: u32, m: u32, b: u32, inputs: u32) -> ReadingAddresses
         digits,
         keys,
         tree,
-        greatest: tree + line + line * pairs + line * nodes,
+        greatest: tree + lane + lane * pairs + lane * nodes,
     }
 }
 
@@ -175,14 +173,14 @@ fn layout_acting(n: u32, b: u32, greatest: u32) -> ActingAddresses
     ensures { λ r. ⌜ r ≡ actingOf n b greatest ⌝ }
     ensures { λ r. ⌜ r .outputs ≤ 8388608 ⌝ }
 {
-    let rule = greatest + 2 * (3 + b);
-    let targets = rule + 12 + 2 * digits::power(b);
-    let guards = targets + 3 * n;
-    let selects = guards + 4 * n;
-    let levels = selects + 4 + 3 * n;
-    let block = (1 + 3 * n) * n;
+    let rule = greatest + cells::CHOICE_SIZE * (3 + b);
+    let targets = rule + cells::DECODER + 2 * digits::power(b);
+    let guards = targets + cells::TARGET_SIZE * n;
+    let selects = guards + 2 * cells::GUARD_SIZE * n;
+    let levels = selects + 4 + cells::SELECT_SIZE * n;
+    let block = (1 + cells::LEVEL_SIZE * n) * n;
     let assignments = levels + 3 * block;
-    let depths = assignments + 10 * n;
+    let depths = assignments + 2 * cells::ASSIGNMENT_SIZE * n;
     ActingAddresses {
         rule,
         targets,
@@ -220,33 +218,48 @@ fn first(a: Addresses, k: u32) -> Section
     requires { ⌜ Small a × (k < 40) ⌝ }
     ensures { λ r. ⌜ r ≡ getD (Sections.first a) k (Sections.nextStanding a) ⌝ }
 {
-    if k < 4 {
-        judging::at(a, k)
-    } else if k < 17 {
-        weighing::at(a, k)
-    } else if k < 28 {
-        choosing::at(a, k)
-    } else if k < 32 {
-        holding::at(a, k)
-    } else if k < 38 {
-        changing::at(a, k)
-    } else if k == 38 {
-        outputs::next_assignment(a)
-    } else {
-        outputs::next_depth(a)
+    match k {
+        0 => judging::zero_gate(a),
+        1 => judging::literals(a),
+        2 => judging::counts(a),
+        3 => judging::ranks(a),
+        4..=8 => weighing::digit(a, k - 4),
+        9 => weighing::key_sign(a),
+        10..=14 => weighing::key_digit(a, k - 10),
+        15 => weighing::key_low(a),
+        16 => weighing::key_high(a),
+        17 => choosing::bye(a),
+        18 => choosing::pairs(a),
+        19 => choosing::nodes(a),
+        20 => choosing::greatest(a),
+        21 => choosing::rule(a),
+        22 => choosing::root(a),
+        23..=27 => choosing::split(a, k - 23),
+        28 => holding::targets(a),
+        29 => holding::guards(a),
+        30 => holding::selects(a),
+        31 => holding::select_end(a),
+        32 => changing::levels_t(a),
+        33 => changing::levels_f(a),
+        34 => changing::levels_v(a),
+        35 => changing::assign_t(a),
+        36 => changing::assign_f(a),
+        37 => changing::depths(a),
+        38 => outputs::next_assignment(a),
+        _ => outputs::next_depth(a),
     }
 }
 
-// A section of no lines.
+// A section of no lanes.
 fn no_section(a: Addresses) -> Section
     ensures { λ r. ⌜ r ≡ Sections.noSection a ⌝ }
 {
     Section {
         base: a.inputs,
         zeros: 0,
-        template: templates::SUM,
-        size: 1,
-        lines: 0,
+        template: cells::SUM,
+        size: cells::SUM_SIZE,
+        lanes: 0,
         cells: 0,
         slots: [0; 8],
         outer: [0; 8],

@@ -1,7 +1,7 @@
 // The next state and the closing wire, the last wires of the circuit.
 use crate::Addresses;
 use crate::Section;
-use crate::templates;
+use crate::cells;
 use dimensions::Dimensions;
 ghost use mathlib.Core.Path.{_≡_};
 ghost use Prim.Native.Nat.{_*_, _≤_};
@@ -17,13 +17,13 @@ pub(crate) fn next_assignment(a: Addresses) -> Section
     Section {
         base: a.outputs,
         zeros: 0,
-        template: templates::SUM,
-        size: 1,
-        lines: 2,
+        template: cells::SUM,
+        size: cells::SUM_SIZE,
+        lanes: 2,
         cells: n,
-        slots: [a.state, a.assignments + 4, 0, 0, 0, 0, 0, 0],
-        outer: [n, 5 * n, 0, 0, 0, 0, 0, 0],
-        inner: [1, 5, 0, 0, 0, 0, 0, 0],
+        slots: [a.state, a.assignments + cells::CHANGE, 0, 0, 0, 0, 0, 0],
+        outer: [n, cells::ASSIGNMENT_SIZE * n, 0, 0, 0, 0, 0, 0],
+        inner: [1, cells::ASSIGNMENT_SIZE, 0, 0, 0, 0, 0, 0],
     }
 }
 
@@ -36,9 +36,9 @@ pub(crate) fn next_depth(a: Addresses) -> Section
     Section {
         base: a.outputs + 2 * n,
         zeros: 0,
-        template: templates::SUM,
-        size: 1,
-        lines: 1,
+        template: cells::SUM,
+        size: cells::SUM_SIZE,
+        lanes: 1,
         cells: n + 1,
         slots: [a.state + 2 * n, a.depths, 0, 0, 0, 0, 0, 0],
         outer: [0; 8],
@@ -55,13 +55,13 @@ pub(crate) fn next_level(a: Addresses, l: u32) -> Section
     Section {
         base: a.outputs + 3 * n + 1 + 3 * n * l,
         zeros: 0,
-        template: templates::SUM,
-        size: 1,
-        lines: 3,
+        template: cells::SUM,
+        size: cells::SUM_SIZE,
+        lanes: 3,
         cells: n,
         slots: [
             a.state + 3 * n + 1 + 3 * n * l,
-            a.levels + 2 + 3 * l,
+            a.levels + cells::LEVEL_CHANGE + cells::LEVEL_SIZE * l,
             0,
             0,
             0,
@@ -70,7 +70,7 @@ pub(crate) fn next_level(a: Addresses, l: u32) -> Section
             0,
         ],
         outer: [n, a.block, 0, 0, 0, 0, 0, 0],
-        inner: [1, 1 + 3 * n, 0, 0, 0, 0, 0, 0],
+        inner: [1, 1 + cells::LEVEL_SIZE * n, 0, 0, 0, 0, 0, 0],
     }
 }
 
@@ -85,11 +85,11 @@ pub(crate) fn next_standing(a: Addresses) -> Section
     Section {
         base: a.outputs + next_state - 2,
         zeros: 0,
-        template: templates::STANDING,
-        size: 3,
-        lines: 1,
+        template: cells::STANDING,
+        size: cells::STANDING_SIZE,
+        lanes: 1,
         cells: 1,
-        slots: [e, r + 7, e + 1, r + 8, 0, 0, 0, 0],
+        slots: [e, r + cells::DONE, e + 1, r + cells::REFUTE, 0, 0, 0, 0],
         outer: [0; 8],
         inner: [0; 8],
     }

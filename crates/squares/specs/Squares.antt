@@ -1,5 +1,6 @@
 -- A square of 32 rows by 32 variables: document 02, "Columns before rows". It is two planes of 32 words, positive before negative; word i
 -- of a plane holds variable i + 1 over the rows, the first row in the lowest bit.
+-- Ask: Is the positive plane first, variable 1's word first, the first row in the lowest bit?
 use Prim.Native.Nat.{ℕ, zero, suc, _+_, _*_}
 use mathlib.Core.List.{List, [], _∷_}
 use lib.ListN.{getD}

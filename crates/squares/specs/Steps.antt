@@ -1,5 +1,4 @@
--- Steps that exchange one binary digit of the number of a word and of the place in it. The crate's own functions go by them; no entry's
--- contract rests on this file.
+-- Steps that exchange one binary digit of the number of a word and of the place in it. The crate's own functions go by them.
 use Prim.Native.Nat.{ℕ, _+_, _-_, _*_, _/_, _%_, _^_}
 use mathlib.Core.Bool.{Bool, not, _&&_, cond}
 use mathlib.Core.List.{List}
@@ -22,7 +21,7 @@ unfoldable pub highWord : ℕ → ℕ → ℕ → ℕ
 unfolding odd
 highWord a b d = wordOf (λ c. cond (odd d c) (bit b c) (bit a (c + d))) 32
 
--- word k after the step, from those at k / 2 and 16 behind it
+-- word k after the step, from those at k / 2 and 16 after it
 unfoldable pub mixedWord : List ℕ → ℕ → ℕ → ℕ
 unfolding lowWord highWord
 mixedWord words d k =

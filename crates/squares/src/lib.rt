@@ -1,5 +1,5 @@
 // Squares of 32 rows by 32 variables: a square's positive and negative planes by value, from a table's words and from the words of planes
-// (document 02, "Columns before rows"). Nothing here is turned back.
+// (document 02, "Columns before rows"). Nothing here is refused.
 ghost use mathlib.Core.Path.{_≡_};
 ghost use mathlib.Core.Bool.{true};
 ghost use mathlib.Core.List.{[], _∷_};
@@ -87,7 +87,7 @@ fn pick(words: &[u32], at: usize, step: usize) -> [u32; 32]
     picked
 }
 
-// The columns of the words from a place on, and of those from a place behind it on.
+// The columns of the words from a place on, and of those from `gap` words later on.
 fn both(words: &[u32], at: usize, gap: usize, step: usize) -> Square
     requires { ⌜ (at < 32768) × (gap < 32768) × (step ≤ 2) ⌝ }
     ensures { λ r.

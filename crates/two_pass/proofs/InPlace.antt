@@ -64,7 +64,7 @@ module _ (s w w₁ : List ℕ) (e : w₁ ≡ take (length s) s ++ drop (length s
   pub copied : take (length s) w₁ ≡ s
   copied = ap (λ (l : List ℕ). take (length s) l) inputs-first ∙ take-append-seam s (drop (length s) w)
 
-  -- what the gates' values are written over is what stood there before
+  -- what the gates' values are written over is what was there before
   pub written : (gs : List Gate) (w₂ : List ℕ) → w₂ ≡ over (bytesOf (wiresOf (bitsOf (take (length s) w₁)) gs)) w₁
       → w₂ ≡ over (bytesOf (wiresOf (bitsOf s) gs)) w
   written gs w₂ f =

@@ -40,8 +40,8 @@ wires-at : (g : List ℕ) (i : ℕ) → i + 3 ≤ length g → (w : List Bool)
 unfolding wiresOf gatesOf
 wires-at g i h w = ap (λ (l : List ℕ). wiresOf w (gatesOf l)) (drop-three g i h)
 
--- what a loop keeps, at word i and wire m: the values so far stand at the front, in the loop's form of bytes, and with the gates that
--- are left they give all that s gives; the gates that are left are judged as all are
+-- what a loop keeps, at word i and wire m: the values so far are at the front, in the loop's form of bytes, and with the gates that are
+-- left they give all that s gives; the gates that are left are judged as all are
 pub record Run (form : List Bool → List ℕ) (s : List Bool) (g w₀ : List ℕ) (n : ℕ) (w : List ℕ) (i m : ℕ) : Type 0 where
   pub judged : accepted m (drop i g) ≡ accepted n g
   pub values : List Bool

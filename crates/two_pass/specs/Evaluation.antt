@@ -1,4 +1,5 @@
 -- What evaluating gates on input bytes gives, and what it leaves in the wire buffer (document 01, "Circuit", refusals 9 and 10).
+-- Ask: What do 9 and 10 leave in the wires?
 use mathlib.Core.Bool.{not}
 use mathlib.Core.List.{List, [], _∷_}
 use Prim.Native.Nat.{ℕ, _+_, _/_}
@@ -16,7 +17,7 @@ evaluationChecks gates inputs wires =
     ∷ (check (ltb (length wires) (length inputs + length gates / 3)) Wires
     ∷ (check (not (bits inputs)) Wires ∷ []))
 
--- the wire buffer afterwards: the wires' values, then the bytes that stood there; refused, as it was
+-- the wire buffer afterwards: the wires' values, then the bytes that were there; refused, as it was
 abbrev pub filledWires : List ℕ → List ℕ → List ℕ → List ℕ
 filledWires gates inputs wires =
     given (outcome (evaluationChecks gates inputs wires)) (over (bytesOf (wiresOf (bitsOf inputs) (gatesOf gates))) wires) (λ r. wires)

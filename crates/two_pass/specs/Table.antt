@@ -1,4 +1,4 @@
--- The table of gates' values; only the crate's own functions cite this.
+-- The table of gates' values.
 use mathlib.Core.List.{List, [], _∷_}
 use Prim.Native.Nat.{ℕ}
 

@@ -50,7 +50,7 @@ fn gate_value(values: &[u8; 12], kind: u32, a: u8, b: u8) -> u8
     values[at]
 }
 
-// Runs accepted gates behind the first n wires.
+// Runs accepted gates after the first n wires.
 fn run(gates: &[u32], wires: &mut [u8], n: usize)
     requires { ⌜ Memory.accepted n (now gates) ≡ true ⌝ }
     requires { ⌜ n + length (now gates) / 3 ≤ length (now wires) ⌝ }

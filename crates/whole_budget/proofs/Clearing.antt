@@ -20,7 +20,7 @@ cleared-more l i h =
     ∙ ap (λ (k : ℕ). replicate (i + 1) 0 ++ drop k l) next
     ∙ sym (cleared-is (i + 1) l)
 
--- only what stands behind matters
+-- only what follows matters
 pub cleared-same : (j k : ℕ) (x a b : List ℕ) → x ≡ cleared j a → j ≡ k → drop k a ≡ drop k b → x ≡ cleared k b
 cleared-same j k x a b e same behind =
     e ∙ ap (λ (i : ℕ). cleared i a) same ∙ cleared-is k a ∙ ap (λ (l : List ℕ). replicate k 0 ++ l) behind ∙ sym (cleared-is k b)

@@ -39,6 +39,6 @@ no-budget : code 0 1536 12 100000 (1 ∷ 0 ∷ []) ≡ 10
 unfolding code
 no-budget = refl
 
--- zeros in front, and what stood behind
+-- zeros in front, then what was there
 zeros : cleared 2 (7 ∷ 8 ∷ 9 ∷ []) ≡ 0 ∷ 0 ∷ 9 ∷ []
 zeros = refl

@@ -1,5 +1,6 @@
 -- The circuit applied to the fresh run through a whole budget: document 02, "The count kept secret too". No row is replaced meanwhile, and
 -- what the closing wire says ends nothing and is not kept.
+-- Ask: Does anything but the budget end the applications?
 use Prim.Native.Nat.{ℕ, zero, suc, _+_}
 use mathlib.Core.List.{List, [], _∷_}
 use lib.ListN.{length, replicate}
@@ -17,12 +18,12 @@ use Rattle.repeats.specs.Application.{applied}
 use Rattle.repeats.specs.Repeats.{Attempt, circuitWords, attempted}
 use Rattle.repeats.specs.Repeating.{whole}
 
--- what comes of an attempt, where later ones go on from a run, as they would have without it or one application further: turned back, it is
--- no application
+-- what comes of an attempt, where later ones go on from a run, as they would have without it or one application further: refused, it is no
+-- application
 abbrev pub attemptGives : Applied → (Run → List Run) → (Run → List Run) → List Run
 attemptGives r again further = given (r .outcome) (r .run ∷ further (r .run)) (λ refusal. again (r .run))
 
--- the runs that the applications return, from a run on, with so many left
+-- the runs that the applications return, from a run on, with a number of them left
 unfoldable pub applications : Dimensions → Tables → ℕ → Run → List Attempt → List Run
 unfolding applied circuitWords
 applications d tables budget run [] = []

@@ -1,6 +1,7 @@
--- The call that generates the circuit and applies it through a whole budget. All that turns it back is judged before anything is written:
--- 1, 2, 4, 3, 7, 23, 10. Afterwards bytes and wires are zeros where they were used: the last wires would tell the closing wire, and the
--- bytes the rows.
+-- The call that generates the circuit and applies it through a whole budget. Every refusal is judged before anything is written: 1, 2, 4,
+-- 3, 7, 23, 10. Afterwards bytes and wires are zeros where they were used: the last wires would tell the closing wire, and the bytes the
+-- rows.
+-- Ask: What is left in bytes and wires? Is 23 before 10?
 use Prim.Native.Nat.{ℕ, _+_}
 use mathlib.Core.List.{List, _∷_, _++_}
 use lib.Dec.{ltb}
@@ -47,12 +48,12 @@ module _ (d : Dimensions) (tables : Tables) (budget : ℕ) (gates bytes wires : 
   unfolding wholeAllowed
   gatesAfterWhole = given wholeAllowed (writtenWords d gates) (λ r. gates)
 
-  -- the bytes: zeros for the inputs, then what stood there
+  -- the bytes: zeros for the inputs, then what was there
   unfoldable pub bytesAfterWhole : List ℕ
   unfolding wholeAllowed
   bytesAfterWhole = given wholeAllowed (cleared (inputWires d) bytes) (λ r. bytes)
 
-  -- the wires: zeros for all of the circuit's, then what stood there
+  -- the wires: zeros for all of the circuit's, then what was there
   unfoldable pub wiresAfterWhole : List ℕ
   unfolding wholeAllowed
   wiresAfterWhole = given wholeAllowed (cleared (inputWires d + length (gatesOn d)) wires) (λ r. wires)

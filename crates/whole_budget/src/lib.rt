@@ -1,5 +1,5 @@
 // The circuit of some dimensions, generated and then applied to the fresh run through a whole budget, whatever its closing wire says
-// (document 02, "The count kept secret too"). Turned back: 1, 2, 4, 3, 7, 23, 10.
+// (document 02, "The count kept secret too"). Refusals: 1, 2, 4, 3, 7, 23, 10.
 use dimensions::Dimensions;
 use refusals::Outcome;
 use refusals::Refusal;
@@ -27,8 +27,8 @@ ghost use Rattle.whole_budget.specs.WholeBudget.{gatesAfterWhole, bytesA
 // The greatest budget that is gone through whole.
 pub const MOST_BUDGET: u64 = 65535;
 
-// Whether tables, budget, and so many gate words, bytes and wires allow the run: 1, 2, 4, 3, 7, 23 or 10 if not.
-fn check(
+// Whether tables, budget, gate words, bytes and wires allow the run: 1, 2, 4, 3, 7, 23 or 10 if not.
+fn check_whole(
     d: Dimensions,
     left: &[u32],
     right: &[u32],
@@ -80,7 +80,7 @@ fn apply_through(
     last
 }
 
-// Puts zeros over so many of the first bytes.
+// Puts zeros over the first `count` bytes.
 fn clear(bytes: &mut [u8], count: usize)
     requires { ⌜ count ≤ length (now bytes) ⌝ }
     ensures { λ _. ⌜ now (bytes .exit) ≡ cleared count (now (bytes .entry)) ⌝ }
@@ -122,7 +122,7 @@ pub fn solve_whole(
         ⌝ }
 {
     let lent = gates.len();
-    match check(
+    match check_whole(
         d,
         left,
         right,
@@ -135,8 +135,7 @@ pub fn solve_whole(
         Outcome::Taken => {}
         Outcome::Refused(refusal) => return Solved::Refused(refusal),
     }
-    generator::generate(d, gates);
-    let words = repeats::circuit_words(d);
+    let words = repeats::write_circuit(d, gates);
     let circuit = &gates[..words];
     let last = apply_through(d, left, right, public, budget, circuit, bytes, wires);
     let inputs = d.input_wires();

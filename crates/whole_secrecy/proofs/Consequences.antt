@@ -1,5 +1,5 @@
--- What follows from the statement alone: a closed run that stays while the applications go on, the plain run's verdict behind the budget, one application
--- where no variable occurs, and two hosts that see the same. Each part of `WholeSecrecy` is used, so that none can be left out or weakened.
+-- What follows from the statement alone: a closed run that stays while the applications go on, the plain run's verdict under the budget, one application where
+-- no variable occurs, and two hosts that see the same. Each part of `WholeSecrecy` is used, so that none can be left out or weakened.
 use mathlib.Core.Path.{_≡_, sym, ap, _∙_}
 use mathlib.Core.Bool.{true}
 use mathlib.Core.List.{List}

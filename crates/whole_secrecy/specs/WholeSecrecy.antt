@@ -1,5 +1,6 @@
 -- The run that repeats the circuit through a whole budget, as one statement about the generated circuit of some dimensions: history, end,
 -- bound, secrecy and what a call leaves. Document 02, "The count kept secret too" and "Fewer variables, fewer steps".
+-- Ask: Is there a mark in what is seen, or a premise on the count?
 use Prim.Native.Nat.{ℕ, suc, _≤_, _<_, min}
 use mathlib.Core.Path.{_≡_}
 use mathlib.Core.Bool.{true}
@@ -69,7 +70,7 @@ pub record WholeSecrecy (d : Dimensions) : Type 0 where
       → wholeAnswerIn (d .n) budget (wholeRuns d tables budget attempts)
       ≡ record { count = budget; verdict = plainVerdict d tables budget })
       × (budget ≤ longOnes d attempts → length (wholeRuns d tables budget attempts) ≡ budget)
-  -- closed by then, if they reach so far; that they go on says `end`
+  -- closed by then, if there are enough of them; `end` says that they go on
   pub bound : (tables : Tables) → Accepts d tables → (budget : ℕ) (attempts : List Attempt) (i : ℕ) (none : Run)
       → i < length (wholeRuns d tables budget attempts) → mostSteps (d .n) (rowsOf d tables) ≤ suc i
       → closed (stateOf (getD (wholeRuns d tables budget attempts) i none)) ≡ true

@@ -1,4 +1,4 @@
--- Where the bits of rows and of a state stand in a list of wires: the list is cut part by part, in the order of the wires.
+-- Where the bits of rows and of a state are in a list of wires: the list is cut part by part, in the order of the wires.
 use mathlib.Core.Path.{_≡_, refl, sym, ap, ap₂, _∙_, subst}
 use mathlib.Core.Bool.{Bool}
 use mathlib.Core.List.{List, [], _∷_, _++_, append-assoc}

@@ -1,4 +1,4 @@
--- What is said of a level by its number: of a list whose last level stands first, and of a run's array, whose wires are those of its list. By cases on whether
+-- What is said of a level by its number: of a list whose last level comes first, and of a run's array, whose wires are those of its list. By cases on whether
 -- the level is the last, and by induction on the depth.
 use mathlib.Core.Path.{_≡_, refl, sym, ap₂, _∙_}
 use mathlib.Core.Bool.{Bool, true, false, _&&_, cond}
@@ -22,7 +22,7 @@ use Rattle.wires.proofs.Series.{upto-cong, joined-cong}
 
 -- ---- in a list
 
--- the last level stands first in the list
+-- the last level comes first in the list
 pub level-last : (g : Level → Bool) (x : Level) (xs : List Level) → onLevel g (x ∷ xs) (length xs) ≡ g x
 unfolding onLevel
 level-last g x xs = rw (eq-eqb (length xs) (length xs) refl)

@@ -1,4 +1,4 @@
--- Laws of `upto` and `joined`: lengths, what stands at an address, one more, and cutting in two. By induction on the number of parts.
+-- Laws of `upto` and `joined`: lengths, what is at an address, one more, and cutting in two. By induction on the number of parts.
 use mathlib.Core.Path.{_≡_, refl, sym, ap, ap₂, _∙_}
 use mathlib.Core.Bool.{Bool, false}
 use mathlib.Core.List.{List, [], _∷_, _++_, append-assoc, append-nil}

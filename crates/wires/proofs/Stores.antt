@@ -1,4 +1,4 @@
--- Wires stored in bytes from a place on: one more, and a list behind a list. From `sets` of two lists in a row.
+-- Wires stored in bytes from a place on: one more, and a list after a list. From `sets` of two lists in a row.
 use mathlib.Core.Path.{_≡_, refl, sym, ap, ap₂, _∙_}
 use mathlib.Core.Bool.{Bool}
 use mathlib.Core.List.{List, [], _∷_, _++_, map-append}

@@ -1,4 +1,4 @@
--- A table's rows, one behind the other, and all tables' rows and a state behind one another. By induction on the number of rows.
+-- A table's rows, one after the other, and all tables' rows and a state after them. By induction on the number of rows.
 use mathlib.Core.Path.{_≡_, refl, sym, ap, ap₂, _∙_, fun-ext}
 use mathlib.Core.Bool.{Bool}
 use mathlib.Core.List.{List, [], _∷_, _++_, append-assoc}

@@ -1,4 +1,4 @@
--- A state's wires by name and by number, for the proofs; no contract cites this.
+-- A state's wires by name and by number, for the proofs.
 use Prim.Native.Nat.{ℕ, suc, _+_, _*_}
 use mathlib.Core.Bool.{Bool}
 use mathlib.Core.List.{List, [], _∷_, _++_}

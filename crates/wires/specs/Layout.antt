@@ -1,4 +1,5 @@
 -- The wires of rows and of a state, in order: document 01, "Circuit". Variables, depths and levels are counted from 0.
+-- Ask: Are the wires in document 01's order?
 use Prim.Native.Nat.{ℕ, zero, suc}
 use mathlib.Core.Bool.{Bool, true, false, cond}
 use mathlib.Core.List.{List, [], _∷_, _++_}
@@ -27,7 +28,7 @@ joined f (suc n) = f zero ++ joined (λ i. f (suc i)) n
 abbrev pub rowBits : ℕ → Row → List Bool
 rowBits n r = upto (bit (r .positive)) n ++ upto (bit (r .negative)) n
 
--- the wires of the rows, one row behind the other
+-- the wires of the rows, one row after the other
 unfoldable pub rowsBits : ℕ → List Row → List Bool
 rowsBits n [] = []
 rowsBits n (r ∷ rs) = rowBits n r ++ rowsBits n rs

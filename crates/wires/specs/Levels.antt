@@ -1,4 +1,4 @@
--- Levels of the run's array as they are written; only the crate's own functions cite this.
+-- Levels of the run's array as they are written.
 use Prim.Native.Nat.{ℕ}
 use mathlib.Core.Bool.{Bool, cond}
 use mathlib.Core.List.{List, _++_}

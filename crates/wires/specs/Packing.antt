@@ -1,4 +1,5 @@
 -- Rows and a run packed into bytes, a byte a wire: document 01, "Circuit", refusals 1, 2, 4, 3, then 10, 12, 13.
+-- Ask: What do 10 and 12 leave in the bytes?
 use Prim.Native.Nat.{ℕ}
 use mathlib.Core.Bool.{Bool}
 use mathlib.Core.List.{List, _∷_, _++_}
@@ -21,11 +22,11 @@ use Rattle.wires.specs.Layout.{rowsBits, stateBits}
 unfoldable pub inputBits : Dimensions → Tables → State → List Bool
 inputBits d tables s = rowsBits (d .n) (rowsOf d tables) ++ stateBits (d .n) s
 
--- 1, 2, 4, 3, then 10 where so many lent bytes are too few, then 12, 13
+-- 1, 2, 4, 3, then 10 where the lent bytes are too few, then 12, 13
 abbrev pub packChecks : Dimensions → Tables → Run → ℕ → List Check
 packChecks d tables run room = tableChecks d tables ++ (check (ltb room (inputWires d)) Wires ∷ stateChecks d run)
 
--- the lent bytes afterwards: the input values, then what stood there; refused, as they were
+-- the lent bytes afterwards: the input values, then what was there; refused, as they were
 unfoldable pub packed : Dimensions → Tables → Run → List ℕ → List ℕ
 packed d tables run bytes =
     given (outcome (packChecks d tables run (length bytes))) (over (bytesOf (inputBits d tables (stateOf run))) bytes) (λ r. bytes)

@@ -11,10 +11,10 @@ use Rattle.state.specs.WellFormed.{wellFormed}
 use Rattle.gates.specs.Memory.{bytesOf, over}
 use Rattle.wires.specs.Layout.{stateBits}
 
--- so many bytes have room for the state, and the run is well-formed
+-- the bytes have room for the state, and the run is well-formed
 abbrev pub packable : Run → ℕ → Bool
 packable run room = not (ltb room (stateWires (run .n))) && wellFormed run
 
--- the lent bytes afterwards: the state's wires, then what stood there; else as they were
+-- the lent bytes afterwards: the state's wires, then what was there; else as they were
 unfoldable pub packedState : Run → List ℕ → List ℕ
 packedState run bytes = cond (packable run (length bytes)) (over (bytesOf (stateBits (run .n) (stateOf run))) bytes) bytes

@@ -1,4 +1,4 @@
-// Rows and a run packed into bytes, a byte a wire (document 01, "Circuit"). Turned back by 1, 2, 4, 3, 10, 12 and 13.
+// Rows and a run packed into bytes, a byte a wire (document 01, "Circuit"). Refusals: 1, 2, 4, 3, 10, 12 and 13.
 mod packing;
 
 use dimensions::Dimensions;
@@ -14,8 +14,8 @@ ghost use Rattle.tables.specs.Tables.{lentTables};
 ghost use Rattle.wires.specs.Packing.{packChecks, packed};
 ghost use Rattle.wires.specs.StatePacking.{packable, packedState};
 
-// Whether rows and run can be packed into so many bytes: 1, 2, 4, 3, 10, 12 or 13 if not.
-pub fn check(
+// Whether rows and run can be packed into the lent bytes: 1, 2, 4, 3, 10, 12 or 13 if not.
+pub fn check_pack(
     d: Dimensions,
     left: &[u32],
     right: &[u32],
@@ -49,7 +49,7 @@ pub fn pack(
     ensures { λ _. ⌜ now (bytes .exit) ≡ packed d (lentTables left right public) run (now (bytes .entry)) ⌝ }
     ensures { λ r. ⌜ codeOf r ∷ [] ≡ said (outcome (packChecks d (lentTables left right public) run (length (now (bytes .entry))))) [] ⌝ }
 {
-    match check(d, left, right, public, run, bytes.len()) {
+    match check_pack(d, left, right, public, run, bytes.len()) {
         Outcome::Taken => {}
         Outcome::Refused(refusal) => return Outcome::Refused(refusal),
     }

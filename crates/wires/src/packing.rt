@@ -1,4 +1,4 @@
-// Wires written into bytes, a byte a wire. Each function gives the place behind what it wrote; the other bytes stay.
+// Wires written into bytes, a byte a wire. Each function gives the place after what it wrote; the other bytes stay.
 use state::Level;
 use state::Run;
 use state::Standing;
@@ -68,10 +68,9 @@ fn put_row(n: usize, row: Row, bytes: &mut [u8], at: usize) -> usize
     put_set(n, row.negative, bytes, middle)
 }
 
-// A table's rows.
+// A table's rows. Words past the end count as 0.
 pub(crate) fn put_rows(n: usize, words: &[u32], rows: usize, bytes: &mut [u8], at: usize) -> usize
     requires { ⌜ n ≤ 32 ⌝ }
-    requires { ⌜ 2 * rows ≤ length (now words) ⌝ }
     requires { ⌜ at + (n + n) * rows ≤ length (now bytes) ⌝ }
     ensures { λ r. ⌜ r ≡ at + (n + n) * rows ⌝ }
     ensures { λ _. ⌜ now (bytes .exit) ≡ sets (now (bytes .entry)) at (bytesOf (rowsBits n (rowsFrom (now (words .entry)) 0 rows))) ⌝ }
@@ -79,11 +78,7 @@ pub(crate) fn put_rows(n: usize, words: &[u32], rows: usize, bytes: &mut [u8], a
     let mut next = at;
     let mut j = 0;
     while j < rows {
-        let row = Row {
-            positive: words[2 * j],
-            negative: words[2 * j + 1],
-        };
-        next = put_row(n, row, bytes, next);
+        next = put_row(n, tables::row_at(words, j), bytes, next);
         j += 1;
     }
     next

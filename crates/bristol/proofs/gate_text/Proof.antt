@@ -1,8 +1,8 @@
--- `gate_text` meets its contract: three words a gate, and a wire a gate behind the inputs.
+-- `gate_text` meets its contract: three words a gate, and a wire a gate after the inputs.
 use mathlib.Core.Path.{sym, ap, _∙_}
 use native.Mathlib.Omega.{arith}
 use denote.Ref.{now}
-use Rattle.bristol_line.specs.ByValue.{lineOf}
+use Rattle.bristol_line.specs.ByValue.{circuitLineOf}
 use Rattle.bristol.proofs.Numbering.{gate-line-at}
 use borrow.Author.Needs.{needs}
 use Rattle.bristol.proofs.gate_text.Statement.{statement}
@@ -44,7 +44,7 @@ gate-requires c κs = search needs
 returns : tie.Need-returns
 returns c =
     let start = c .before .before .before .before .before .args in
-    c .gate .ensures ∙ ap lineOf (sym (gate-line-at (start .inputs) (now (start .gates)) (start .number) (omega arith)))
+    c .gate .ensures ∙ ap circuitLineOf (sym (gate-line-at (start .inputs) (now (start .gates)) (start .number) (omega arith)))
 
 pub gate-text-spec : {M : Type 1} → statement M
 gate-text-spec =

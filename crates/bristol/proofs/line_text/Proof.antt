@@ -9,7 +9,7 @@ use lib.ListN.{length, getD}
 use Rattle.dimensions.specs.Sizes.{inputWires}
 use Rattle.gates.specs.Memory as Memory
 use Rattle.bristol_line.specs.Lines.{sizeLine}
-use Rattle.bristol_line.specs.ByValue.{lineOf}
+use Rattle.bristol_line.specs.ByValue.{circuitLineOf}
 use Rattle.bristol.specs.Text.{gateLines}
 use Rattle.bristol.proofs.Numbering.{inputs-small, lines-first, lines-second, lines-third, lines-blank, lines-gate}
 use Rattle.bristol.proofs.Requests.{taken-within, taken-accepted}
@@ -58,30 +58,30 @@ returns c =
     let start = c .before .before .before .before in
     let gates = length (now (start .args .gates)) / 3 in
     c .sizes .ensures
-    ∙ ap (λ (k : ℕ). lineOf (sizeLine gates (k + gates))) (c .before .before .input-wires .ensures)
-    ∙ ap lineOf (sym (lines-first (start .args .d) (now (start .args .gates)) (start .args .line) (accepted start) (c .before .match .keys1)))
+    ∙ ap (λ (k : ℕ). circuitLineOf (sizeLine gates (k + gates))) (c .before .before .input-wires .ensures)
+    ∙ ap circuitLineOf (sym (lines-first (start .args .d) (now (start .args .gates)) (start .args .line) (accepted start) (c .before .match .keys1)))
 
 returns-2 : tie.Need-returns-2
 returns-2 c =
     let start = c .before .before .before .before .args in
-    c .inputs .ensures ∙ ap lineOf (sym (lines-second (start .d) (now (start .gates)) (start .line) (c .before .match .keys2)))
+    c .inputs .ensures ∙ ap circuitLineOf (sym (lines-second (start .d) (now (start .gates)) (start .line) (c .before .match .keys2)))
 
 returns-3 : tie.Need-returns-3
 returns-3 c =
     let start = c .before .before .before .before .args in
-    c .outputs .ensures ∙ ap lineOf (sym (lines-third (start .d) (now (start .gates)) (start .line) (c .before .match .keys3)))
+    c .outputs .ensures ∙ ap circuitLineOf (sym (lines-third (start .d) (now (start .gates)) (start .line) (c .before .match .keys3)))
 
 returns-4 : tie.Need-returns-4
 returns-4 c =
     let start = c .before .before .before .before .args in
-    c .blank .ensures ∙ ap lineOf (sym (lines-blank (start .d) (now (start .gates)) (start .line) (c .before .match .keys4)))
+    c .blank .ensures ∙ ap circuitLineOf (sym (lines-blank (start .d) (now (start .gates)) (start .line) (c .before .match .keys4)))
 
 returns-5 : tie.Need-returns-5
 returns-5 c =
     let start = c .before .before .before .before .args in
     c .gate-text .ensures
-    ∙ ap (λ (k : ℕ). lineOf (getD (gateLines k (Memory.gatesOf (now (start .gates)))) (start .line - 4) [])) (c .before .before .input-wires .ensures)
-    ∙ ap lineOf (sym (lines-gate (start .d) (now (start .gates)) (start .line) (behind (c .before))))
+    ∙ ap (λ (k : ℕ). circuitLineOf (getD (gateLines k (Memory.gatesOf (now (start .gates)))) (start .line - 4) [])) (c .before .before .input-wires .ensures)
+    ∙ ap circuitLineOf (sym (lines-gate (start .d) (now (start .gates)) (start .line) (behind (c .before))))
 
 pub line-text-spec : {M : Type 1} → statement M
 line-text-spec =

@@ -1,5 +1,5 @@
--- `put_lines` meets its contract. The loop's invariant, `Put`: the lines that are put, and those that still fit behind them, are those that fit from
--- the first on. The measure is the number of lines to come.
+-- `put_lines` meets its contract. The loop's invariant, `Put`: the lines that are put, and those that still fit after them, are those that fit from the first
+-- on. The measure is the number of lines to come.
 use mathlib.Core.Path.{_≡_, ap, _∙_}
 use Prim.Native.Nat.{_+_, _-_, _/_}
 use native.Mathlib.Omega.{arith}

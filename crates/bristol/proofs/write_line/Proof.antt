@@ -12,17 +12,17 @@ use Rattle.bristol.proofs.write_line.Tie as tie
 
 -- ---- the places of the code, each from the one behind it
 
-abbrev start : tie.After-check → tie.Start
+abbrev start : tie.After-check-circuit → tie.Start
 start c = c .before .before .before
 
-abbrev checked : tie.After-enum-told → tie.After-check
+abbrev checked : tie.After-enum-told → tie.After-check-circuit
 checked c = c .before .before
 
 abbrev told : tie.After-put-line → tie.After-enum-told
 told c = c .before .before .before
 
-check-requires : tie.Need-check-requires
-check-requires c κs = search needs
+check-circuit-requires : tie.Need-check-circuit-requires
+check-circuit-requires c κs = search needs
 
 enum-told : tie.Need-enum-told
 enum-told c = search needs
@@ -35,11 +35,11 @@ returns c =
     let at-check = c .before .before .before in
     let s = start at-check .args in
     with-line (s .d) (now (s .gates)) (s .line) (now (s .bytes)) _ _
-    (refuse-circuit (s .d) (now (s .gates)) (s .line) (now (s .bytes)) _ (sym (at-check .check .ensures) ∙ c .before .refusal .given .1))
+    (refuse-circuit (s .d) (now (s .gates)) (s .line) (now (s .bytes)) _ (sym (at-check .check-circuit .ensures) ∙ c .before .refusal .given .1))
 
 -- the circuit was taken
 taken : (c : tie.After-enum-told) → let s = start (checked c) .args in outcome (circuitChecks (s .d) (now (s .gates))) ≡ Taken
-taken c = sym (checked c .check .ensures) ∙ c .enum-told .given .1
+taken c = sym (checked c .check-circuit .ensures) ∙ c .enum-told .given .1
 
 add-if1 : tie.Need-add-if1
 add-if1 c = search needs
@@ -67,7 +67,7 @@ pub write-line-spec : {M : Type 1} → statement M
 write-line-spec =
     tie.close
     (tie.spec
-    check-requires
+    check-circuit-requires
     enum-told
     enum-known-refusal
     returns

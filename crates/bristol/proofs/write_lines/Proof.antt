@@ -8,14 +8,14 @@ use Rattle.bristol.proofs.write_lines.Tie as tie
 
 -- ---- the places of the code, each from the one behind it
 
-abbrev start : tie.After-check → tie.Start
+abbrev start : tie.After-check-circuit → tie.Start
 start c = c .before .before .before
 
-abbrev checked : tie.After-enum-told → tie.After-check
+abbrev checked : tie.After-enum-told → tie.After-check-circuit
 checked c = c .before .before
 
-check-requires : tie.Need-check-requires
-check-requires c κs = search needs
+check-circuit-requires : tie.Need-check-circuit-requires
+check-circuit-requires c κs = search needs
 
 enum-told : tie.Need-enum-told
 enum-told c = search needs
@@ -28,10 +28,10 @@ returns c =
     let at-check = c .before .before .before in
     let s = start at-check .args in
     with-lines (s .d) (now (s .gates)) (s .line) (now (s .bytes)) _ _
-    (refuse-lines (s .d) (now (s .gates)) (s .line) (now (s .bytes)) _ (sym (at-check .check .ensures) ∙ c .before .refusal .given .1))
+    (refuse-lines (s .d) (now (s .gates)) (s .line) (now (s .bytes)) _ (sym (at-check .check-circuit .ensures) ∙ c .before .refusal .given .1))
 
 put-lines-requires : tie.Need-put-lines-requires
-put-lines-requires c κs = sym (checked (c .before) .check .ensures) ∙ c .before .enum-told .given .1
+put-lines-requires c κs = sym (checked (c .before) .check-circuit .ensures) ∙ c .before .enum-told .given .1
 
 same-length : tie.Need-same-length
 same-length c = search needs
@@ -46,7 +46,7 @@ pub write-lines-spec : {M : Type 1} → statement M
 write-lines-spec =
     tie.close
     (tie.spec
-    check-requires
+    check-circuit-requires
     enum-told
     enum-known-refusal
     returns

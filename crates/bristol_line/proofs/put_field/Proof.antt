@@ -1,4 +1,4 @@
--- `put_field` meets its contract: a byte behind the digits is stored with them.
+-- `put_field` meets its contract: a byte after the digits is stored with them.
 use native.Mathlib.Omega.{arith}
 use denote.Ref.{now}
 use Rattle.text.specs.Decimal.{decimal}

@@ -1,4 +1,4 @@
--- `put_stations` meets its contract: its three pieces stand one behind the other.
+-- `put_stations` meets its contract: its three pieces follow one another.
 use Prim.Native.Nat.{_*_}
 use native.Mathlib.Omega.{arith}
 use denote.Ref.{now}

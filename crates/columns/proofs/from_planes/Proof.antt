@@ -17,14 +17,14 @@ check-buffers-requires c κs = search needs
 enum-told : tie.Need-enum-told
 enum-told c = search needs
 
-enum-known-sizes : tie.Need-enum-known-sizes
-enum-known-sizes c = search needs
+enum-known-refusal : tie.Need-enum-known-refusal
+enum-known-refusal c = search needs
 
 returns : tie.Need-returns
 returns c = let sizes = c .before .before .before in
     let a = sizes .before .before .before .args in
     let e = refuse-size (a .n) (a .rows) (length (a .table .now)) (length (a .planes .now)) (stray (a .n) (a .rows) (a .planes .now)) PlaneBits _
-    (sym (sizes .check-buffers .ensures) ∙ c .before .sizes .given .1) in
+    (sym (sizes .check-buffers .ensures) ∙ c .before .refusal .given .1) in
     also-said (e, rows-refused (a .n) (a .rows) (a .planes .now) (a .table .now) _ e)
 
 -- sizes that are taken
@@ -69,7 +69,7 @@ from-planes-spec =
     (tie.spec
     check-buffers-requires
     enum-told
-    enum-known-sizes
+    enum-known-refusal
     returns
     has-stray-requires
     returns-2

@@ -1,4 +1,4 @@
--- `put_square` meets its contract: one plane behind the other.
+-- `put_square` meets its contract: one plane after the other.
 use mathlib.Core.Path.{_≡_, ap, _∙_}
 use mathlib.Core.List.{List, []}
 use Prim.Native.Nat.{ℕ, _+_}

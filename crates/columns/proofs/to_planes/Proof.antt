@@ -22,15 +22,15 @@ check-buffers-requires c κs = search needs
 enum-told : tie.Need-enum-told
 enum-told c = search needs
 
-enum-known-sizes : tie.Need-enum-known-sizes
-enum-known-sizes c = search needs
+enum-known-refusal : tie.Need-enum-known-refusal
+enum-known-refusal c = search needs
 
 returns : tie.Need-returns
 returns c =
     let at-shared-slice-known = c .before .before .before .before .before in
     let a = at-shared-slice-known .before .args in
     let e = refuse-size (a .n) (a .rows) (length (a .table .now)) (length (a .planes .now)) (high (a .n) (a .rows) (a .table .now)) RowBit _
-    (sym (c .before .before .before .check-buffers .ensures) ∙ c .before .sizes .given .1) in
+    (sym (c .before .before .before .check-buffers .ensures) ∙ c .before .refusal .given .1) in
     also-said (e, columns-refused (a .n) (a .rows) (a .table .now) (a .planes .now) _ e)
 
 -- sizes that are taken
@@ -88,7 +88,7 @@ to-planes-spec =
     (tie.spec
     check-buffers-requires
     enum-told
-    enum-known-sizes
+    enum-known-refusal
     returns
     mul-words
     slice-aggregate-front

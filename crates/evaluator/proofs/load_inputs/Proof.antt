@@ -1,4 +1,4 @@
--- `load_inputs` meets its contract: at each turn the first i bytes of the loaded inputs stand at the front.
+-- `load_inputs` meets its contract: at each turn the first i bytes of the loaded inputs are at the front.
 use borrow.Author.Needs.{needs}
 use mathlib.Core.Path.{_≡_, refl, _∙_}
 use mathlib.Core.List.{_++_}
@@ -6,14 +6,14 @@ use Prim.Native.Nat.{_≤_, _-_}
 use native.Mathlib.Omega.{arith}
 use lib.ListN.{length, getD, take, drop, length-set}
 use Rattle.gates.specs.Memory.{bitsOf}
-use Rattle.evaluator.specs.Held.{held}
-use Rattle.evaluator.proofs.Held.{next-byte, all-bytes, input-bit, input-held, inputs-length, no-inputs, first-input, all-inputs}
+use Rattle.evaluator.specs.TrialBytes.{trialBytes}
+use Rattle.evaluator.proofs.TrialBytes.{next-byte, all-bytes, input-bit, trial-input, inputs-length, no-inputs, first-input, all-inputs}
 use Rattle.evaluator.proofs.load_inputs.Statement.{statement}
 use Rattle.evaluator.proofs.load_inputs.Tie as tie
 
 abbrev Inv-loop : tie.InvT-loop
 Inv-loop inputs scratch₀ i₀ scratch i =
-    (1 ≤ i) × (i ≤ length inputs) × (length scratch ≡ length scratch₀) × (scratch ≡ take i (held (bitsOf inputs)) ++ drop i scratch₀)
+    (1 ≤ i) × (i ≤ length inputs) × (length scratch ≡ length scratch₀) × (scratch ≡ take i (trialBytes (bitsOf inputs)) ++ drop i scratch₀)
 
 abbrev μ-loop : tie.MeasureT-loop
 μ-loop inputs scratch₀ i₀ scratch i = length inputs - i
@@ -63,7 +63,7 @@ loop-again c =
       omega arith,
       omega arith,
       length-set (l .scratch) (l .i) _ ∙ l .inv .2,
-      next-byte _ _ _ _ _ (l .inv .3) (input-held n (s .pre .1) (l .i) (omega arith) (omega arith)) (omega (arith, kept (c .before .before), l .inv .2))
+      next-byte _ _ _ _ _ (l .inv .3) (trial-input n (s .pre .1) (l .i) (omega arith) (omega arith)) (omega (arith, kept (c .before .before), l .inv .2))
           (omega (arith, inputs-length n)),
     )
 
@@ -75,7 +75,7 @@ returns-2 c =
     let l = c .before .loop in
     let s = c .before .before .before .before .args in
     let n = s .inputs .now in
-    all-inputs n (s .scratch .now) _ _ (omega arith) (all-bytes _ (held (bitsOf n)) _ (l .i) (l .inv .3) (omega (arith, inputs-length n)))
+    all-inputs n (s .scratch .now) _ _ (omega arith) (all-bytes _ (trialBytes (bitsOf n)) _ (l .i) (l .inv .3) (omega (arith, inputs-length n)))
 
 pub load-inputs-spec : {M : Type 1} → statement M
 load-inputs-spec =

@@ -1,18 +1,18 @@
--- `store_wires` meets its contract: at each turn the first i of the bytes stand at the front.
+-- `store_wires` meets its contract: at each turn the first i of the bytes are at the front.
 use borrow.Author.Needs.{needs}
 use mathlib.Core.Path.{_≡_, refl, _∙_}
 use mathlib.Core.List.{_++_}
 use Prim.Native.Nat.{_≤_, _-_}
 use native.Mathlib.Omega.{arith}
 use lib.ListN.{length, take, drop, length-set}
-use Rattle.evaluator.specs.Held.{plain}
-use Rattle.evaluator.proofs.Held.{next-byte, all-bytes, stored-at, stored-length}
+use Rattle.evaluator.specs.TrialBytes.{wireBytes}
+use Rattle.evaluator.proofs.TrialBytes.{next-byte, all-bytes, stored-at, stored-length}
 use Rattle.evaluator.proofs.store_wires.Statement.{statement}
 use Rattle.evaluator.proofs.store_wires.Tie as tie
 
 abbrev Inv-loop : tie.InvT-loop
 Inv-loop scratch wires₀ count i₀ wires i =
-    (i ≤ count) × (length wires ≡ length wires₀) × (wires ≡ take i (plain (take count scratch)) ++ drop i wires₀)
+    (i ≤ count) × (length wires ≡ length wires₀) × (wires ≡ take i (wireBytes (take count scratch)) ++ drop i wires₀)
 
 abbrev μ-loop : tie.MeasureT-loop
 μ-loop scratch wires₀ count i₀ wires i = count - i
@@ -50,7 +50,7 @@ returns : tie.Need-returns Inv-loop μ-loop
 returns c =
     let l = c .before .loop in
     let s = c .before .before in
-    all-bytes _ (plain (take (s .args .count) (s .args .scratch .now))) _ (l .i) (l .inv .2)
+    all-bytes _ (wireBytes (take (s .args .count) (s .args .scratch .now))) _ (l .i) (l .inv .2)
     (omega (arith, stored-length (s .args .scratch .now) (s .args .count) (s .pre .0)))
 
 pub store-wires-spec : {M : Type 1} → statement M

@@ -7,15 +7,15 @@ use native.Mathlib.Omega.{arith}
 use borrow.Author.Tests.{le-ltb}
 use lib.ListN.{length, getD}
 use Rattle.gates.specs.Memory.{bitsOf}
-use Rattle.evaluator.specs.Held.{held}
+use Rattle.evaluator.specs.TrialBytes.{trialBytes}
 use Rattle.gates.proofs.Judging.{first-late, second-late}
 use Rattle.two_pass.proofs.Running.{Run, start, whole, fits-next}
-use Rattle.evaluator.proofs.Held.{refused, ended, read-held, judged-held, held-again}
+use Rattle.evaluator.proofs.TrialBytes.{refused, ended, trial-read, trial-drives, trial-next}
 use Rattle.evaluator.proofs.trial.Statement.{statement}
 use Rattle.evaluator.proofs.trial.Tie as tie
 
 abbrev Inv-loop : tie.InvT-loop
-Inv-loop gates inputs scratch₀ values stop i₀ m₀ scratch i m = Run held (bitsOf inputs) gates scratch₀ (length inputs) scratch i m
+Inv-loop gates inputs scratch₀ values stop i₀ m₀ scratch i m = Run trialBytes (bitsOf inputs) gates scratch₀ (length inputs) scratch i m
 
 abbrev μ-loop : tie.MeasureT-loop
 μ-loop gates inputs scratch₀ values stop i₀ m₀ scratch i m = stop - m
@@ -50,7 +50,7 @@ turn : (c : tie.In-loop Inv-loop μ-loop)
 turn c =
     let p = c .before .before .pre .0 in
     let r = c .before .loop .inv in
-    (whole r p (within c), fits-next r p (within c), read-held r p)
+    (whole r p (within c), fits-next r p (within c), trial-read r p)
 
 add-stop : tie.Need-add-stop Inv-loop μ-loop
 add-stop c = search needs
@@ -165,7 +165,7 @@ returns-3 c =
     let g = h .before .before .args .gates .now in
     let p = h .before .before .pre .0 in
     let b = getD g (l .i + 2) 0 in
-    let late = judged-held (l .inv) p (getD g (l .i) 0) (getD g (l .i + 1) 0) b (e .before .if1 .left) (e .if2 .left) in
+    let late = trial-drives (l .inv) p (getD g (l .i) 0) (getD g (l .i + 1) 0) b (e .before .if1 .left) (e .if2 .left) in
     (refused (l .inv) p (within h) (sym late ∙ le-ltb (4 * getD g (l .i) 0 + getD (l .scratch) b 0) 10 (omega (arith, bytes e, c .if3 .taken))), refl)
 
 array-read-scratch : tie.Need-array-read-scratch Inv-loop μ-loop
@@ -187,7 +187,7 @@ loop-again : tie.Need-loop-again Inv-loop μ-loop
 loop-again c =
     let e = both-driven (c .before) in
     let h = turning (gate-read e) in
-    held-again (h .before .loop .inv) (h .before .before .pre .0) (within h) (e .before .if1 .left) (e .if2 .left) (omega (arith, bytes e, c .if3 .left))
+    trial-next (h .before .loop .inv) (h .before .before .pre .0) (within h) (e .before .if1 .left) (e .if2 .left) (omega (arith, bytes e, c .if3 .left))
 
 same-length-4 : tie.Need-same-length-4 Inv-loop μ-loop
 same-length-4 c = c .before .loop .inv .size

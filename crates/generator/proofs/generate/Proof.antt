@@ -11,7 +11,7 @@ use borrow.Author.Needs.{needs}
 use Rattle.generator.proofs.generate.Statement.{statement}
 use Rattle.generator.proofs.generate.Tie as tie
 
--- ---- the places of the code, each from the one behind it
+-- ---- the places of the code, each from the one after it
 
 abbrev start : tie.After-check → tie.Start
 start c = c .before .before
@@ -26,17 +26,17 @@ sizes c = sym (checked c .check .ensures .0) ∙ c .enum-told .given .1
 check-requires : tie.Need-check-requires
 check-requires c κs = search needs
 
-enum-known-outcome : tie.Need-enum-known-outcome
-enum-known-outcome c = search needs
+enum-told : tie.Need-enum-told
+enum-told c = search needs
+
+enum-known-refusal : tie.Need-enum-known-refusal
+enum-known-refusal c = search needs
 
 returns : tie.Need-returns
 returns c =
     let at-check = c .before .before .before in
     let a = start at-check .args in
-    with-said (a .d) (a .words .now) _ _ (refuse-size (a .d) (a .words .now) _ (sym (at-check .check .ensures .0) ∙ c .before .outcome .given .1))
-
-enum-told : tie.Need-enum-told
-enum-told c = search needs
+    with-said (a .d) (a .words .now) _ _ (refuse-size (a .d) (a .words .now) _ (sym (at-check .check .ensures .0) ∙ c .before .refusal .given .1))
 
 ceiling-requires : tie.Need-ceiling-requires
 ceiling-requires c κs = search needs
@@ -76,9 +76,9 @@ generate-spec =
     tie.close
     (tie.spec
     check-requires
-    enum-known-outcome
-    returns
     enum-told
+    enum-known-refusal
+    returns
     ceiling-requires
     mul-if1
     returns-2

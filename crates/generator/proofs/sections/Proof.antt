@@ -1,4 +1,4 @@
--- `sections` meets its contract: each turn writes one more section behind those that stand.
+-- `sections` meets its contract: each turn writes one more section after those before.
 use borrow.Author.Needs.{needs}
 use mathlib.Core.Path.{_≡_, refl, ap}
 use Prim.Native.Nat.{_+_, _*_, _-_, _≤_, _<_}

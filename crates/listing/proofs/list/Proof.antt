@@ -6,8 +6,8 @@ use borrow.Author.Needs.{needs}
 use Rattle.listing.proofs.list.Statement.{statement}
 use Rattle.listing.proofs.list.Tie as tie
 
-read-size-requires : tie.Need-read-size-requires
-read-size-requires c κs = search needs
+read-dimensions-requires : tie.Need-read-dimensions-requires
+read-dimensions-requires c κs = search needs
 
 enum-known-n : tie.Need-enum-known-n
 enum-known-n c = search needs
@@ -41,7 +41,7 @@ returns c =
     let numbers = size .n .given .0 in
     put-within _ _ _ _ _ (sized-of (numbers .0) (numbers .1 .0) (numbers .1 .1 .0) (numbers .1 .1 .1 .0) _
     (sym (new .new .ensures .0) ∙ c .before .before .before .d .given .1)
-    ∙ ap sizeText (sym (size .n .given .1) ∙ call .read-size .ensures .0)) (c .put-circuit .ensures)
+    ∙ ap sizeText (sym (size .n .given .1) ∙ call .read-dimensions .ensures .0)) (c .put-circuit .ensures)
 
 returns-2 : tie.Need-returns-2
 returns-2 c =
@@ -51,18 +51,18 @@ returns-2 c =
     let numbers = size .n .given .0 in
     put-within _ _ _ _ _ (sized-refused (numbers .0) (numbers .1 .0) (numbers .1 .1 .0) (numbers .1 .1 .1 .0) _
     (sym (new .new .ensures .0) ∙ c .before .before .before .refusal .given .1)
-    ∙ ap sizeText (sym (size .n .given .1) ∙ call .read-size .ensures .0)) (c .put-refusal .ensures)
+    ∙ ap sizeText (sym (size .n .given .1) ∙ call .read-dimensions .ensures .0)) (c .put-refusal .ensures)
 
 returns-3 : tie.Need-returns-3
 returns-3 c =
     let call = c .before .before .before .before .before in
-    put-within _ _ _ _ _ (ap sizeText (sym (c .before .before .before .refusal2 .given .1) ∙ call .read-size .ensures .0)) (c .put-refusal2 .ensures)
+    put-within _ _ _ _ _ (ap sizeText (sym (c .before .before .before .refusal2 .given .1) ∙ call .read-dimensions .ensures .0)) (c .put-refusal2 .ensures)
 
 pub list-spec : {M : Type 1} → statement M
 list-spec =
     tie.close
     (tie.spec
-    read-size-requires
+    read-dimensions-requires
     enum-known-n
     new-requires
     enum-known-d

@@ -1,4 +1,4 @@
--- `put_text` meets its contract: with room for the whole text the writer puts it, and is not turned back.
+-- `put_text` meets its contract: with room for the whole text the writer puts it, and is not refused.
 use mathlib.Core.Path.{sym, _∙_}
 use Prim.Native.Nat.{_≤_}
 use native.Mathlib.Omega.{arith}

@@ -24,8 +24,8 @@ check-shape-requires c κs = let a = c .before .before .args in (least 32 (a .n)
 enum-told : tie.Need-enum-told
 enum-told c = search needs
 
-enum-known-shape : tie.Need-enum-known-shape
-enum-known-shape c = search needs
+enum-known-refusal : tie.Need-enum-known-refusal
+enum-known-refusal c = search needs
 
 returns-2 : tie.Need-returns-2
 returns-2 c =
@@ -33,7 +33,7 @@ returns-2 c =
     let a = at-shared-slice-known .before .args in
     with-read (a .n) (a .pilots) (a .watches) (a .page .now) _
     (read-shape (a .n) (a .pilots) (a .watches) (a .page .now) (c .before .before .before .before .if1 .left) _
-    (sym (c .before .before .before .check-shape .ensures) ∙ c .before .shape .given .1))
+    (sym (c .before .before .before .check-shape .ensures) ∙ c .before .refusal .given .1))
 
 marked-requires : tie.Need-marked-requires
 marked-requires c κs = let a = c .before .before .before .before .before .args in
@@ -85,7 +85,7 @@ read-spec =
     returns
     check-shape-requires
     enum-told
-    enum-known-shape
+    enum-known-refusal
     returns-2
     marked-requires
     is-page-requires

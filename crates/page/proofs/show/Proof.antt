@@ -24,6 +24,9 @@ show-model-requires c κs =
     let f = shown (a .run) (w .0) in
     (f .least, f .most)
 
+enum-known-refusal : tie.Need-enum-known-refusal
+enum-known-refusal c = search needs
+
 same-length : tie.Need-same-length
 same-length c = search needs
 
@@ -36,9 +39,6 @@ returns c =
     let call = c .before .before .show-model in
     let e = call .ensures .0 ∙ page-shaped (a .run) (a .pilots) (a .watches) (a .page .now) (w .0) in
     (e, (call .ensures .1 ∙ page-left (a .run) (a .pilots) (a .watches) (a .page .now) _ e _ (w .1), outcome-said e .1))
-
-enum-known-refusal : tie.Need-enum-known-refusal
-enum-known-refusal c = search needs
 
 returns-2 : tie.Need-returns-2
 returns-2 c = let a = c .before .before .before .before .before .args in
@@ -54,7 +54,7 @@ show-spec =
     enum-known-model
     cast-show-model
     show-model-requires
+    enum-known-refusal
     same-length
     returns
-    enum-known-refusal
     returns-2)

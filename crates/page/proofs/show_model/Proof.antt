@@ -12,11 +12,11 @@ check-shape-requires c κs = search needs
 enum-told : tie.Need-enum-told
 enum-told c = search needs
 
-enum-known-shape : tie.Need-enum-known-shape
-enum-known-shape c = search needs
+enum-known-refusal : tie.Need-enum-known-refusal
+enum-known-refusal c = search needs
 
 returns : tie.Need-returns
-returns c = (sym (c .before .shape .given .1) ∙ c .before .before .before .check-shape .ensures, refl)
+returns c = (sym (c .before .refusal .given .1) ∙ c .before .before .before .check-shape .ensures, refl)
 
 put-page-requires : tie.Need-put-page-requires
 put-page-requires c κs = let a = c .before .before .before .before .before in
@@ -41,7 +41,7 @@ show-model-spec =
     (tie.spec
     check-shape-requires
     enum-told
-    enum-known-shape
+    enum-known-refusal
     returns
     put-page-requires
     same-length

@@ -101,11 +101,14 @@ room c =
 pack-requires : tie.Need-pack-requires
 pack-requires c κs = search needs
 
+enum-told : tie.Need-enum-told
+enum-told c = search needs
+
 enum-known-refusal : tie.Need-enum-known-refusal
 enum-known-refusal c = search needs
 
-turned-back-requires : tie.Need-turned-back-requires
-turned-back-requires c κs = search needs
+refused-requires : tie.Need-refused-requires
+refused-requires c κs = search needs
 
 same-length : tie.Need-same-length
 same-length c = search needs
@@ -117,14 +120,11 @@ returns c =
     let s = start p in
     let e = sym (p .pack .ensures .0) ∙ k .refusal .given .1 in
     apply-said (s .args .d) (tables s) (s .args .gates .now) (s .args .run) (s .args .bytes .now) (s .args .wires .now)
-    (c .turned-back .ensures
+    (c .refused .ensures
     ∙ sym (refused (s .args .d) (tables s) (s .args .gates .now) (s .args .run) (s .args .bytes .now) (s .args .wires .now) (stateWires (s .args .d .n) + 1) _
     (refuse-packing (s .args .d) (tables s) (s .args .gates .now) (s .args .run) (s .args .bytes .now) (s .args .wires .now) _ e)))
     (p .pack .ensures .1 .0)
     (unfilled (s .args .d) (tables s) (s .args .gates .now) (s .args .run) (s .args .bytes .now) (s .args .wires .now) _ e)
-
-enum-told : tie.Need-enum-told
-enum-told c = search needs
 
 input-wires-requires : tie.Need-input-wires-requires
 input-wires-requires c κs = search needs
@@ -138,11 +138,14 @@ slice-aggregate-evaluate c = sym (length-take-le _ _ (front (c .before)))
 evaluate-requires : tie.Need-evaluate-requires
 evaluate-requires c κs = search needs
 
+enum-told-2 : tie.Need-enum-told-2
+enum-told-2 c = search needs
+
 enum-known-refusal-2 : tie.Need-enum-known-refusal-2
 enum-known-refusal-2 c = search needs
 
-turned-back-requires-2 : tie.Need-turned-back-requires-2
-turned-back-requires-2 c κs = search needs
+refused-requires-2 : tie.Need-refused-requires-2
+refused-requires-2 c κs = search needs
 
 same-length-2 : tie.Need-same-length-2
 same-length-2 c = search needs
@@ -157,14 +160,11 @@ returns-2 c =
     let t = counting e .before in
     let s = start (packing t) in
     apply-said (s .args .d) (tables s) (s .args .gates .now) (s .args .run) (s .args .bytes .now) (s .args .wires .now)
-    (c .turned-back2 .ensures
+    (c .refused2 .ensures
     ∙ sym (refused (s .args .d) (tables s) (s .args .gates .now) (s .args .run) (s .args .bytes .now) (s .args .wires .now) (stateWires (s .args .d .n) + 1) _
     (refuse-evaluation (s .args .d) (tables s) (s .args .gates .now) (s .args .run) (s .args .bytes .now) (s .args .wires .now) (packs t) _
     (sym (judged e) ∙ k .refusal2 .given .1))))
     (packing t .pack .ensures .1 .0) (filled e)
-
-enum-told-2 : tie.Need-enum-told-2
-enum-told-2 c = search needs
 
 add-end : tie.Need-add-end
 add-end c =
@@ -243,21 +243,21 @@ apply-spec =
     tie.close
     (tie.spec
     pack-requires
+    enum-told
     enum-known-refusal
-    turned-back-requires
+    refused-requires
     same-length
     returns
-    enum-told
     input-wires-requires
     slice-reshare-prefix-evaluate
     slice-aggregate-evaluate
     evaluate-requires
+    enum-told-2
     enum-known-refusal-2
-    turned-back-requires-2
+    refused-requires-2
     same-length-2
     same-length-3
     returns-2
-    enum-told-2
     add-end
     state-wires-requires
     add-start

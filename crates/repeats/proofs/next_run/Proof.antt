@@ -27,28 +27,28 @@ read-is c =
 read-back-requires : tie.Need-read-back-requires
 read-back-requires c κs = search needs
 
-enum-known-outcome : tie.Need-enum-known-outcome
-enum-known-outcome c = search needs
-
-turned-back-requires : tie.Need-turned-back-requires
-turned-back-requires c κs = search needs
-
 enum-told : tie.Need-enum-told
 enum-told c = search needs
 
-state-wires-of-requires : tie.Need-state-wires-of-requires
-state-wires-of-requires c κs = search needs
+enum-known-outcome : tie.Need-enum-known-outcome
+enum-known-outcome c = search needs
 
-shared-slice-read-t12 : tie.Need-shared-slice-read-t12
-shared-slice-read-t12 c = search needs
+refused-requires : tie.Need-refused-requires
+refused-requires c κs = search needs
 
 returns : tie.Need-returns
 returns c =
     let o = c .before .before in
     let b = o .before .before in
     let s = start b in
-    c .turned-back .ensures
+    c .refused .ensures
     ∙ sym (next-refused (s .args .n) (s .args .run) (s .args .outputs .now) _ (sym (ap (λ (x : Read). x .outcome) (read-is b)) ∙ o .outcome .given .1))
+
+state-wires-of-requires : tie.Need-state-wires-of-requires
+state-wires-of-requires c κs = search needs
+
+shared-slice-read-t11 : tie.Need-shared-slice-read-t11
+shared-slice-read-t11 c = search needs
 
 returns-2 : tie.Need-returns-2
 returns-2 c =
@@ -64,10 +64,10 @@ next-run-spec =
     tie.close
     (tie.spec
     read-back-requires
-    enum-known-outcome
-    turned-back-requires
     enum-told
-    state-wires-of-requires
-    shared-slice-read-t12
+    enum-known-outcome
+    refused-requires
     returns
+    state-wires-of-requires
+    shared-slice-read-t11
     returns-2)

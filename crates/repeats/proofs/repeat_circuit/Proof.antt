@@ -1,6 +1,5 @@
--- `repeat_circuit` meets its contract. The loop's invariant: the repeats done and those that are left are the call's; run, number, bytes and wires are as the
--- repeats
--- done left them. The measure is what is left of the times.
+-- `repeat_circuit` meets its contract. The loop's invariant: the repeats done and those that are left are the call's; run, number, bytes
+-- and wires are as the repeats done left them. The measure is what is left of the times.
 use mathlib.Core.Path.{_≡_, sym, ap, _∙_}
 use mathlib.Core.Bool.{true, false}
 use mathlib.Core.List.{List}

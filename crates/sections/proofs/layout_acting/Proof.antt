@@ -34,6 +34,9 @@ add-guards c = search needs
 mul-selects : tie.Need-mul-selects
 mul-selects c = search needs
 
+mul-selects-2 : tie.Need-mul-selects-2
+mul-selects-2 c = search needs
+
 add-selects : tie.Need-add-selects
 add-selects c = search needs
 
@@ -64,14 +67,17 @@ add-assignments c = search needs
 mul-depths : tie.Need-mul-depths
 mul-depths c = search needs
 
+mul-depths-2 : tie.Need-mul-depths-2
+mul-depths-2 c = search needs
+
 add-depths : tie.Need-add-depths
 add-depths c = search needs
 
-add-t12 : tie.Need-add-t12
-add-t12 c = search needs
-
 add-t14 : tie.Need-add-t14
 add-t14 c = search needs
+
+add-t13 : tie.Need-add-t13
+add-t13 c = search needs
 
 returns : tie.Need-returns
 returns c = (rw (c .power .ensures .0), omega arith)
@@ -90,6 +96,7 @@ layout-acting-spec =
     mul-guards
     add-guards
     mul-selects
+    mul-selects-2
     add-selects
     add-levels
     mul-levels
@@ -100,7 +107,8 @@ layout-acting-spec =
     mul-assignments
     add-assignments
     mul-depths
+    mul-depths-2
     add-depths
-    add-t12
     add-t14
+    add-t13
     returns)

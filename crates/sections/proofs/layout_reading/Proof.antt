@@ -1,8 +1,8 @@
--- `layout_reading` meets its contract: by what its calls give; m bounds the lines of the tree.
+-- `layout_reading` meets its contract: by what its calls give; m bounds the lanes of the tree.
 use borrow.Author.Needs.{needs}
 use Prim.Native.Nat.{_+_, _*_, _/_, _≤_}
 use native.Mathlib.Omega.{arith}
-use Rattle.sections.proofs.Bounds.{lines-few}
+use Rattle.sections.proofs.Bounds.{lanes-few}
 use Rattle.sections.proofs.layout_reading.Statement.{statement}
 use Rattle.sections.proofs.layout_reading.Tie as tie
 
@@ -12,14 +12,14 @@ less-requires c κs = search needs
 less-requires-2 : tie.Need-less-requires-2
 less-requires-2 c κs = search needs
 
-add-line : tie.Need-add-line
-add-line c = search needs
+add-lane : tie.Need-add-lane
+add-lane c = search needs
 
-mul-line : tie.Need-mul-line
-mul-line c = search needs
+mul-lane : tie.Need-mul-lane
+mul-lane c = search needs
 
-add-line-2 : tie.Need-add-line-2
-add-line-2 c = search needs
+add-lane-2 : tie.Need-add-lane-2
+add-lane-2 c = search needs
 
 add-literals : tie.Need-add-literals
 add-literals c = search needs
@@ -72,17 +72,17 @@ add-tree-2 c = search needs
 add-t16 : tie.Need-add-t16
 add-t16 c = search needs
 
--- so many lines of two rows
+-- so many lanes of two rows
 pairs-few : (c : tie.After-digits-to) → (1 + 8 * (3 + c .before .before .before .args .b)) * (c .before .before .before .args .m / 2) ≤ 49725
 pairs-few c =
     let s = c .before .before .before in
-    lines-few (s .args .n) (s .args .m) (s .args .b) (s .pre .0) (s .pre .1) (s .pre .2) (s .args .m / 2) (omega (arith, s .pre .1))
+    lanes-few (s .args .n) (s .args .m) (s .args .b) (s .pre .0) (s .pre .1) (s .pre .2) (s .args .m / 2) (omega (arith, s .pre .1))
 
--- and of two lines
+-- and of two lanes
 nodes-few : (c : tie.After-digits-to) → (1 + 8 * (3 + c .before .before .before .args .b)) * c .before .less2 .result ≤ 49725
 nodes-few c =
     let s = c .before .before .before in
-    lines-few (s .args .n) (s .args .m) (s .args .b) (s .pre .0) (s .pre .1) (s .pre .2) (c .before .less2 .result)
+    lanes-few (s .args .n) (s .args .m) (s .args .b) (s .pre .0) (s .pre .1) (s .pre .2) (c .before .less2 .result)
     (omega (arith, s .pre .1, c .before .before .less .ensures, c .before .less2 .ensures))
 
 mul-t15 : tie.Need-mul-t15
@@ -109,9 +109,9 @@ layout-reading-spec =
     (tie.spec
     less-requires
     less-requires-2
-    add-line
-    mul-line
-    add-line-2
+    add-lane
+    mul-lane
+    add-lane-2
     add-literals
     mul-counts
     add-counts

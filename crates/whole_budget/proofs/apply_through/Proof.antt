@@ -1,5 +1,5 @@
 -- `apply_through` meets its contract. The loop's invariant: the state at hand, with the steps that are left, comes to the state after as many as the budget;
--- bytes and wires are as they were behind what is used. The measure is what is left of the budget.
+-- bytes and wires are as they were after what is used. The measure is what is left of the budget.
 use mathlib.Core.Path.{ap, _∙_}
 use mathlib.Core.List.{List}
 use Prim.Native.Nat.{ℕ, _+_, _-_}

@@ -1,4 +1,4 @@
--- `clear` meets its contract. The loop's invariant: the bytes are zeros up to the place that is next, and behind it what they were.
+-- `clear` meets its contract. The loop's invariant: the bytes are zeros up to the place that is next, and from there on what they were.
 use native.Mathlib.Omega.{arith}
 use Prim.Native.Nat.{_-_}
 use Rattle.whole_budget.proofs.Clearing.{Clearing, clearing-start, clearing-on, clearing-end}

@@ -1,4 +1,4 @@
--- `pack` meets its contract: left rows, right rows, public rows and state are stored one behind the other.
+-- `pack` meets its contract: left rows, right rows, public rows and state are stored one after the other.
 use mathlib.Core.Path.{_≡_, sym, _∙_}
 use native.Mathlib.Omega.{arith}
 use lib.ListN.{length}
@@ -20,7 +20,7 @@ tables s = allTables (s .args .left .now) (s .args .right .now) (s .args .public
 
 -- ---- the places of the code, each from the one behind it
 
-abbrev start : tie.After-check → tie.Start
+abbrev start : tie.After-check-pack → tie.Start
 start c = c .before .before .before .before .before
 
 abbrev told : tie.After-put-rows → tie.After-enum-told
@@ -37,13 +37,13 @@ started c = start (c .before .before)
 
 -- the checks that are passed where rows are put
 passes : (c : tie.After-enum-told) → let s = started c in outcome (packChecks (s .args .d) (tables s) (s .args .run) (length (s .args .bytes .now))) ≡ Taken
-passes c = sym (c .before .before .check .ensures .0) ∙ c .enum-told .given .1
+passes c = sym (c .before .before .check-pack .ensures .0) ∙ c .enum-told .given .1
 
 taken : (c : tie.After-enum-told) → let s = started c in Passed (s .args .d) (tables s) (s .args .run) (length (s .args .bytes .now))
 taken c = let s = started c in passed (s .args .d) (tables s) (s .args .run) (length (s .args .bytes .now)) (passes c)
 
-check-requires : tie.Need-check-requires
-check-requires c κs = search needs
+check-pack-requires : tie.Need-check-pack-requires
+check-pack-requires c κs = search needs
 
 enum-told : tie.Need-enum-told
 enum-told c = search needs
@@ -53,9 +53,10 @@ enum-known-refusal c = search needs
 
 returns : tie.Need-returns
 returns c =
-    let at-check = c .before .before .before in
+    let bound = c .before in
+    let at-check = bound .before .before in
     let s = start at-check in
-    let e = sym (at-check .check .ensures .0) ∙ c .before .refusal .given .1 in
+    let e = sym (at-check .check-pack .ensures .0) ∙ bound .refusal .given .1 in
     also-said (sym e, pack-refused (s .args .d) (tables s) (s .args .run) (s .args .bytes .now) _ e)
 
 cast-n : tie.Need-cast-n
@@ -69,7 +70,7 @@ put-rows-requires c κs =
     let at-enum-told = c .before .before .before in
     let s = started at-enum-told in
     let o = taken at-enum-told in
-    (o .allowed .size .n-most, (o .allowed .left-length, omega (arith, o .enough, input-parts (s .args .d))))
+    (o .allowed .size .n-most, omega (arith, o .enough, input-parts (s .args .d)))
 
 cast-put-rows-2 : tie.Need-cast-put-rows-2
 cast-put-rows-2 c = search needs
@@ -81,7 +82,7 @@ put-rows-requires-2 c κs =
     let o = taken (told at-put-rows) in
     let p = at-put-rows .put-rows in
     let k : length (p .last .1 .1 .1 .0) ≡ length (s .args .bytes .now) = p .kept .1 .1 .1 .0 in
-    (o .allowed .size .n-most, (o .allowed .right-length, omega (arith, p .ensures .0, o .enough, input-parts (s .args .d))))
+    (o .allowed .size .n-most, omega (arith, p .ensures .0, o .enough, input-parts (s .args .d)))
 
 cast-put-rows-3 : tie.Need-cast-put-rows-3
 cast-put-rows-3 c = search needs
@@ -96,7 +97,7 @@ put-rows-requires-3 c κs =
     let q = at-put-rows2 .put-rows2 in
     let k : length (p .last .1 .1 .1 .0) ≡ length (s .args .bytes .now) = p .kept .1 .1 .1 .0 in
     let l : length (q .last .1 .1 .1 .0) ≡ length (p .last .1 .1 .1 .0) = q .kept .1 .1 .1 .0 in
-    (o .allowed .size .n-most, (o .allowed .public-length, omega (arith, p .ensures .0, q .ensures .0, o .enough, input-parts (s .args .d))))
+    (o .allowed .size .n-most, omega (arith, p .ensures .0, q .ensures .0, o .enough, input-parts (s .args .d)))
 
 put-state-requires : tie.Need-put-state-requires
 put-state-requires c κs =
@@ -137,7 +138,7 @@ pub pack-spec : {M : Type 1} → statement M
 pack-spec =
     tie.close
     (tie.spec
-    check-requires
+    check-pack-requires
     enum-told
     enum-known-refusal
     returns

@@ -1,4 +1,4 @@
--- `array` meets its contract: each turn writes one more line behind those that stand.
+-- `array` meets its contract: each turn writes one more lane after those before.
 use borrow.Author.Needs.{needs}
 use mathlib.Core.Path.{_≡_, refl, ap, sym}
 use Prim.Native.Nat.{_+_, _*_, _-_, _≤_}
@@ -9,20 +9,20 @@ use lib.Seq.{sets, length-sets}
 use Rattle.gates.specs.Memory.{wordsOf}
 use Rattle.netlist.specs.Arrays.{array}
 use Rattle.generator.specs.Storing.{gatesIn}
-use Rattle.generator.proofs.Placing.{lines-more, turns}
+use Rattle.generator.proofs.Placing.{lanes-more, turns}
 use Rattle.generator.proofs.Steps.{along-below, below-more}
 use Rattle.generator.proofs.cells.array.Statement.{statement}
 use Rattle.generator.proofs.cells.array.Tie as tie
 
 abbrev Inv-loop : tie.InvT-loop
-Inv-loop words₀ inputs template zeros n m slots outer inner row at₀ j₀ words at j =
+Inv-loop words₀ inputs template zeros n m slots outer inner step at₀ j₀ words at j =
     (j ≤ m) × (at ≡ at₀ + (zeros + length template * n) * j)
     × (words ≡ sets words₀ (3 * (at₀ - inputs)) (wordsOf (array zeros (gatesIn template) slots outer inner at₀ j n)))
 
 abbrev μ-loop : tie.MeasureT-loop
-μ-loop words₀ inputs template zeros n m slots outer inner row at₀ j₀ words at j = m - j
+μ-loop words₀ inputs template zeros n m slots outer inner step at₀ j₀ words at j = m - j
 
--- ---- the places of the code, each from the one behind it
+-- ---- the places of the code, each from the one after it
 
 abbrev lent : tie.After-struct-known Inv-loop μ-loop → tie.After-shared-slice-known Inv-loop μ-loop
 lent c = c .before .before .before .before
@@ -45,24 +45,24 @@ kept c = simp length-sets at (ap length (c .loop .inv .2))
 facts : (c : tie.In-loop Inv-loop μ-loop)
     → let s = started (c .before) .args .s in
     let j = c .before .loop .j in
-    let row = s .zeros + s .size * s .cells in
-    (row ≤ 6148) × (row * j + row ≤ row * s .lines) × (row * s .lines ≤ 2360832)
+    let step = s .zeros + s .size * s .cells in
+    (step ≤ 6148) × (step * j + step ≤ step * s .lanes) × (step * s .lanes ≤ 2360832)
 facts c =
     let a = started (c .before) in
     let s = a .args .s in
-    let row = s .zeros + s .size * s .cells in
+    let step = s .zeros + s .size * s .cells in
     let f = a .pre .1 in
-    let h : row ≤ 6148 = omega (arith, mul-le-mul (f .named .1) (f .counts .2), f .counts .0) in
-    let t = turns row (s .lines) (c .before .loop .j) 6148 384 h (f .counts .1) (c .loop-test .taken) in
+    let h : step ≤ 6148 = omega (arith, mul-le-mul (f .named .1) (f .counts .2), f .counts .0) in
+    let t = turns step (s .lanes) (c .before .loop .j) 6148 384 h (f .counts .1) (c .loop-test .taken) in
     (h, t .0, t .1)
 
-mul-row : tie.Need-mul-row Inv-loop μ-loop
-mul-row c =
+mul-step : tie.Need-mul-step Inv-loop μ-loop
+mul-step c =
     let f = start c .pre .1 in
     omega (arith, mul-le-mul (f .named .1) (f .counts .2))
 
-add-row : tie.Need-add-row Inv-loop μ-loop
-add-row c =
+add-step : tie.Need-add-step Inv-loop μ-loop
+add-step c =
     let f = start c .pre .1 in
     omega (arith, mul-le-mul (f .named .1) (f .counts .2), f .counts .0)
 
@@ -76,8 +76,8 @@ along-requires c κs =
     let f = s .pre .1 in
     (below-more 16777216 41943040 (s .args .s .slots) (f .below .0) (omega arith), f .below .1, omega (arith, f .counts .1))
 
-line-requires : tie.Need-line-requires Inv-loop μ-loop
-line-requires c κs =
+lane-requires : tie.Need-lane-requires Inv-loop μ-loop
+lane-requires c κs =
     let l = c .before .before .before in
     let a = started l in
     let s = a .args .s in
@@ -116,8 +116,8 @@ loop-less c = search needs
 
 loop-again : tie.Need-loop-again Inv-loop μ-loop
 loop-again c =
-    let at-line = c .before .before in
-    let at-along = at-line .before .before in
+    let at-lane = c .before .before in
+    let at-along = at-lane .before .before in
     let l = at-along .before .before in
     let a = started l in
     let s = a .args .s in
@@ -130,9 +130,9 @@ loop-again c =
     rw e (omega (arith, (rw e at (l .loop .inv .1)))) in (
       omega arith,
       on,
-      lines-more (s .zeros) (gatesIn (a .args .template .now)) (s .slots) (s .outer) (s .inner) _ (s .base) (l .loop .at) n (s .cells) (l .loop .j) _ _ _ _
+      lanes-more (s .zeros) (gatesIn (a .args .template .now)) (s .slots) (s .outer) (s .inner) _ (s .base) (l .loop .at) n (s .cells) (l .loop .j) _ _ _ _
           (3 * (l .loop .at - a .args .inputs))
-          (l .loop .inv .2) (sym (length-map (a .args .template .now) _)) place (at-along .along .ensures) (l .loop .inv .1) (at-line .line .ensures),
+          (l .loop .inv .2) (sym (length-map (a .args .template .now) _)) place (at-along .along .ensures) (l .loop .inv .1) (at-lane .lane .ensures),
     )
 
 same-length : tie.Need-same-length Inv-loop μ-loop
@@ -141,7 +141,7 @@ same-length c = kept (c .before)
 returns : tie.Need-returns Inv-loop μ-loop
 returns c =
     let l = c .before in
-    let e : l .loop .j ≡ started l .args .s .lines = omega arith in
+    let e : l .loop .j ≡ started l .args .s .lanes = omega arith in
     rw e at (l .loop .inv .2)
 
 pub array-spec : {M : Type 1} → statement M
@@ -150,11 +150,11 @@ array-spec =
     (tie.spec
     Inv-loop
     μ-loop
-    mul-row
-    add-row
+    mul-step
+    add-step
     loop-holds
     along-requires
-    line-requires
+    lane-requires
     add-at
     add-j
     loop-less

@@ -1,4 +1,4 @@
--- `cells` meets its contract: each turn places one more cell behind those that stand.
+-- `cells` meets its contract: each turn places one more cell after those before.
 use borrow.Author.Needs.{needs}
 use mathlib.Core.Path.{_≡_, refl, ap, sym}
 use Prim.Native.Nat.{_+_, _*_, _-_, _≤_}

@@ -19,8 +19,8 @@ returns c =
 power-requires : tie.Need-power-requires
 power-requires c κs = search needs
 
-add-g : tie.Need-add-g
-add-g c = search needs
+add-sign : tie.Need-add-sign
+add-sign c = search needs
 
 add-digit : tie.Need-add-digit
 add-digit c = search needs
@@ -66,7 +66,7 @@ split-spec =
     no-section-requires
     returns
     power-requires
-    add-g
+    add-sign
     add-digit
     sub-digit
     add-digit-2

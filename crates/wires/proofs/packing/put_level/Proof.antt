@@ -1,4 +1,4 @@
--- `put_level` meets its contract: F stands behind T, and the chosen variable behind F.
+-- `put_level` meets its contract: F follows T, and the chosen variable follows F.
 use mathlib.Core.Path.{_≡_}
 use native.Mathlib.Omega.{arith}
 use lib.ListN.{length}

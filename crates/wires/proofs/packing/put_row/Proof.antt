@@ -1,4 +1,4 @@
--- `put_row` meets its contract: the negative wires stand behind the positive.
+-- `put_row` meets its contract: the negative wires follow the positive.
 use mathlib.Core.Path.{_≡_}
 use native.Mathlib.Omega.{arith}
 use lib.ListN.{length}

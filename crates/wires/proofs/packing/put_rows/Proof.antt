@@ -1,7 +1,8 @@
--- `put_rows` meets its contract. The loop's invariant: the rows below `j` are stored, and `next` is the place behind them.
+-- `put_rows` meets its contract. The loop's invariant: the rows below `j` are stored, and `next` is the place after them.
 use mathlib.Core.Path.{_≡_, ap, _∙_}
 use native.Mathlib.Omega.{arith}
 use Prim.Native.Nat.{ℕ, _≤_, _+_, _*_, _-_}
+use Rattle.words.specs.declared.Row.{Row}
 use Rattle.tables.specs.Rows.{rowAt}
 use Rattle.wires.specs.Layout.{joined, rowBits}
 use Rattle.wires.proofs.Lengths.{row-length}
@@ -20,31 +21,15 @@ abbrev μ-loop : tie.MeasureT-loop
 loop-holds : tie.Need-loop-holds Inv-loop μ-loop
 loop-holds c = (search needs, list-start _ _ _ _)
 
-mul-t10 : tie.Need-mul-t10 Inv-loop μ-loop
-mul-t10 c = search needs
-
-mul-t11 : tie.Need-mul-t11 Inv-loop μ-loop
-mul-t11 c = search needs
-
-shared-slice-read-t13 : tie.Need-shared-slice-read-t13 Inv-loop μ-loop
-shared-slice-read-t13 c = search needs
-
-mul-t14 : tie.Need-mul-t14 Inv-loop μ-loop
-mul-t14 c = search needs
-
-add-t15 : tie.Need-add-t15 Inv-loop μ-loop
-add-t15 c = search needs
-
-mul-t16 : tie.Need-mul-t16 Inv-loop μ-loop
-mul-t16 c = search needs
-
-shared-slice-read-t18 : tie.Need-shared-slice-read-t18 Inv-loop μ-loop
-shared-slice-read-t18 c = search needs
+row-at-requires : tie.Need-row-at-requires Inv-loop μ-loop
+row-at-requires c κs = search needs
 
 put-row-requires : tie.Need-put-row-requires Inv-loop μ-loop
-put-row-requires c κs = let l = c .before .before .before .before in
+put-row-requires c κs =
+    let at-test = c .before .before in
+    let l = at-test .before in
     let s = l .before .before .before in
-    (search needs, list-room _ _ _ _ _ _ _ (l .loop .inv .1) (s .args .rows) (c .before .before .before .loop-test .taken) (s .pre .1 .1))
+    (search needs, list-room _ _ _ _ _ _ _ (l .loop .inv .1) (s .args .rows) (at-test .loop-test .taken) (s .pre .1))
 
 add-j : tie.Need-add-j Inv-loop μ-loop
 add-j c = search needs
@@ -55,18 +40,22 @@ loop-less c = search needs
 loop-again : tie.Need-loop-again Inv-loop μ-loop
 loop-again c =
     let at-put-row = c .before .before in
-    let l = at-put-row .before .before .before .before .before in
+    let at-row = at-put-row .before .before in
+    let l = at-row .before .before in
     let s = l .before .before .before in (
       search needs,
       list-turn _ _ _ _ _ _ _ (l .loop .inv .1) _ _ (λ j. row-length (s .args .n) (rowAt (s .args .words .now) j))
-          (at-put-row .put-row .ensures .1) (at-put-row .put-row .ensures .0),
+          (at-put-row .put-row .ensures .1
+          ∙ ap (λ (r : Row). stored (l .loop .bytes) (l .loop .next) (rowBits (s .args .n) r)) (at-row .row-at .ensures))
+          (at-put-row .put-row .ensures .0),
     )
 
 same-length : tie.Need-same-length Inv-loop μ-loop
 same-length c = c .before .loop .inv .1 .size
 
 returns : tie.Need-returns Inv-loop μ-loop
-returns c = let l = c .before in
+returns c =
+    let l = c .before in
     let s = l .before .before .before in
     let e : l .loop .j ≡ s .args .rows = omega arith in (
       l .loop .inv .1 .place ∙ ap (λ (k : ℕ). s .args .at + (s .args .n + s .args .n) * k) e,
@@ -82,13 +71,7 @@ put-rows-spec =
     Inv-loop
     μ-loop
     loop-holds
-    mul-t10
-    mul-t11
-    shared-slice-read-t13
-    mul-t14
-    add-t15
-    mul-t16
-    shared-slice-read-t18
+    row-at-requires
     put-row-requires
     add-j
     loop-less

@@ -1,4 +1,4 @@
--- `put_state` meets its contract: its parts stand one behind the other.
+-- `put_state` meets its contract: its parts follow one another.
 use mathlib.Core.Path.{sym, ap, _∙_}
 use Prim.Native.Nat.{ℕ, _+_}
 use lib.Dec.{eqb}
