@@ -1,5 +1,5 @@
--- Nothing is lost in print: two printed texts of the same n are equal only if count, verdict and model are, or the refusals are.
--- A number ends at its LF, so the texts part into the same pieces; literals go one by one.
+-- Nothing is lost in print: two printed texts of the same n are equal only if count, verdict and model are, or the refusals are. A number ends at its LF, so
+-- the texts part into the same pieces; literals go one by one.
 use mathlib.Core.Path.{_≡_, refl, sym, ap, _∙_, subst}
 use mathlib.Core.Bool.{Bool, true, false, false≢true}
 use mathlib.Core.List.{List, [], _∷_, _++_, append-assoc, append-cancel-left}

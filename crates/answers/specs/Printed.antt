@@ -1,4 +1,5 @@
 -- The printed answer: document 01, "Programs".
+-- Ask: Are these the bytes that the pair program prints?
 use Prim.Native.Nat.{ℕ, zero, suc, _+_}
 use mathlib.Core.Bool.{Bool, true, false}
 use mathlib.Core.List.{List, [], _++_}

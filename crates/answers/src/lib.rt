@@ -9,7 +9,7 @@ ghost use Rattle.text.specs.Texts.{textOf, appended};
 ghost use Rattle.answers.specs.Printed as Printed;
 ghost use Rattle.answers.specs.Printed.{verdictText, answerText, refusalText};
 
-// The text with a variable more, negative where it is false.
+// The text with one more variable, negative where it is false.
 fn literal(text: Text, variable: u32, positive: bool) -> Text
     ensures { λ r. ⌜ r ≡ appended text (Printed.literalText variable positive) ⌝ }
 {
@@ -20,7 +20,7 @@ fn literal(text: Text, variable: u32, positive: bool) -> Text
     }
 }
 
-// The text with the literals of the first n variables more.
+// The text, then the literals of the first n variables.
 fn literals(text: Text, n: u32, model: u32) -> Text
     requires { ⌜ n ≤ 32 ⌝ }
     ensures { λ r. ⌜ r ≡ appended text (Printed.literals n 0 model) ⌝ }
@@ -34,7 +34,7 @@ fn literals(text: Text, n: u32, model: u32) -> Text
     out
 }
 
-// The text with the verdict more.
+// The text, then the verdict.
 fn verdict(text: Text, n: u32, given: Verdict) -> Text
     requires { ⌜ n ≤ 32 ⌝ }
     ensures { λ r. ⌜ r ≡ appended text (verdictText n given) ⌝ }

@@ -1,5 +1,5 @@
--- A clause's row is the set of its literals: repeated ones count once, their order does not matter, and a variable with both
--- signs makes padding. By the bits of the two words, a literal at a time.
+-- A clause's row is the set of its literals: repeated ones count once, their order does not matter, and a variable with both signs makes padding. By the bits
+-- of the two words, a literal at a time.
 use mathlib.Core.Path.{_≡_, refl, sym, ap, ap₂, _∙_}
 use mathlib.Core.Bool.{Bool, true, false, _&&_, _||_, or-false, or-assoc, or-comm}
 use mathlib.Core.List.{List, [], _∷_}

@@ -15,7 +15,7 @@ use Rattle.lexer.specs.Blanks.{tokensPast}
 use Rattle.lexer.proofs.Cuts.{FoundBy}
 use Rattle.lexer.proofs.Tokens.{found}
 use Rattle.numbers.specs.Numbers.{Number, number, malformed, numberRead}
-use Rattle.numbers.specs.Held.{numberHeld}
+use Rattle.numbers.specs.CappedNumbers.{numberHeld}
 use Rattle.numbers.specs.declared.Number.the-variants as L
 use Rattle.numbers.proofs.Decimals.{held-value, held-none}
 use Rattle.clauses.specs.Rows.{Literal, rowOf}

@@ -1,4 +1,4 @@
--- Clauses without their places: tokens of the same bytes have clauses of the same literals, wherever they stand. By induction on the tokens.
+-- Clauses without their places: tokens of the same bytes have clauses of the same literals, wherever they are. By induction on the tokens.
 use mathlib.Core.Path.{_≡_, refl, sym, ap, _∙_}
 use mathlib.Core.List.{List, [], _∷_}
 use Prim.Native.Nat.{ℕ, zero, suc}

@@ -8,8 +8,8 @@ use Rattle.lexer.specs.Pieces.{Piece, behind}
 use Rattle.numbers.specs.Numbers.{Number, number, malformed, numberRead}
 use Rattle.clauses.specs.Rows.{Literal, rowOf}
 
--- What reading clause by clause finds: clauses, each with its literals, the place of its first token and the place behind
--- its 0; then the end of the text, or a clause that cannot be read.
+-- What reading clause by clause finds: clauses, each with its literals, the place of its first token and the place after its 0; then the
+-- end of the text, or a clause that cannot be read.
 pub data Reading : Type 0 where
   clause : List Literal → ℕ → ℕ → Reading → Reading
   ended : Reading

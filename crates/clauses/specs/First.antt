@@ -1,5 +1,4 @@
--- The first clause from a place on, as code reads it: its literals from the first on, in words of 32 bits. No entry's contract rests on
--- this file.
+-- The first clause from a place on, as code reads it: its literals from the first on, in words of 32 bits.
 use Prim.Native.Nat.{ℕ}
 use mathlib.Core.Bool.{Bool, cond}
 use mathlib.Core.List.{List, [], _∷_}
@@ -42,7 +41,7 @@ clauseCode (Read row from to) = 0
 clauseCode End = 0
 clauseCode Unreadable = refusalNumber Text
 
--- "A row is two 32-bit words, positive then negative"; then the place of the clause's first token and the place behind its 0
+-- "A row is two 32-bit words, positive then negative"; then the place of the clause's first token and the place after its 0
 abbrev pub clauseNumbers : Clause → List ℕ
 clauseNumbers (Read row from to) = row .positive ∷ (row .negative ∷ (from ∷ (to ∷ [])))
 clauseNumbers End = []

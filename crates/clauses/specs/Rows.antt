@@ -1,4 +1,4 @@
--- Rows: a clause's literals as two words, bit i - 1 standing for variable i (document 01, "Tables").
+-- Rows: a clause's literals as two words, bit i - 1 for variable i (document 01, "Tables").
 use Prim.Native.Nat.{ℕ}
 use mathlib.Core.Bool.{Bool, true, false}
 use mathlib.Core.List.{List, [], _∷_}

@@ -1,4 +1,4 @@
-// Clauses of a text, one at a time. Nothing here is turned back: the reader is total, whatever place and n it is handed.
+// Clauses of a text, one at a time. Nothing here is refused: the reader is total, whatever place and n it is handed.
 use lexer::pieces::Piece;
 use numbers::Number;
 use words::Row;
@@ -6,7 +6,7 @@ ghost use mathlib.Core.Path.{_≡_};
 ghost use mathlib.Core.List.{_∷_};
 ghost use Rattle.clauses.specs.First.{clausesFrom, rowWith, first, clauseCode, clauseNumbers, firstSaid};
 
-// A clause's row, the place of its first token and the place behind its 0.
+// A clause's row, the place of its first token and the place past its 0.
 pub enum Clause {
     Read(Row, usize, usize),
     End,

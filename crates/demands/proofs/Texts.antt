@@ -1,7 +1,6 @@
 -- Demands 2 and 3 of three texts that were read: their tables are accepted, so they hold of them, and a host that repeats the circuit over them to the end sees
--- the
--- very bytes that the pair program prints for the texts and a budget. From what the reply's proofs say of texts that were read, and from what follows from the
--- demand.
+-- the very bytes that the pair program prints for the texts and a budget. From what the reply's proofs say of texts that were read, and from what follows from
+-- the demand.
 use mathlib.Core.Path.{_≡_, refl, sym, ap, _∙_}
 use mathlib.Core.List.{List}
 use Prim.Native.Nat.{ℕ, _≤_, min}

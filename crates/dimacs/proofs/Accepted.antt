@@ -1,5 +1,5 @@
--- What holds of the tables that are read: an accepted text's n and row count are within their limits and no row has a bit at or
--- above n, so refusals 1 to 4 do not apply to it. By the clauses' literals, each of which is below n.
+-- What holds of the tables that are read: an accepted text's n and row count are within their limits and no row has a bit at or above n, so refusals 1 to 4 do
+-- not apply to it. By the clauses' literals, each of which is below n.
 use mathlib.Core.Path.{_≡_, sym, _∙_, subst}
 use mathlib.Core.Bool.{Bool, true, false, not, _&&_, _||_}
 use mathlib.Core.List.{List, _++_}

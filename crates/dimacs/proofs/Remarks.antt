@@ -1,4 +1,4 @@
--- A text's table by the places in the text as it stands: the header has the same sizes and the clauses the same rows as without the remark lines.
+-- A text's table by the places in the text as it is: the header has the same sizes and the clauses the same rows as without the remark lines.
 use mathlib.Core.Path.{_≡_, refl, ap, ap₂, _∙_}
 use mathlib.Core.Bool.{Bool, _&&_, cond}
 use mathlib.Core.List.{List}
@@ -12,8 +12,8 @@ use Rattle.lexer.specs.Blanks.{tokensPast}
 use Rattle.lexer.proofs.Kept.{bytesOf, same-tokens}
 use Rattle.refusals.specs.declared.Refusal.the-variants.{Text}
 use Rattle.words.specs.declared.Row.{Row}
-use Rattle.header.specs.declared.Sizes.{Sizes}
-use Rattle.header.specs.declared.Sizes.the-variants as S
+use Rattle.header.specs.declared.HeaderNumbers.{HeaderNumbers}
+use Rattle.header.specs.declared.HeaderNumbers.the-variants as S
 use Rattle.header.specs.Header.{headerOf}
 use Rattle.header.proofs.Kept.{header-same}
 use Rattle.clauses.specs.Clauses.{clauses}
@@ -23,7 +23,7 @@ use Rattle.dimacs.specs.Text.{refused, acceptedTable, bodyOf, fromHeader
 use Rattle.dimacs.specs.declared.Table.{Table}
 
 -- what a header leads to, its clauses read in the text as it stands
-abbrev pub standing : List ℕ → ℕ → Sizes → Table
+abbrev pub standing : List ℕ → ℕ → HeaderNumbers → Table
 standing text end (S.Refused r) = refused r
 standing text end (S.Of n m) = bodyOf n m (clausesFrom n text end)
 
@@ -40,7 +40,7 @@ module _ (least : ℕ) (text : List ℕ) where
       let end = headerOf least text .end in
       ap (λ (l : List ℕ). bytesOf (notEmpty (cut isSeparator i l))) (header-same least text .rest) ∙ same-tokens end i (drop end text)
 
-  by-sizes : (x : Sizes) → fromHeader (withoutRemarks text) (headerOf least (withoutRemarks text) .end) x ≡ standing text (headerOf least text .end) x
+  by-sizes : (x : HeaderNumbers) → fromHeader (withoutRemarks text) (headerOf least (withoutRemarks text) .end) x ≡ standing text (headerOf least text .end) x
   by-sizes (S.Refused r) = refl
   by-sizes (S.Of n m) =
       same-body n m (tokensFrom (withoutRemarks text) (headerOf least (withoutRemarks text) .end)) (tokensPast text (headerOf least text .end)) tokens-same

@@ -8,8 +8,8 @@ use borrow.Author.Tests.{lt-ltb, le-ltb}
 use Rattle.refusals.specs.declared.Refusal.the-variants.{Text}
 use Rattle.dimensions.specs.Sizes.{mostVariables, mostRows}
 use Rattle.header.specs.declared.Header.{Header}
-use Rattle.header.specs.declared.Sizes.{Sizes}
-use Rattle.header.specs.declared.Sizes.the-variants as S
+use Rattle.header.specs.declared.HeaderNumbers.{HeaderNumbers}
+use Rattle.header.specs.declared.HeaderNumbers.the-variants as S
 use Rattle.header.specs.Header.{headerOf}
 use Rattle.header.proofs.Limits.{header-either}
 use Rattle.dimacs.specs.Text.{refused, tableOf}
@@ -21,7 +21,7 @@ unfolding tableOf
 overlong least text h = rw (lt-ltb 65536 (length text) h)
 
 -- any other text has its header's refusal, or the table of the clauses read behind the header in the text as it stands
-pub by-header : (least : ℕ) (text : List ℕ) → length text ≤ 65536 → (h : Header) → h ≡ headerOf least text → (x : Sizes) → h .sizes ≡ x
+pub by-header : (least : ℕ) (text : List ℕ) → length text ≤ 65536 → (h : Header) → h ≡ headerOf least text → (x : HeaderNumbers) → h .sizes ≡ x
     → tableOf least text ≡ standing text (h .end) x
 unfolding tableOf
 by-header least text short h e x q =

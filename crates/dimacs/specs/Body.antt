@@ -1,5 +1,4 @@
--- The clauses behind a header, for any n and m, so that the reader of another text can ask for them. No entry's contract rests on this
--- file.
+-- The clauses after a header, for any n and m, so that the reader of another text can ask for them.
 use Prim.Native.Nat.{ℕ}
 use mathlib.Core.Bool.{_||_, cond}
 use lib.Dec.{ltb}

@@ -1,6 +1,6 @@
 -- What three texts mean together: left's refusal, right's, that of the public rest rules, then 6 if they differ in n (document 01, "Turned
--- back";
--- document 02, "Public rest rules").
+-- back"; document 02, "Public rest rules").
+-- Ask: Which text may have no rows?
 use Prim.Native.Nat.{ℕ}
 use mathlib.Core.Bool.{not, _||_, cond}
 use mathlib.Core.List.{List}

@@ -1,7 +1,7 @@
 // Reads DIMACS texts, those of the two stations and that of the public rest rules, into tables of row words.
 use clauses::Clause;
 use dimensions::Dimensions;
-use header::Sizes;
+use header::HeaderNumbers;
 use refusals::Outcome;
 use refusals::Refusal;
 ghost use mathlib.Core.Path.{_≡_};
@@ -99,8 +99,8 @@ pub fn read(text: &[u8], least: u8) -> Table
     let end = header.end;
     let sizes = header.sizes;
     match sizes {
-        Sizes::Of(n, m) => read_rows(text, end, n, m),
-        Sizes::Refused(refusal) => refuse(refusal),
+        HeaderNumbers::Of(n, m) => read_rows(text, end, n, m),
+        HeaderNumbers::Refused(refusal) => refuse(refusal),
     }
 }
 
@@ -146,14 +146,17 @@ fn join(l: Table, r: Table, p: Table) -> TextTables
     let left = l.outcome;
     let right = r.outcome;
     let public = p.outcome;
-    if let Outcome::Refused(refusal) = left {
-        return refuse_texts(refusal);
+    match left {
+        Outcome::Taken => {}
+        Outcome::Refused(refusal) => return refuse_texts(refusal),
     }
-    if let Outcome::Refused(refusal) = right {
-        return refuse_texts(refusal);
+    match right {
+        Outcome::Taken => {}
+        Outcome::Refused(refusal) => return refuse_texts(refusal),
     }
-    if let Outcome::Refused(refusal) = public {
-        return refuse_texts(refusal);
+    match public {
+        Outcome::Taken => {}
+        Outcome::Refused(refusal) => return refuse_texts(refusal),
     }
     if (l.n != r.n) | (l.n != p.n) {
         return refuse_texts(Refusal::TextsDiffer);

@@ -1,4 +1,4 @@
--- Rows in words: one more behind the others, and one less, the rows behind it moved to the front. Each by what stands at a place.
+-- Rows in words: one more after the others, and one less, the rows after it moved to the front. Each by what is at a place.
 use mathlib.Core.Path.{_≡_, refl, sym, ap, ap₂, _∙_}
 use mathlib.Core.Bool.{true, false, _&&_, cond}
 use mathlib.Core.List.{List, [], _∷_, _++_, append-nil, append-assoc}

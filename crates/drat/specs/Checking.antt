@@ -1,4 +1,4 @@
--- A text under way: its outcome with the lines that are left. No entry's contract rests on this file.
+-- A text under way: its outcome with the lines that are left.
 use Prim.Native.Nat.{ℕ, _+_, _≤_}
 use mathlib.Core.Path.{_≡_}
 use mathlib.Core.Bool.{_||_, cond}

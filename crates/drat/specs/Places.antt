@@ -1,11 +1,11 @@
--- The place of a clause among rows, and rows without the one at a place. No entry's contract rests on this file.
+-- The place of a clause among rows, and rows without the one at a place.
 use Prim.Native.Nat.{ℕ, zero, suc}
 use mathlib.Core.Bool.{cond}
 use mathlib.Core.List.{List, [], _∷_}
 use Rattle.words.specs.declared.Row.{Row}
 use Rattle.drat.specs.Proofs.{sameRow}
 
--- how many rows stand before the first of the clause's literals; their number if there is none
+-- how many rows come before the first of the clause's literals; their number if there is none
 unfoldable pub place : Row → List Row → ℕ
 place c [] = 0
 place c (r ∷ rs) = cond (sameRow c r) 0 (suc (place c rs))

@@ -1,4 +1,4 @@
--- A proof under way: its outcome with the lines that are left. No entry's contract rests on this file.
+-- A proof under way: its outcome with the lines that are left.
 use Prim.Native.Nat.{ℕ}
 use mathlib.Core.Path.{_≡_}
 use mathlib.Core.List.{List, _∷_}

@@ -1,4 +1,5 @@
 -- A proof: clauses added and deleted, one after the other, against rows (document 02, "Proofs from other solvers").
+-- Ask: Does a deletion take one row?
 use Prim.Native.Nat.{ℕ, suc}
 use mathlib.Core.Bool.{Bool, true, false, not, _&&_, _||_, cond}
 use mathlib.Core.List.{List, [], _∷_, _++_}
@@ -38,7 +39,7 @@ addsEmpty [] = false
 addsEmpty (added c ∷ ls) = isEmpty c || addsEmpty ls
 addsEmpty (deleted c ∷ ls) = addsEmpty ls
 
--- how many clauses are added, the empty one and those behind it too
+-- how many clauses are added, the empty one and those after it too
 unfoldable pub additions : List ProofLine → ℕ
 additions [] = 0
 additions (added c ∷ ls) = suc (additions ls)

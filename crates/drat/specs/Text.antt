@@ -1,4 +1,5 @@
--- What a DRAT text means, and when it is accepted: 18, 19 and 20 behind the tables' own checks (document 02, "Proofs from other solvers").
+-- What a DRAT text means, and when it is accepted: 18, 19 and 20 after the tables' own checks (document 02, "Proofs from other solvers").
+-- Ask: Is 18 judged over the whole text, then 19, then 20?
 use Prim.Native.Nat.{ℕ}
 use mathlib.Core.Bool.{true, cond}
 use mathlib.Core.List.{List, [], _∷_, _++_}
@@ -27,7 +28,7 @@ lineBefore (Deleted r) none = none
 lineBefore (Deleted r) (some ls) = some (deleted r ∷ ls)
 lineBefore Malformed ls = none
 
--- all lines, those behind the empty clause too
+-- all lines, those after the empty clause too
 unfoldable pub proofLines : ℕ → List Piece → Option (List ProofLine)
 unfolding lineSaid
 proofLines n [] = some []

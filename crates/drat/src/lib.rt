@@ -152,13 +152,20 @@ fn fill(words: &mut [u32], d: Dimensions, left: &[u32], right: &[u32], public: &
 
 // Whether the text proves that no assignment makes all rows of the tables true: if not, the tables' 1, 2, 4 or 3, then 18, 19 or 20. The
 // tables have 384 rows at most, and 256 are added.
-pub fn check(d: Dimensions, left: &[u32], right: &[u32], public: &[u32], text: &[u8]) -> Outcome
+pub fn check_proof(
+    d: Dimensions,
+    left: &[u32],
+    right: &[u32],
+    public: &[u32],
+    text: &[u8],
+) -> Outcome
     ensures { λ r. ⌜ r ≡ outcome (proofChecks d (lentTables left right public) (now (text .entry))) ⌝ }
     ensures { λ r. ⌜ codeOf r ∷ [] ≡ said (outcome (proofChecks d (lentTables left right public) (now (text .entry)))) [] ⌝ }
 {
     let accepted = tables::accept(d, left, right, public);
-    if let Outcome::Refused(refusal) = accepted {
-        return Outcome::Refused(refusal);
+    match accepted {
+        Outcome::Taken => {}
+        Outcome::Refused(refusal) => return Outcome::Refused(refusal),
     }
     if 65536 < text.len() {
         return Outcome::Refused(Refusal::ProofText);

@@ -5,7 +5,7 @@ ghost use mathlib.Core.Path.{_≡_};
 ghost use mathlib.Core.List.{List, [], _∷_, _++_};
 ghost use Prim.Native.Nat.{_+_, _-_, _*_, _≤_, _<_};
 ghost use lib.ListN.{length};
-ghost use Rattle.tables.specs.Rows.{rowAt, rowsFrom};
+ghost use Rattle.tables.specs.Rows.{rowsFrom};
 ghost use Rattle.drat.specs.Proofs.{without, added};
 ghost use Rattle.drat.specs.Places.{place, withoutAt};
 ghost use Rattle.drat.specs.Progress.{Takes};
@@ -26,18 +26,7 @@ pub struct Progress {
 
 // ---- rows
 
-// The row of number i from 0.
-fn row_at(words: &[u32], i: usize) -> Row
-    requires { ⌜ 2 * i + 1 < length (now words) ⌝ }
-    ensures { λ r. ⌜ r ≡ rowAt (now (words .entry)) i ⌝ }
-{
-    Row {
-        positive: words[2 * i],
-        negative: words[2 * i + 1],
-    }
-}
-
-// One row more, behind the others.
+// One row more, after the others.
 fn add(words: &mut [u32], count: usize, row: Row)
     requires { ⌜ 2 * count + 2 ≤ length (now words) ⌝ }
     ensures { λ _. ⌜ rowsFrom (now (words .exit)) 0 (count + 1) ≡ rowsFrom (now (words .entry)) 0 count ++ (row ∷ []) ⌝ }
@@ -46,7 +35,7 @@ fn add(words: &mut [u32], count: usize, row: Row)
     words[2 * count + 1] = row.negative;
 }
 
-// The rows of a table behind the others: how many there are then.
+// The rows of a table after the others: how many there are then.
 pub(crate) fn append(words: &mut [u32], count: usize, table: &[u32], rows: usize) -> usize
     requires { ⌜ 2 * (count + rows) ≤ length (now words) ⌝ }
     requires { ⌜ 2 * rows ≤ length (now table) ⌝ }
@@ -55,21 +44,21 @@ pub(crate) fn append(words: &mut [u32], count: usize, table: &[u32], rows: usize
 {
     let mut i = 0;
     while i < rows {
-        let row = row_at(table, i);
+        let row = tables::row_at(table, i);
         add(words, count + i, row);
         i += 1;
     }
     count + rows
 }
 
-// How many rows stand before the first of the clause's literals; all of them if there is none.
+// How many rows come before the first of the clause's literals; all of them if there is none.
 fn find_row(words: &[u32], count: usize, clause: Row) -> usize
     requires { ⌜ 2 * count ≤ length (now words) ⌝ }
     ensures { λ r. ⌜ r ≡ place clause (rowsFrom (now (words .entry)) 0 count) ⌝ }
 {
     let mut i = 0;
     while i < count {
-        let row = row_at(words, i);
+        let row = tables::row_at(words, i);
         if (clause.positive == row.positive) & (clause.negative == row.negative) {
             return i;
         }
@@ -78,7 +67,7 @@ fn find_row(words: &[u32], count: usize, clause: Row) -> usize
     count
 }
 
-// The rows behind a place move to the front by one.
+// The rows past a place move to the front by one.
 fn close_gap(words: &mut [u32], count: usize, at: usize)
     requires { ⌜ 2 * count ≤ length (now words) ⌝ }
     requires { ⌜ at < count ⌝ }

@@ -27,7 +27,7 @@ use Rattle.drat_line.specs.declared.One.the-variants as one
 use Rattle.drat_line.specs.declared.Said.{Said}
 use Rattle.drat_line.specs.declared.Said.the-variants.{Nothing, Malformed}
 use Rattle.drat_line.specs.Lines.{isBreak, hasBreak, oneClause, clauseIn, addedBy, deletedBy, isDeletion, saidOf, closedAt, withoutBlanks, lineSaid}
-use Rattle.drat_line.specs.Held.{isEnded, lineHeld}
+use Rattle.drat_line.specs.TotalLines.{isEnded, lineHeld}
 
 -- ---- a CR or an LF
 

@@ -1,4 +1,5 @@
 -- What a line of a DRAT text says: a clause added or, with `d` and a space in front, deleted (document 02, "Proofs from other solvers").
+-- Ask: What may a line hold, and where?
 use Prim.Native.Nat.{ℕ, _-_}
 use mathlib.Core.Bool.{Bool, true, false, _&&_, _||_, cond}
 use mathlib.Core.List.{List, [], _∷_}

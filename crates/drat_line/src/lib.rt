@@ -1,5 +1,5 @@
 // One line of a proof's text, DRAT: literals closed by 0, with `d` and a space in front for a deletion (document 02, "Proofs from other
-// solvers"). Nothing here is turned back: the reader is total, whatever n it is handed.
+// solvers"). Nothing here is refused: the reader is total, whatever n it is handed.
 use clauses::Clause;
 use lexer::kinds::Kind;
 use words::Row;
@@ -7,7 +7,7 @@ ghost use mathlib.Core.Path.{_≡_};
 ghost use Prim.Native.Nat.{_≤_};
 ghost use Rattle.clauses.specs.First.{clausesFrom};
 ghost use Rattle.drat_line.specs.Lines.{closedAt, isDeletion, hasBreak, clauseIn, addedBy, deletedBy, saidOf};
-ghost use Rattle.drat_line.specs.Held.{isEnded, lineHeld};
+ghost use Rattle.drat_line.specs.TotalLines.{isEnded, lineHeld};
 
 // What a line says: nothing, a clause added or deleted; or it is malformed.
 pub enum Said {
@@ -70,7 +70,7 @@ fn read_one(part: &[u8], n: u8) -> One
     }
 }
 
-// Whether `d` and a space stand in front.
+// Whether `d` and a space come first.
 fn is_deletion(part: &[u8]) -> bool
     ensures { λ r. ⌜ r ≡ isDeletion (now (part .entry)) ⌝ }
 {

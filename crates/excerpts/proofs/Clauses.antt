@@ -18,8 +18,8 @@ use Rattle.lexer.specs.Places.{part, firstOf}
 use Rattle.lexer.specs.Blanks.{tokensPast}
 use Rattle.lexer.proofs.Tokens.{found}
 use Rattle.numbers.specs.Numbers.{Number, number, malformed, numberRead}
-use Rattle.header.specs.declared.Sizes.{Sizes}
-use Rattle.header.specs.declared.Sizes.the-variants as sizes
+use Rattle.header.specs.declared.HeaderNumbers.{HeaderNumbers}
+use Rattle.header.specs.declared.HeaderNumbers.the-variants as sizes
 use Rattle.header.specs.declared.Header.{Header}
 use Rattle.header.specs.Header.{headerOf}
 use Rattle.clauses.specs.Rows.{Literal, rowOf}
@@ -96,7 +96,7 @@ pub clause-lies : (text : List ℕ) (k : ℕ) → Lies text (clauseOf text k)
 unfolding clauseOf
 clause-lies text k = go (headerOf 1 text .sizes) refl
   where
-    go : (s : Sizes) → headerOf 1 text .sizes ≡ s → Lies text (skip k (behindHeader text (headerOf 1 text .end) s))
+    go : (s : HeaderNumbers) → headerOf 1 text .sizes ≡ s → Lies text (skip k (behindHeader text (headerOf 1 text .end) s))
     go (sizes.Refused r) q = rw (skip-none k) tt
     go (sizes.Of n m) q =
         let end = headerOf 1 text .end in
@@ -149,10 +149,10 @@ module _ (n : ℕ) (text : List ℕ) (start k : ℕ) where
 -- ---- behind the header
 
 module _ (text : List ℕ) (k : ℕ) (h : Header) (e : h ≡ headerOf 1 text) where
-  by-sizes : (s : Sizes) → h .sizes ≡ s → skip k (behindHeader text (h .end) s) ≡ clauseOf text k
+  by-sizes : (s : HeaderNumbers) → h .sizes ≡ s → skip k (behindHeader text (h .end) s) ≡ clauseOf text k
   unfolding clauseOf
   by-sizes s q =
-      ap (λ (x : Sizes). skip k (behindHeader text (h .end) x)) (sym q) ∙ ap (λ (x : Header). skip k (behindHeader text (x .end) (x .sizes))) e
+      ap (λ (x : HeaderNumbers). skip k (behindHeader text (h .end) x)) (sym q) ∙ ap (λ (x : Header). skip k (behindHeader text (x .end) (x .sizes))) e
 
   pub no-header : (r : Refusal) → h .sizes ≡ sizes.Refused r → Unreadable ≡ first (clauseOf text k)
   no-header r q = ap first (sym (skip-none k) ∙ by-sizes (sizes.Refused r) q)

@@ -30,7 +30,7 @@ use Rattle.excerpts.specs.declared.Placed.{Placed}
 use Rattle.excerpts.specs.declared.Placed.the-variants as placed′
 use Rattle.excerpts.specs.Excerpts.{excerptChecks, clauseOf, sameWords, between, placeIn, placeOf, clausePlace, placed, placedCode, placeNumbers}
 use Rattle.excerpts.specs.Excerpts.{placedNumbers, bytesAt, clauseBytes}
-use Rattle.excerpts.specs.Held.{placeHeld, Ordered}
+use Rattle.excerpts.specs.PlaceByWords.{placeHeld, Ordered}
 use Rattle.excerpts.proofs.Clauses.{Lies, clause-lies, NoneRead}
 use Rattle.excerpts.proofs.Checks.{asked}
 
@@ -173,17 +173,6 @@ module _ (d : Dimensions) (tables : Tables) (leftText rightText : List ℕ) (num
 
     pub some-row : 1 ≤ number
     some-row = asked d tables leftText rightText number (sym e) .least
-
-    -- its station's words have the row
-    pub left-room : number ≤ d .left → 2 * (number - 1) + 1 < length (tables .left)
-    left-room h =
-        let a = asked d tables leftText rightText number (sym e) in
-        omega (arith, a .least, a .tables-accepted .left-length)
-
-    pub right-room : d .left < number → 2 * (number - d .left - 1) + 1 < length (tables .right)
-    right-room h =
-        let a = asked d tables leftText rightText number (sym e) in
-        omega (arith, a .most, a .tables-accepted .right-length)
 
   -- ---- the bytes
 

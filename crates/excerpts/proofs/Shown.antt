@@ -12,8 +12,8 @@ use Rattle.refusals.proofs.Outcomes.{refused-taken}
 use Rattle.words.specs.declared.Row.{Row}
 use Rattle.words.proofs.Truth.{on}
 use Rattle.lexer.specs.Blanks.{tokensPast}
-use Rattle.header.specs.declared.Sizes.{Sizes}
-use Rattle.header.specs.declared.Sizes.the-variants as sizes
+use Rattle.header.specs.declared.HeaderNumbers.{HeaderNumbers}
+use Rattle.header.specs.declared.HeaderNumbers.the-variants as sizes
 use Rattle.header.specs.Header.{headerOf}
 use Rattle.clauses.specs.Rows.{rowOf, rowWords}
 use Rattle.clauses.specs.Clauses.{Reading, clause, ended, unreadable, clauseRows, complete}
@@ -54,10 +54,10 @@ clause-shown station text zeros k i unreadable l h = absurd (omega arith)
 -- of an accepted text
 module _ (station : ℕ) (text : List ℕ) (k : ℕ) where
   -- in the table that is read
-  abbrev InTable : Sizes → Table → Type 0
+  abbrev InTable : HeaderNumbers → Table → Type 0
   InTable s t = t .outcome ≡ Taken → k < t .rows → Shown station (skip k (behindHeader text (headerOf 1 text .end) s)) (rowAt (t .words) k)
 
-  by-sizes : (s : Sizes) → InTable s (standing text (headerOf 1 text .end) s)
+  by-sizes : (s : HeaderNumbers) → InTable s (standing text (headerOf 1 text .end) s)
   by-sizes (sizes.Refused r) = λ taken h. absurd (refused-taken taken)
   by-sizes (sizes.Of n m) =
       let end = headerOf 1 text .end in

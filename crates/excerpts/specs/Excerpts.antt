@@ -1,5 +1,7 @@
 -- A clause's own bytes, by the number of its row: document 02, "The rule behind each step". Rows are numbered from 1, the left station's
 -- first.
+-- Ask: Is a clause from its first literal through its 0, in the text as it is? What is given where the row has other words now? Is an
+-- overlong text first, and 17 last?
 use Prim.Native.Nat.{ℕ, zero, suc, _+_, _-_}
 use mathlib.Core.Bool.{Bool, true, not, _&&_, _||_, cond}
 use mathlib.Core.List.{List, [], _∷_, _++_}
@@ -10,8 +12,8 @@ use Rattle.refusals.specs.Checks.{Check, check, outcome, given}
 use Rattle.refusals.specs.declared.Refusal.the-variants.{Text, TextsDiffer, NoClause}
 use Rattle.words.specs.declared.Row.{Row}
 use Rattle.lexer.specs.Blanks.{tokensPast}
-use Rattle.header.specs.declared.Sizes.{Sizes}
-use Rattle.header.specs.declared.Sizes.the-variants as sizes
+use Rattle.header.specs.declared.HeaderNumbers.{HeaderNumbers}
+use Rattle.header.specs.declared.HeaderNumbers.the-variants as sizes
 use Rattle.header.specs.Header.{headerOf}
 use Rattle.clauses.specs.Rows.{Literal}
 use Rattle.clauses.specs.Rows as rows
@@ -57,17 +59,17 @@ excerptChecks d tables leftText rightText number =
     check (overlong leftText || overlong rightText) Text
     ∷ (tableChecks d tables ++ textChecks d (tableOf 1 leftText) (tableOf 1 rightText) number)
 
--- ---- where it stands
+-- ---- where it is
 
--- a reading behind its first k clauses
+-- a reading after its first k clauses
 unfoldable pub skip : ℕ → Reading → Reading
 skip zero x = x
 skip (suc k) (clause ls from to rest) = skip k rest
 skip (suc k) ended = unreadable
 skip (suc k) unreadable = unreadable
 
--- the clauses behind a header, in the text as it stands: remarks are passed by and places are the text's
-abbrev pub behindHeader : List ℕ → ℕ → Sizes → Reading
+-- the clauses after a header, in the text as it is: remarks are passed by and places are the text's
+abbrev pub behindHeader : List ℕ → ℕ → HeaderNumbers → Reading
 behindHeader text end (sizes.Of n m) = clauses n (tokensPast text end)
 behindHeader text end (sizes.Refused r) = unreadable
 

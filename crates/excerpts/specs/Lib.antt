@@ -1,2 +1,2 @@
 pub mod Excerpts
-pub mod Held
+pub mod PlaceByWords

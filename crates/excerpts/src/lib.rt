@@ -2,9 +2,10 @@
 use clauses::Clause;
 use dimacs::Table;
 use dimensions::Dimensions;
-use header::Sizes;
+use header::HeaderNumbers;
 use refusals::Outcome;
 use refusals::Refusal;
+use words::Row;
 ghost use mathlib.Core.Path.{_≡_};
 ghost use mathlib.Core.List.{_∷_, []};
 ghost use Prim.Native.Nat.{_+_, _*_, _≤_, _<_};
@@ -15,9 +16,9 @@ ghost use Rattle.clauses.specs.First.{clausesFrom, first};
 ghost use Rattle.tables.specs.Tables.{lentTables};
 ghost use Rattle.excerpts.specs.Excerpts.{hasClause, textChecks, excerptChecks, skip, clauseOf, between, placeOf, clausePlace};
 ghost use Rattle.excerpts.specs.Excerpts.{placed, placedCode, placeNumbers, placedNumbers, clauseBytes};
-ghost use Rattle.excerpts.specs.Held.{placeHeld, Ordered};
+ghost use Rattle.excerpts.specs.PlaceByWords.{placeHeld, Ordered};
 
-// Where a clause stands: the text of station 0, the left one, or 1, the right one, its first byte and how many they are.
+// Where a clause is: the text of station 0, the left one, or 1, the right one, its first byte and how many they are.
 pub struct Place {
     pub station: u8,
     pub start: usize,
@@ -44,16 +45,18 @@ fn has_clause(d: Dimensions, left: Table, right: Table, number: u64) -> bool
 }
 
 // What two texts are refused with, left before right; then 6, then 17.
-fn judge(d: Dimensions, left: Table, right: Table, number: u64) -> Outcome
+fn check_texts(d: Dimensions, left: Table, right: Table, number: u64) -> Outcome
     ensures { λ r. ⌜ r ≡ outcome (textChecks d left right number) ⌝ }
 {
     let left_outcome = left.outcome;
-    if let Outcome::Refused(refusal) = left_outcome {
-        return Outcome::Refused(refusal);
+    match left_outcome {
+        Outcome::Taken => {}
+        Outcome::Refused(refusal) => return Outcome::Refused(refusal),
     }
     let right_outcome = right.outcome;
-    if let Outcome::Refused(refusal) = right_outcome {
-        return Outcome::Refused(refusal);
+    match right_outcome {
+        Outcome::Taken => {}
+        Outcome::Refused(refusal) => return Outcome::Refused(refusal),
     }
     if left.n != right.n {
         return Outcome::Refused(Refusal::TextsDiffer);
@@ -66,7 +69,7 @@ fn judge(d: Dimensions, left: Table, right: Table, number: u64) -> Outcome
 
 // Whether the clause of a row may be asked for: 5 for an overlong text, the tables' 1, 2, 4, 3, the left text's 1, 2, 5, the right text's,
 // 6, then 17.
-pub fn check(
+pub fn check_excerpt(
     d: Dimensions,
     left: &[u32],
     right: &[u32],
@@ -86,13 +89,12 @@ pub fn check(
     }
     let checked = tables::accept(d, left, right, public);
     match checked {
-        Outcome::Refused(refusal) => Outcome::Refused(refusal),
-        Outcome::Taken => {
-            let left_table = dimacs::read(left_text, 1);
-            let right_table = dimacs::read(right_text, 1);
-            judge(d, left_table, right_table, number)
-        }
+        Outcome::Taken => {}
+        Outcome::Refused(refusal) => return Outcome::Refused(refusal),
     }
+    let left_table = dimacs::read(left_text, 1);
+    let right_table = dimacs::read(right_text, 1);
+    check_texts(d, left_table, right_table, number)
 }
 
 // ---- places
@@ -122,8 +124,8 @@ fn find_clause(text: &[u8], k: usize) -> Clause
     let end = header.end;
     let sizes = header.sizes;
     match sizes {
-        Sizes::Of(n, _) => nth_clause(text, end, n, k),
-        Sizes::Refused(_) => Clause::Unreadable,
+        HeaderNumbers::Of(n, _) => nth_clause(text, end, n, k),
+        HeaderNumbers::Refused(_) => Clause::Unreadable,
     }
 }
 
@@ -139,18 +141,18 @@ fn place_between(station: u8, from: usize, to: usize) -> Place
     }
 }
 
-// The place of a clause that has these two words; start 0 and length 0 where it has others.
-fn place_held(station: u8, clause: Clause, positive: u32, negative: u32) -> Place
+// The place of a clause that has a row's two words; start 0 and length 0 where it has others.
+fn place_held(station: u8, clause: Clause, row: Row) -> Place
     requires { ⌜ Ordered clause ⌝ }
-    ensures { λ r. ⌜ r ≡ placeHeld station clause positive negative ⌝ }
+    ensures { λ r. ⌜ r ≡ placeHeld station clause (row .positive) (row .negative) ⌝ }
 {
-    let Clause::Read(row, from, to) = clause else {
+    let Clause::Read(own, from, to) = clause else {
         return place_between(station, 0, 0);
     };
-    if row.positive != positive {
+    if own.positive != row.positive {
         return place_between(station, 0, 0);
     }
-    if row.negative != negative {
+    if own.negative != row.negative {
         return place_between(station, 0, 0);
     }
     place_between(station, from, to)
@@ -158,11 +160,11 @@ fn place_held(station: u8, clause: Clause, positive: u32, negative: u32) -> Plac
 
 // The place of the clause of a station's row i, from 0, in its text.
 fn find_place(station: u8, words: &[u32], text: &[u8], i: usize) -> Place
-    requires { ⌜ 2 * i + 1 < length (now words) ⌝ }
     ensures { λ r. ⌜ r ≡ placeOf station (now (words .entry)) (now (text .entry)) i ⌝ }
 {
     let clause = find_clause(text, i);
-    place_held(station, clause, words[2 * i], words[2 * i + 1])
+    let row = tables::row_at(words, i);
+    place_held(station, clause, row)
 }
 
 // The place of the clause that row `number`, from 1, was read from; length 0 where the table's row no longer has the clause's two words.
@@ -181,9 +183,10 @@ pub fn clause_place(
         (now («right_text» .entry)) number)) (placeNumbers (clausePlace d (lentTables left right public) (now («left_text» .entry))
         (now («right_text» .entry)) number)) ⌝ }
 {
-    let checked = check(d, left, right, public, left_text, right_text, number);
-    if let Outcome::Refused(refusal) = checked {
-        return Placed::Refused(refusal);
+    let checked = check_excerpt(d, left, right, public, left_text, right_text, number);
+    match checked {
+        Outcome::Taken => {}
+        Outcome::Refused(refusal) => return Placed::Refused(refusal),
     }
     let left_rows = d.left as u64;
     if number <= left_rows {
@@ -195,8 +198,7 @@ pub fn clause_place(
 }
 
 // The own bytes of the clause that row `number`, from 1, was read from, a part of the left or the right text: from its first literal
-// through its 0.
-// The part is empty where the table's row no longer has the clause's two words, and where `check` refuses.
+// through its 0. The part is empty where the table's row no longer has the clause's two words, and where `check_excerpt` refuses.
 pub fn clause_bytes<'a>(
     d: Dimensions,
     left: &[u32],

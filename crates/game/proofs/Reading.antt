@@ -19,7 +19,7 @@ use Rattle.scan.proofs.Fronts.{rows-in-front}
 use Rattle.clauses.specs.Rows.{rowWords}
 use Rattle.dimacs.proofs.Fill.{words-length}
 use Rattle.qdimacs.specs.Text.{GameTurn, GameText, game, noGame}
-use Rattle.qdimacs.specs.Held.{turnsIn, quantified}
+use Rattle.qdimacs.specs.TurnsInWords.{turnsIn, quantified}
 use Rattle.qdimacs.specs.declared.Quantified.{Quantified}
 use Rattle.qdimacs.proofs.Turns.{hasTurn, distinct}
 use Rattle.qdimacs.proofs.Fine.{Played, Fine, fine-turns}

@@ -14,7 +14,7 @@ use Rattle.words.proofs.Bits.{bit-put, bit-zero}
 use Rattle.words.specs.declared.Row.{Row}
 use Rattle.truth.specs.Truth.{allTrue}
 use Rattle.truth.proofs.Agreement.{agreed, Agrees}
-use Rattle.qdimacs.specs.Held.{turnIn, turnsIn}
+use Rattle.qdimacs.specs.TurnsInWords.{turnIn, turnsIn}
 use Rattle.game.specs.Game.{fixed, decided, forced, winner, winnerOf}
 use Rattle.game.specs.Cuts.{isSet, allNew, Apart}
 

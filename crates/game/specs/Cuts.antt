@@ -1,4 +1,4 @@
--- What the two functions take for granted of turns, T and F, and when the rows decide a game early. No entry's contract rests on this file.
+-- What the two functions take for granted of turns, T and F, and when the rows decide a game early.
 use Prim.Native.Nat.{ℕ}
 use mathlib.Core.Path.{_≡_}
 use mathlib.Core.Bool.{Bool, true, false, not, _&&_, _||_}

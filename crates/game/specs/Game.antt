@@ -1,5 +1,6 @@
 -- Two sides fix variables in turn, the existential side for all rows true, the universal side against it (document 02, "Who can force the
 -- roster").
+-- Ask: Whose turn is it, and which variables come first? Which value is given where both serve?
 use Prim.Native.Nat.{ℕ, suc}
 use mathlib.Core.Bool.{Bool, true, false, not, _&&_, _||_, cond}
 use mathlib.Core.List.{List, [], _∷_}
@@ -34,7 +35,7 @@ unfoldable pub forced : List Row → List GameTurn → (ℕ → Bool) → Bool
 forced rows [] a = allTrue a rows
 forced rows (k ∷ ks) a = decided (k .universal) (forced rows ks (fixed a (k .variable) true)) (forced rows ks (fixed a (k .variable) false))
 
--- before any turn; what stands in it is without effect, since each variable of the rows has a turn (`text-unfixed`, proofs/Satisfiability)
+-- before any turn; what is in it has no effect, since each variable of the rows has a turn (`text-unfixed`, proofs/Satisfiability)
 abbrev pub unfixed : ℕ → Bool
 unfixed i = false
 

@@ -1,5 +1,6 @@
 -- What it means to force an aim: a plan that reaches it whatever the other side does. And the same as a formula with quantifiers along the
 -- turns.
+-- Ask: Is "can force" a plan against every plan?
 use Prim.Native.Nat.{ℕ}
 use mathlib.Core.Path.{_≡_}
 use mathlib.Core.Bool.{Bool, true, false}
@@ -67,7 +68,7 @@ abbrev pub quantifiedBy : Bool → (Bool → Type 0) → Type 0
 quantifiedBy true p = (b : Bool) → p b
 quantifiedBy false p = (b : Bool) × p b
 
--- the formula: its prefix along the turns, all rows true behind it
+-- the formula: its prefix along the turns, all rows true after it
 abbrev pub Formula : List Row → List GameTurn → (ℕ → Bool) → Type 0
 Formula rows [] a = allTrue a rows ≡ true
 Formula rows (k ∷ ks) a = quantifiedBy (k .universal) (λ b. Formula rows ks (fixed a (k .variable) b))

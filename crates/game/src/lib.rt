@@ -10,7 +10,7 @@ ghost use Rattle.words.specs.Sets.{bit};
 ghost use Rattle.scan.specs.Rules.{rowsIn, rule};
 ghost use Rattle.truth.specs.Truth.{allTrue};
 ghost use Rattle.qdimacs.specs.Text.{gameText};
-ghost use Rattle.qdimacs.specs.Held.{turnsIn};
+ghost use Rattle.qdimacs.specs.TurnsInWords.{turnsIn};
 ghost use Rattle.game.specs.Game.{forced, winner, winnerOf, gameAnswer, gameCode, gameNumbers, gameSaid};
 ghost use Rattle.game.specs.Cuts.{isSet, allNew, Apart, cutOf};
 
@@ -145,8 +145,9 @@ pub fn answer(text: &[u8]) -> GameAnswer
 {
     let game = qdimacs::read(text);
     let outcome = game.outcome;
-    if let Outcome::Refused(refusal) = outcome {
-        return GameAnswer::Refused(refusal);
+    match outcome {
+        Outcome::Taken => {}
+        Outcome::Refused(refusal) => return GameAnswer::Refused(refusal),
     }
     let words = game.words;
     let length = 2 * (game.rows as usize);

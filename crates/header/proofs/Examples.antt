@@ -1,4 +1,4 @@
--- Headers of small texts, each with the place behind its line, computed.
+-- Headers of small texts, each with the place after its line, computed.
 use mathlib.Core.Path.{_≡_, refl}
 use mathlib.Core.List.{[], _∷_}
 use Prim.Native.Nat.{ℕ}
@@ -12,7 +12,7 @@ use Rattle.refusals.specs.declared.Refusal.{Refusal}
 use Rattle.refusals.specs.declared.Refusal.the-variants.{Variables, RowCount, Text}
 use Rattle.header.specs.Header.{pastRemarks, headerOf, sizesSaid}
 use Rattle.header.specs.declared.Header.{Header}
-use Rattle.header.specs.declared.Sizes.the-variants.{Of, Refused}
+use Rattle.header.specs.declared.HeaderNumbers.the-variants.{Of, Refused}
 
 -- in a station's text
 header : String → Header

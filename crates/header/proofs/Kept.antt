@@ -1,5 +1,5 @@
--- The header is the same without the remarks: what stands before it is left out, its line is kept, and what is kept of the text goes on behind it.
--- By the lines before the header, one at a time.
+-- The header is the same without the remarks: what comes before it is left out, its line is kept, and what is kept of the text goes on after it. By the lines
+-- before the header, one at a time.
 use mathlib.Core.Path.{_≡_, refl, sym, ap, ap₂, _∙_}
 use mathlib.Core.Bool.{Bool, not}
 use mathlib.Core.List.{List, []}
@@ -22,7 +22,7 @@ use Rattle.lexer.proofs.Kept.{keptFrom, kept-is, first-kept, line-run, line-tak
 use Rattle.refusals.specs.declared.Refusal.the-variants.{Text}
 use Rattle.header.specs.Header.{pastRemarks, sizesOf, headed, headerOf}
 use Rattle.header.specs.declared.Header.{Header}
-use Rattle.header.specs.declared.Sizes.the-variants.{Refused}
+use Rattle.header.specs.declared.HeaderNumbers.the-variants.{Refused}
 use Rattle.header.proofs.Lines.{other-line, last-line, remark-line, no-line, header-at}
 
 abbrev inLine : ℕ → Bool

@@ -12,13 +12,13 @@ use Rattle.words.specs.Sameness.{same}
 use Rattle.lexer.specs.Bytes.{isBlank, isTail, trimmed}
 use Rattle.lexer.specs.Pieces.{Piece, linesFrom, partsFrom}
 use Rattle.numbers.specs.Numbers.{Number, number, malformed, numberRead}
-use Rattle.numbers.specs.Held.{held, numberHeld}
+use Rattle.numbers.specs.CappedNumbers.{held, numberHeld}
 use Rattle.numbers.specs.declared.Number.the-variants as L
 use Rattle.numbers.proofs.Decimals.{held-value, held-none}
 use Rattle.dimensions.specs.Sizes.{mostVariables, mostRows}
 use Rattle.refusals.specs.declared.Refusal.the-variants.{Variables, RowCount, Text}
-use Rattle.header.specs.declared.Sizes.{Sizes}
-use Rattle.header.specs.declared.Sizes.the-variants.{Of, Refused}
+use Rattle.header.specs.declared.HeaderNumbers.{HeaderNumbers}
+use Rattle.header.specs.declared.HeaderNumbers.the-variants.{Of, Refused}
 use Rattle.header.specs.Header.{pastRemarks, beyond, judgedSizes, twoNumbers, headerParts, headed, headerOf}
 
 -- what is not beyond its limits is within them
@@ -83,7 +83,7 @@ module _ (least : ℕ) (n m : List ℕ) where
 
 -- ---- whatever holds of refusals 1, 2 and 5 and of n and m within their limits holds of a header
 
-module _ (least : ℕ) (P : Sizes → Type 0) (text-refused : P (Refused Text)) (n-refused : P (Refused Variables)) (m-refused : P (Refused RowCount))
+module _ (least : ℕ) (P : HeaderNumbers → Type 0) (text-refused : P (Refused Text)) (n-refused : P (Refused Variables)) (m-refused : P (Refused RowCount))
     (taken : (n m : ℕ) → (1 ≤ n) × (n ≤ mostVariables) → (least ≤ m) × (m ≤ mostRows) → P (Of n m)) where
   judged-either : (x y : Number) → P (judgedSizes least x y)
   judged-either malformed y = text-refused

@@ -1,4 +1,4 @@
--- The lines before the header, one at a time: past a remark stand the lines of the text that follows it.
+-- The lines before the header, one at a time: past a remark come the lines of the text that follows it.
 use mathlib.Core.Path.{_≡_, sym, ap, ap₂, _∙_}
 use mathlib.Core.Bool.{Bool, not}
 use mathlib.Core.List.{List, [], _∷_}
@@ -19,7 +19,7 @@ use Rattle.lexer.proofs.Runs.{end-le}
 use Rattle.lexer.proofs.Cuts.{later, cut-first}
 use Rattle.header.specs.Header.{pastRemarks, sizesOf, headed, headerOf, sizesSaid, headerSaid}
 use Rattle.header.specs.declared.Header.{Header}
-use Rattle.header.specs.declared.Sizes.the-variants.{Refused}
+use Rattle.header.specs.declared.HeaderNumbers.the-variants.{Refused}
 
 abbrev inLine : ℕ → Bool
 inLine b = not (isLineFeed b)

@@ -14,7 +14,7 @@ use Rattle.lexer.proofs.Cuts.{Found}
 use Rattle.numbers.specs.Numbers.{numberRead}
 use Rattle.refusals.specs.declared.Refusal.the-variants.{Text}
 use Rattle.header.specs.Header.{judgedSizes, twoNumbers, headerParts}
-use Rattle.header.specs.declared.Sizes.the-variants.{Refused}
+use Rattle.header.specs.declared.HeaderNumbers.the-variants.{Refused}
 
 module _ (least : ℕ) (line : List ℕ) where
   abbrev partsAt : ℕ → List Piece

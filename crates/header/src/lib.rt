@@ -1,4 +1,4 @@
-// The header of a DIMACS text, behind its remarks: n and m within their limits, or the refusal.
+// The header of a DIMACS text, after its remarks: n and m within their limits, or the refusal.
 use dimensions::Dimensions;
 use lexer::kinds::Kind;
 use lexer::pieces::Piece;
@@ -14,14 +14,14 @@ ghost use Rattle.header.specs.Header.{beyond, judgedSizes, twoNumbers, h
 ghost use Rattle.header.specs.Header.{HeaderFrom};
 
 // n and m, or 1, 2 or 5.
-pub enum Sizes {
+pub enum HeaderNumbers {
     Of(u8, u8),
     Refused(Refusal),
 }
 
-// What a header says, and the place behind its line.
+// What a header says, and the place past its line.
 pub struct Header {
-    pub sizes: Sizes,
+    pub sizes: HeaderNumbers,
     pub end: usize,
 }
 
@@ -33,73 +33,73 @@ fn is_beyond(least: u64, most: u64, minus: bool, v: u32) -> bool
 }
 
 // Two numbers as n and m, where both are within their limits.
-fn judge(s: bool, v: u32, t: bool, w: u32, least: u8) -> Sizes
+fn check_limits(s: bool, v: u32, t: bool, w: u32, least: u8) -> HeaderNumbers
     ensures { λ r. ⌜ r ≡ judgedSizes least (number s v) (number t w) ⌝ }
 {
     if is_beyond(1, Dimensions::VARIABLES, s, v) {
-        return Sizes::Refused(Refusal::Variables);
+        return HeaderNumbers::Refused(Refusal::Variables);
     }
     if is_beyond(least as u64, Dimensions::ROWS, t, w) {
-        return Sizes::Refused(Refusal::RowCount);
+        return HeaderNumbers::Refused(Refusal::RowCount);
     }
     let n = v as u8;
     let m = w as u8;
-    Sizes::Of(n, m)
+    HeaderNumbers::Of(n, m)
 }
 
 // Two parts as n and m, where both are well-formed.
-fn read_both(n: &[u8], m: &[u8], least: u8) -> Sizes
+fn read_both(n: &[u8], m: &[u8], least: u8) -> HeaderNumbers
     ensures { λ r. ⌜ r ≡ judgedSizes least (numberRead (now (n .entry))) (numberRead (now (m .entry))) ⌝ }
 {
     let Number::Value(s, v) = numbers::read_number(n) else {
-        return Sizes::Refused(Refusal::Text);
+        return HeaderNumbers::Refused(Refusal::Text);
     };
     let Number::Value(t, w) = numbers::read_number(m) else {
-        return Sizes::Refused(Refusal::Text);
+        return HeaderNumbers::Refused(Refusal::Text);
     };
-    judge(s, v, t, w, least)
+    check_limits(s, v, t, w, least)
 }
 
 // The two parts from `at` on as n and m, where no third follows.
-fn read_sizes(line: &[u8], at: usize, least: u8) -> Sizes
+fn read_sizes(line: &[u8], at: usize, least: u8) -> HeaderNumbers
     ensures { λ r. ⌜ r ≡ twoNumbers least (partsFrom isBlank (now (line .entry)) at) ⌝ }
 {
     let Piece::At(n, n_end) = lexer::pieces::next_part(line, at, Kind::Blank) else {
-        return Sizes::Refused(Refusal::Text);
+        return HeaderNumbers::Refused(Refusal::Text);
     };
     let Piece::At(m, m_end) = lexer::pieces::next_part(line, n_end, Kind::Blank) else {
-        return Sizes::Refused(Refusal::Text);
+        return HeaderNumbers::Refused(Refusal::Text);
     };
     let Piece::Nothing = lexer::pieces::next_part(line, m_end, Kind::Blank) else {
-        return Sizes::Refused(Refusal::Text);
+        return HeaderNumbers::Refused(Refusal::Text);
     };
     read_both(&line[n..n_end], &line[m..m_end], least)
 }
 
-// n and m behind `p`, at the first byte, and `cnf`.
-fn read_parts(line: &[u8], least: u8) -> Sizes
+// n and m after `p`, at the first byte, and `cnf`.
+fn read_parts(line: &[u8], least: u8) -> HeaderNumbers
     ensures { λ r. ⌜ r ≡ headerParts least (partsFrom isBlank (now (line .entry)) 0) ⌝ }
 {
     let Piece::At(p, p_end) = lexer::pieces::next_part(line, 0, Kind::Blank) else {
-        return Sizes::Refused(Refusal::Text);
+        return HeaderNumbers::Refused(Refusal::Text);
     };
     let Piece::At(f, f_end) = lexer::pieces::next_part(line, p_end, Kind::Blank) else {
-        return Sizes::Refused(Refusal::Text);
+        return HeaderNumbers::Refused(Refusal::Text);
     };
     if p != 0 {
-        return Sizes::Refused(Refusal::Text);
+        return HeaderNumbers::Refused(Refusal::Text);
     }
     if !check::same(&line[p..p_end], b"p") {
-        return Sizes::Refused(Refusal::Text);
+        return HeaderNumbers::Refused(Refusal::Text);
     }
     if !check::same(&line[f..f_end], b"cnf") {
-        return Sizes::Refused(Refusal::Text);
+        return HeaderNumbers::Refused(Refusal::Text);
     }
     read_sizes(line, f_end, least)
 }
 
 // n and m of a header's line.
-fn read_line(line: &[u8], least: u8) -> Sizes
+fn read_line(line: &[u8], least: u8) -> HeaderNumbers
     ensures { λ r. ⌜ r ≡ sizesOf least (now (line .entry)) ⌝ }
 {
     let end = lexer::kinds::trim(line, Kind::Tail);

@@ -1,4 +1,4 @@
--- Remarks passed by: behind separators stands a token, or a remark whose bytes are separators too up to its LF. A byte at a time.
+-- Remarks passed by: after separators comes a token, or a remark whose bytes are separators too up to its LF. A byte at a time.
 use mathlib.Core.Path.{_≡_, refl, sym, ap, _∙_}
 use mathlib.Core.Bool.{Bool, true, false, not, _&&_, cond}
 use mathlib.Core.List.{List, [], _∷_}

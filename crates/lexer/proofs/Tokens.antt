@@ -1,4 +1,4 @@
--- The next token of a text past its remarks: in the text with remarks as spaces the pieces between separators, with the bytes that stand in the text itself.
+-- The next token of a text past its remarks: in the text with remarks as spaces the pieces between separators, with the bytes of the text itself.
 use mathlib.Core.Path.{_≡_, refl, sym, ap, ap₂, _∙_}
 use mathlib.Core.Bool.{Bool, false, not}
 use mathlib.Core.List.{List, [], _∷_}

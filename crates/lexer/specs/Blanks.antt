@@ -1,5 +1,4 @@
--- Remarks as code passes them by: each of their bytes a space, so that every other byte keeps its place. Of the entries only those that
--- give a clause's place rest on this file.
+-- Remarks as code passes them by: each of their bytes a space, so that every other byte keeps its place.
 use Prim.Native.Nat.{ℕ, _+_, _-_}
 use mathlib.Core.Bool.{Bool, false, not, _&&_, cond}
 use mathlib.Core.List.{List, [], _∷_}
@@ -8,7 +7,7 @@ use lib.ListN.{drop, getD}
 use Rattle.lexer.specs.Bytes.{isSeparator, isLineFeed, run}
 use Rattle.lexer.specs.Pieces.{Piece, cut, notEmpty}
 
--- where a byte stands: at its line's start, further on in a line, or in a remark
+-- where a byte is: at its line's start, further on in a line, or in a remark
 pub data LinePlace : Type 0 where
   start further remark : LinePlace
 
@@ -18,7 +17,7 @@ inRemark start b = eqb b 99
 inRemark further b = false
 inRemark remark b = not (isLineFeed b)
 
--- where the next byte stands
+-- where the next byte is
 abbrev pub placeBehind : LinePlace → ℕ → LinePlace
 placeBehind s b = cond (isLineFeed b) start (cond (inRemark s b) remark further)
 
@@ -35,6 +34,6 @@ tokensPast text at = notEmpty (cut isSeparator at (blanked further (drop at text
 unfoldable pub tokenStart : List ℕ → ℕ → ℕ
 tokenStart text at = at + run isSeparator (blanked further (drop at text))
 
--- a remark starts at a place: a `c` right behind an LF, which is not before `at`
+-- a remark starts at a place: a `c` right after an LF, which is not before `at`
 abbrev pub remarkAt : List ℕ → ℕ → ℕ → Bool
 remarkAt text at place = eqb (getD text place 0) 99 && (ltb at place && isLineFeed (getD text (place - 1) 0))

@@ -10,11 +10,11 @@ pub record Piece : Type 0 where
   pub at : ℕ
   pub bytes : List ℕ
 
--- the place behind a piece
+-- the place after a piece
 abbrev pub behind : Piece → ℕ
 behind p = p .at + length (p .bytes)
 
--- byte b stands at a place, in front of pieces: it ends an empty piece, or joins the first
+-- byte b is at a place, in front of pieces: it ends an empty piece, or joins the first
 abbrev pub joinedByte : Bool → ℕ → ℕ → List Piece → List Piece
 joinedByte true at b ps = record { at = at; bytes = [] } ∷ ps
 joinedByte false at b [] = []

@@ -1,4 +1,4 @@
--- Places in a text. Functions that read texts go by them; no entry's contract rests on this file.
+-- Places in a text. Functions that read texts go by them.
 use Prim.Native.Nat.{ℕ, _+_, _-_}
 use mathlib.Core.Bool.{Bool}
 use mathlib.Core.List.{List, [], _∷_}
@@ -16,7 +16,7 @@ runEnd p text at = at + run p (drop at text)
 abbrev pub part : ℕ → ℕ → List ℕ → List ℕ
 part from to text = take (to - from) (drop from text)
 
--- the first piece's place and the place behind it
+-- the first piece's place and the place after it
 abbrev pub firstOf : List P.Piece → Piece
 firstOf [] = Nothing
 firstOf (p ∷ ps) = At (p .at) (P.behind p)

@@ -1,4 +1,5 @@
 -- Remarks: lines whose first byte is `c`. They are skipped wherever a line may start (document 02, "Remarks between clauses").
+-- Ask: Begin with `withoutRemarks`, and with `tableOf` (`dimacs/specs/Text`): has a text the table that it has without its remark lines?
 use Prim.Native.Nat.{ℕ}
 use mathlib.Core.Bool.{Bool, cond}
 use mathlib.Core.List.{List, [], _∷_, _++_}

@@ -28,7 +28,7 @@ fn is_tail(b: u8) -> bool
     is_blank(b) || b == b'\r'
 }
 
-// Whether the byte stands between tokens.
+// Whether the byte separates tokens.
 fn is_separator(b: u8) -> bool
     ensures { λ r. ⌜ r ≡ isSeparator b ⌝ }
 {

@@ -7,7 +7,7 @@ ghost use Rattle.lexer.specs.Kinds.{passes};
 ghost use Rattle.lexer.specs.Places.{firstOf};
 ghost use Rattle.lexer.specs.Blanks.{tokensPast, tokenStart, remarkAt};
 
-// A piece's place and the place behind it.
+// A piece's place and the place after it.
 pub enum Piece {
     At(usize, usize),
     Nothing,
@@ -24,7 +24,7 @@ pub fn next_part(text: &[u8], at: usize, kind: Kind) -> Piece
     Piece::At(from, kinds::find(text, from, kind))
 }
 
-// Whether a remark starts at a place: a `c` right behind an LF, which is not before `at`.
+// Whether a remark starts at a place: a `c` right after an LF, which is not before `at`.
 fn is_remark(text: &[u8], at: usize, place: usize) -> bool
     ensures { λ r. ⌜ r ≡ remarkAt (now (text .entry)) at place ⌝ }
 {

@@ -1,4 +1,4 @@
--- Lines of document 01 and what stands just beside them, computed.
+-- Lines of document 01 and what is just beside them, computed.
 use mathlib.Core.Path.{_≡_, refl}
 use Prim.Native.Nat.{_-_, _^_}
 use Prim.Native.String.{String}
@@ -8,9 +8,9 @@ use Rattle.lexer.specs.Bytes.{run}
 use Rattle.numbers.specs.Numbers.{digitsAfter}
 use Rattle.lines.specs.declared.Budget.{Budget}
 use Rattle.lines.specs.declared.Budget.the-variants as budget
-use Rattle.lines.specs.declared.Size.{Size}
-use Rattle.lines.specs.declared.Size.the-variants as size
-use Rattle.lines.specs.Numbers.{fieldOf, budgetOf, sizeOf}
+use Rattle.lines.specs.declared.DimensionLine.{DimensionLine}
+use Rattle.lines.specs.declared.DimensionLine.the-variants as dimension
+use Rattle.lines.specs.Numbers.{fieldOf, budgetOf, dimensionLineOf}
 
 -- ---- the budget line
 
@@ -48,26 +48,26 @@ carriage-return = refl
 
 -- ---- the dimension line
 
-sizeIn : String → Size
+sizeIn : String → DimensionLine
 unfolding fieldOf run digitsAfter
-sizeIn s = sizeOf (bytes s)
+sizeIn s = dimensionLineOf (bytes s)
 
-four-numbers : sizeIn "2 1 1 0\n" ≡ size.Of 2 1 1 0
+four-numbers : sizeIn "2 1 1 0\n" ≡ dimension.Of 2 1 1 0
 unfolding sizeIn
 four-numbers = refl
 
-two-spaces : sizeIn "2  1 1 0\n" ≡ size.Refused NumberLine
+two-spaces : sizeIn "2  1 1 0\n" ≡ dimension.Refused NumberLine
 unfolding sizeIn
 two-spaces = refl
 
-a-tab : sizeIn "2\t1 1 0\n" ≡ size.Refused NumberLine
+a-tab : sizeIn "2\t1 1 0\n" ≡ dimension.Refused NumberLine
 unfolding sizeIn
 a-tab = refl
 
-three-numbers : sizeIn "2 1 1\n" ≡ size.Refused NumberLine
+three-numbers : sizeIn "2 1 1\n" ≡ dimension.Refused NumberLine
 unfolding sizeIn
 three-numbers = refl
 
-five-numbers : sizeIn "2 1 1 0 1\n" ≡ size.Refused NumberLine
+five-numbers : sizeIn "2 1 1 0 1\n" ≡ dimension.Refused NumberLine
 unfolding sizeIn
 five-numbers = refl

@@ -17,7 +17,7 @@ use Rattle.lines.specs.declared.FieldEnd.the-variants.{Behind, Malformed
 use Rattle.lines.specs.Numbers.{Field, field, noField, bounded, closedField, fieldOf}
 use Rattle.lines.specs.Places.{fieldEnd, fieldEndAt}
 
--- as `closed`, with v read already and a digit seen
+-- as `field_end`, with v read already and a digit seen
 abbrev closingAfter : ℕ → ℕ → List ℕ → List ℕ → Field
 closingAfter v closing ds [] = noField
 closingAfter v closing ds (b ∷ rest) = cond (eqb b closing) (bounded (digitsAfter v ds) rest) noField

@@ -1,4 +1,4 @@
--- What a place found says of the text: the field there, and that what is left of the line starts at the place behind it.
+-- What a place found says of the text: the field there, and that what is left of the line starts at the place after it.
 use mathlib.Core.Path.{_≡_, refl, sym, ap, _∙_}
 use mathlib.Core.Bool.{cond}
 use mathlib.Core.List.{List, [], _∷_}
@@ -14,9 +14,9 @@ use Rattle.lexer.specs.Bytes.{run}
 use Rattle.numbers.specs.Numbers.{isDigit, digitsAfter}
 use Rattle.refusals.specs.declared.Refusal.the-variants.{NumberLine}
 use Rattle.lines.specs.declared.Budget.the-variants as budget
-use Rattle.lines.specs.declared.Size.the-variants as size
+use Rattle.lines.specs.declared.DimensionLine.the-variants as dimension
 use Rattle.lines.specs.declared.FieldEnd.the-variants.{Behind, Malformed}
-use Rattle.lines.specs.Numbers.{Field, field, noField, bounded, closedField, fieldOf, shortLine, budgetOf, sizeOf}
+use Rattle.lines.specs.Numbers.{Field, field, noField, bounded, closedField, fieldOf, shortLine, budgetOf, dimensionLineOf}
 use Rattle.lines.specs.Places.{fieldEnd, fieldEndAt, budgetFrom, firstFrom, secondFrom, thirdFrom, fourthFrom}
 
 bounded-rest : (d : Option ℕ) (text rest : List ℕ) (v : ℕ) → bounded d text ≡ field v rest → text ≡ rest
@@ -122,10 +122,11 @@ budget-below input v e = go (fieldOf 10 input) refl e
 
 -- ---- the dimension line
 
-pub no-first : (input : List ℕ) → fieldEndAt input 0 32 ≡ Malformed → sizeOf input ≡ size.Refused NumberLine
+pub no-first : (input : List ℕ) → fieldEndAt input 0 32 ≡ Malformed → dimensionLineOf input ≡ dimension.Refused NumberLine
 no-first input p = ap (firstFrom input) (lost input 0 32 p)
 
-pub one-first : (input : List ℕ) (n second : ℕ) → fieldEndAt input 0 32 ≡ Behind n second → sizeOf input ≡ secondFrom input n (fieldOf 32 (drop second input))
+pub one-first : (input : List ℕ) (n second : ℕ) → fieldEndAt input 0 32 ≡ Behind n second → dimensionLineOf input ≡ secondFrom input n
+    (fieldOf 32 (drop second input))
 one-first input n second p = ap (firstFrom input) (found input 0 32 n second p .reads)
 
 pub one-second : (input : List ℕ) (n second left third : ℕ) → fieldEndAt input second 32 ≡ Behind left third
@@ -137,7 +138,8 @@ pub one-third : (input : List ℕ) (n left third right fourth : ℕ) → fieldEn
 one-third input n left third right fourth p = ap (thirdFrom input n left) (found input third 32 right fourth p .reads)
 
 pub one-fourth : (input : List ℕ) (n left right fourth public end : ℕ) → fieldEndAt input fourth 10 ≡ Behind public end
-    → fourthFrom input n left right (fieldOf 10 (drop fourth input)) ≡ cond (leb end 100) (size.Of n left right public) (size.Refused NumberLine)
+    → fourthFrom input n left right (fieldOf 10 (drop fourth input)) ≡ cond (leb end 100) (dimension.Of n left right public) (dimension.Refused NumberLine)
 one-fourth input n left right fourth public end p =
     let f = found input fourth 10 public end p in
-    ap (fourthFrom input n left right) (f .reads) ∙ ap (λ (k : ℕ). cond (leb k 100) (size.Of n left right public) (size.Refused NumberLine)) (f .behind)
+    ap (fourthFrom input n left right) (f .reads) ∙ ap (λ (k : ℕ). cond (leb k 100) (dimension.Of n left right public) (dimension.Refused NumberLine))
+    (f .behind)

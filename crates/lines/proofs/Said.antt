@@ -6,10 +6,11 @@ use Prim.Native.Nat.{ℕ}
 use Rattle.refusals.specs.declared.Refusal.the-variants.{NumberLine}
 use Rattle.lines.specs.declared.Budget.{Budget}
 use Rattle.lines.specs.declared.Budget.the-variants as budget
-use Rattle.lines.specs.declared.Size.{Size}
-use Rattle.lines.specs.declared.Size.the-variants as size
-use Rattle.lines.specs.Numbers.{Field, field, noField, fieldOf, shortLine, onField, onBudget, budgetOf, budgetCode, budgetNumbers, onSize, sizeOf}
-use Rattle.lines.specs.Numbers.{sizeSaid}
+use Rattle.lines.specs.declared.DimensionLine.{DimensionLine}
+use Rattle.lines.specs.declared.DimensionLine.the-variants as dimension
+use Rattle.lines.specs.Numbers.{Field, field, noField, fieldOf, shortLine, onField}
+use Rattle.lines.specs.Numbers.{onBudget, budgetOf, budgetCode, budgetNumbers, onDimensionLine, dimensionLineOf}
+use Rattle.lines.specs.Numbers.{dimensionLineSaid}
 
 -- what is said of a field, and of a test
 said-field : {A : Type 0} (says : A → List ℕ) (f : Field) (a : A) (g : ℕ → List ℕ → A) (h : ℕ → List ℕ → List ℕ)
@@ -28,15 +29,15 @@ budget-said input r e =
     let no = budget.Refused NumberLine in
     (e, ap says e ∙ said-field says (fieldOf 10 input) no _ _ (λ v rest. said-if says (shortLine input rest) (budget.Of v) no))
 
-pub size-said : (input : List ℕ) (r : Size) → r ≡ sizeOf input
-    → (r ≡ sizeOf input) × (sizeSaid r ≡ onSize input (8 ∷ []) (λ n left right public. 0 ∷ (n ∷ (left ∷ (right ∷ (public ∷ []))))))
+pub size-said : (input : List ℕ) (r : DimensionLine) → r ≡ dimensionLineOf input
+    → (r ≡ dimensionLineOf input) × (dimensionLineSaid r ≡ onDimensionLine input (8 ∷ []) (λ n left right public. 0 ∷ (n ∷ (left ∷ (right ∷ (public ∷ []))))))
 size-said input r e =
-    let says : Size → List ℕ = sizeSaid in
-    let no = size.Refused NumberLine in (
+    let says : DimensionLine → List ℕ = dimensionLineSaid in
+    let no = dimension.Refused NumberLine in (
       e,
       ap says e
           ∙ said-field says (fieldOf 32 input) no _ _ (λ n second.
           said-field says (fieldOf 32 second) no _ _ (λ left third.
           said-field says (fieldOf 32 third) no _ _ (λ right fourth.
-          said-field says (fieldOf 10 fourth) no _ _ (λ public rest. said-if says (shortLine input rest) (size.Of n left right public) no)))),
+          said-field says (fieldOf 10 fourth) no _ _ (λ public rest. said-if says (shortLine input rest) (dimension.Of n left right public) no)))),
     )

@@ -1,4 +1,5 @@
 -- The budget line and the dimension line: document 01, refusal 8.
+-- Ask: Which bytes may a line hold, and which come behind it?
 use Prim.Native.Nat.{ℕ, _-_, _^_}
 use mathlib.Core.Bool.{Bool, cond}
 use mathlib.Core.List.{List, [], _∷_}
@@ -11,10 +12,10 @@ use Rattle.lexer.specs.Bytes.{run}
 use Rattle.numbers.specs.Numbers.{isDigit, digitsAfter}
 use Rattle.lines.specs.declared.Budget.{Budget}
 use Rattle.lines.specs.declared.Budget.the-variants as budget
-use Rattle.lines.specs.declared.Size.{Size}
-use Rattle.lines.specs.declared.Size.the-variants as size
+use Rattle.lines.specs.declared.DimensionLine.{DimensionLine}
+use Rattle.lines.specs.declared.DimensionLine.the-variants as dimension
 
--- a number of 64 bits and the text behind it, or none
+-- a number of 64 bits and the text after it, or none
 pub data Field : Type 0 where
   field : ℕ → List ℕ → Field
   noField : Field
@@ -24,7 +25,7 @@ abbrev pub bounded : Option ℕ → List ℕ → Field
 bounded (some v) rest = cond (ltb v (2 ^ 64)) (field v rest) noField
 bounded none rest = noField
 
--- digits, and the text behind them, which is to start with the closing byte
+-- digits, and the text after them, which is to start with the closing byte
 abbrev pub closedField : ℕ → List ℕ → List ℕ → Field
 closedField closing [] rest = noField
 closedField closing (d ∷ ds) [] = noField
@@ -38,7 +39,7 @@ fieldOf closing text = closedField closing (take (run isDigit text) text) (drop 
 abbrev pub shortLine : List ℕ → List ℕ → Bool
 shortLine input rest = leb (length input - length rest) 100
 
--- what a field leads to, with the text behind it
+-- what a field leads to, with the text after it
 abbrev pub onField {ℓ} : {A : Type ℓ} → Field → A → (ℕ → List ℕ → A) → A
 onField noField a f = a
 onField (field v rest) a f = f v rest
@@ -62,18 +63,18 @@ budgetNumbers (budget.Of count) = count ∷ []
 budgetNumbers (budget.Refused r) = []
 
 -- what the dimension line leads to: n, left, right and, by document 02 (Public rest rules), public with single spaces and LF
-abbrev pub onSize {ℓ} : {A : Type ℓ} → List ℕ → A → (ℕ → ℕ → ℕ → ℕ → A) → A
-onSize input a f =
+abbrev pub onDimensionLine {ℓ} : {A : Type ℓ} → List ℕ → A → (ℕ → ℕ → ℕ → ℕ → A) → A
+onDimensionLine input a f =
     onField (fieldOf 32 input) a (λ n second.
     onField (fieldOf 32 second) a (λ left third.
     onField (fieldOf 32 third) a (λ right fourth.
     onField (fieldOf 10 fourth) a (λ public rest. cond (shortLine input rest) (f n left right public) a))))
 
 -- the four numbers, or 8
-abbrev pub sizeOf : List ℕ → Size
-sizeOf input = onSize input (size.Refused NumberLine) size.Of
+abbrev pub dimensionLineOf : List ℕ → DimensionLine
+dimensionLineOf input = onDimensionLine input (dimension.Refused NumberLine) dimension.Of
 
 -- what reading the dimension line says: 0 and its numbers, or 8
-abbrev pub sizeSaid : Size → List ℕ
-sizeSaid (size.Of n left right public) = 0 ∷ (n ∷ (left ∷ (right ∷ (public ∷ []))))
-sizeSaid (size.Refused r) = numberOf r ∷ []
+abbrev pub dimensionLineSaid : DimensionLine → List ℕ
+dimensionLineSaid (dimension.Of n left right public) = 0 ∷ (n ∷ (left ∷ (right ∷ (public ∷ []))))
+dimensionLineSaid (dimension.Refused r) = numberOf r ∷ []

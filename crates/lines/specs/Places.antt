@@ -1,4 +1,4 @@
--- Places in a line, and a line a field at a time. The crate's own functions go by them; no public contract cites this file.
+-- Places in a line, and a line a field at a time. The crate's own functions go by them.
 use Prim.Native.Nat.{ℕ, _-_}
 use mathlib.Core.Bool.{cond}
 use mathlib.Core.List.{List}
@@ -7,8 +7,8 @@ use Rattle.lines.specs.Numbers.{Field, field, noField, fieldOf, shortLin
 use Rattle.refusals.specs.declared.Refusal.the-variants.{NumberLine}
 use Rattle.lines.specs.declared.Budget.{Budget}
 use Rattle.lines.specs.declared.Budget.the-variants as budget
-use Rattle.lines.specs.declared.Size.{Size}
-use Rattle.lines.specs.declared.Size.the-variants as size
+use Rattle.lines.specs.declared.DimensionLine.{DimensionLine}
+use Rattle.lines.specs.declared.DimensionLine.the-variants as dimension
 use Rattle.lines.specs.declared.FieldEnd.{FieldEnd}
 use Rattle.lines.specs.declared.FieldEnd.the-variants.{Behind, Malformed}
 
@@ -26,18 +26,19 @@ abbrev pub budgetFrom : List ℕ → Field → Budget
 budgetFrom input f = onField f (budget.Refused NumberLine) (λ v rest. cond (shortLine input rest) (budget.Of v) (budget.Refused NumberLine))
 
 -- what the dimension line comes to by its fourth field
-abbrev pub fourthFrom : List ℕ → ℕ → ℕ → ℕ → Field → Size
+abbrev pub fourthFrom : List ℕ → ℕ → ℕ → ℕ → Field → DimensionLine
 fourthFrom input n left right f =
-    onField f (size.Refused NumberLine) (λ public rest. cond (shortLine input rest) (size.Of n left right public) (size.Refused NumberLine))
+    onField f (dimension.Refused NumberLine) (λ public rest. cond (shortLine input rest) (dimension.Of n left right public)
+    (dimension.Refused NumberLine))
 
 -- by its third field
-abbrev pub thirdFrom : List ℕ → ℕ → ℕ → Field → Size
-thirdFrom input n left f = onField f (size.Refused NumberLine) (λ right rest. fourthFrom input n left right (fieldOf 10 rest))
+abbrev pub thirdFrom : List ℕ → ℕ → ℕ → Field → DimensionLine
+thirdFrom input n left f = onField f (dimension.Refused NumberLine) (λ right rest. fourthFrom input n left right (fieldOf 10 rest))
 
 -- by its second
-abbrev pub secondFrom : List ℕ → ℕ → Field → Size
-secondFrom input n f = onField f (size.Refused NumberLine) (λ left rest. thirdFrom input n left (fieldOf 32 rest))
+abbrev pub secondFrom : List ℕ → ℕ → Field → DimensionLine
+secondFrom input n f = onField f (dimension.Refused NumberLine) (λ left rest. thirdFrom input n left (fieldOf 32 rest))
 
 -- by its first
-abbrev pub firstFrom : List ℕ → Field → Size
-firstFrom input f = onField f (size.Refused NumberLine) (λ n rest. secondFrom input n (fieldOf 32 rest))
+abbrev pub firstFrom : List ℕ → Field → DimensionLine
+firstFrom input f = onField f (dimension.Refused NumberLine) (λ n rest. secondFrom input n (fieldOf 32 rest))

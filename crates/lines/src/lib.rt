@@ -6,7 +6,8 @@ ghost use mathlib.Core.List.{[], _∷_};
 ghost use Prim.Native.Nat.{_+_, _<_};
 ghost use lib.Dec.{ltb};
 ghost use Rattle.lines.specs.declared.FieldEnd.the-variants.{Behind, Malformed};
-ghost use Rattle.lines.specs.Numbers.{onBudget, budgetOf, budgetCode, budgetNumbers, onSize, sizeOf, sizeSaid};
+ghost use Rattle.lines.specs.Numbers.{onBudget, budgetOf, budgetCode};
+ghost use Rattle.lines.specs.Numbers.{budgetNumbers, onDimensionLine, dimensionLineOf, dimensionLineSaid};
 ghost use Rattle.lines.specs.Places.{fieldEndAt};
 
 // A line's bytes with its LF.
@@ -19,19 +20,19 @@ pub enum Budget {
 }
 
 // n and the row counts of left, right and public table, or 8.
-pub enum Size {
+pub enum DimensionLine {
     Of(u64, u64, u64, u64),
     Refused(Refusal),
 }
 
-// A number in a line and the place behind the byte that closes it.
+// A number in a line and the place past the byte that closes it.
 enum FieldEnd {
     Behind(u64, usize),
     Malformed,
 }
 
-// A number whose digits end at i, where a byte closes it or spoils it.
-fn closed(value: u64, at: usize, i: usize, closes: bool) -> FieldEnd
+// The end of a field whose digits end at i, where a byte closes it or spoils it.
+fn field_end(value: u64, at: usize, i: usize, closes: bool) -> FieldEnd
     requires { ⌜ i < 18446744073709551615 ⌝ }
     ensures { λ r. ⌜ r ≡ cond (ltb at i && closes) (Behind value (i + 1)) Malformed ⌝ }
 {
@@ -52,7 +53,7 @@ fn field(line: &[u8], at: usize, closing: u8) -> FieldEnd
     while i < line.len() {
         let b = line[i];
         if !numbers::is_digit(b) {
-            return closed(value, at, i, b == closing);
+            return field_end(value, at, i, b == closing);
         }
         let digit = (b - b'0') as u64;
         if (18446744073709551615 - digit) / 10 < value {
@@ -79,25 +80,26 @@ pub fn read_budget(input: &[u8]) -> Budget
 }
 
 // The four numbers of a dimension line: single spaces and LF, at most 100 bytes; bytes after the LF are not looked at.
-pub fn read_size(input: &[u8]) -> Size
-    ensures { λ r. ⌜ r ≡ sizeOf (now (input .entry)) ⌝ }
+pub fn read_dimensions(input: &[u8]) -> DimensionLine
+    ensures { λ r. ⌜ r ≡ dimensionLineOf (now (input .entry)) ⌝ }
     ensures { λ r.
-        ⌜ sizeSaid r ≡ onSize (now (input .entry)) (8 ∷ []) (λ n left right public. 0 ∷ (n ∷ (left ∷ (right ∷ (public ∷ []))))) ⌝ }
+        ⌜ dimensionLineSaid r ≡ onDimensionLine (now (input .entry)) (8 ∷ [])
+        (λ n left right public. 0 ∷ (n ∷ (left ∷ (right ∷ (public ∷ []))))) ⌝ }
 {
     let FieldEnd::Behind(n, second) = field(input, 0, b' ') else {
-        return Size::Refused(Refusal::NumberLine);
+        return DimensionLine::Refused(Refusal::NumberLine);
     };
     let FieldEnd::Behind(left, third) = field(input, second, b' ') else {
-        return Size::Refused(Refusal::NumberLine);
+        return DimensionLine::Refused(Refusal::NumberLine);
     };
     let FieldEnd::Behind(right, fourth) = field(input, third, b' ') else {
-        return Size::Refused(Refusal::NumberLine);
+        return DimensionLine::Refused(Refusal::NumberLine);
     };
     let FieldEnd::Behind(public, end) = field(input, fourth, b'\n') else {
-        return Size::Refused(Refusal::NumberLine);
+        return DimensionLine::Refused(Refusal::NumberLine);
     };
     if end <= LONGEST {
-        return Size::Of(n, left, right, public);
+        return DimensionLine::Of(n, left, right, public);
     }
-    Size::Refused(Refusal::NumberLine)
+    DimensionLine::Refused(Refusal::NumberLine)
 }

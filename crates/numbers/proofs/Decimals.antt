@@ -12,7 +12,7 @@ use lib.Seq.{drop-cons, take-all}
 use borrow.Author.Tests.{leb-true, eq-eqb, ne-eqb}
 use Rattle.numbers.specs.Numbers.{isDigit, digitsAfter, decimalOf, positive, negative, numberRead}
 use Rattle.numbers.specs.Numbers as N
-use Rattle.numbers.specs.Held.{leadingZero, held, digitsHeld, numberHeld}
+use Rattle.numbers.specs.CappedNumbers.{leadingZero, held, digitsHeld, numberHeld}
 use Rattle.numbers.specs.declared.Number.{Number}
 use Rattle.numbers.specs.declared.Number.the-variants.{Value, Malformed}
 use Rattle.numbers.specs.declared.Digits.the-variants as D

@@ -1,2 +1,2 @@
+pub mod CappedNumbers
 pub mod Numbers
-pub mod Held

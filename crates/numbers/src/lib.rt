@@ -1,12 +1,12 @@
 // Numbers as texts spell them: an optional minus and digits, however many.
 //
-// Nothing here is turned back: each public function is total, whatever bytes it is handed.
+// Nothing here is refused: each public function is total, whatever bytes it is handed.
 ghost use mathlib.Core.Path.{_≡_};
 ghost use Prim.Native.Nat.{_+_, _*_, _-_, _≤_};
 ghost use Rattle.numbers.specs.Numbers.{isDigit, decimalOf, numberRead};
-ghost use Rattle.numbers.specs.Held.{leadingZero, held, digitsHeld, numberHeld};
+ghost use Rattle.numbers.specs.CappedNumbers.{leadingZero, held, digitsHeld, numberHeld};
 
-// Whether the number has a minus, and its value; 1000 stands for every greater one.
+// Whether the number has a minus, and its value; 1000 is held for every greater one.
 pub enum Number {
     Value(bool, u32),
     Malformed,
@@ -35,7 +35,7 @@ pub fn is_digit(b: u8) -> bool
     b'0' <= b && b <= b'9'
 }
 
-// Whether a 0 stands before another digit.
+// Whether a 0 comes before another digit.
 fn leading_zero(word: &[u8]) -> bool
     ensures { λ r. ⌜ r ≡ leadingZero (now (word .entry)) ⌝ }
 {

@@ -16,13 +16,13 @@ use Rattle.lexer.specs.Pieces.{Piece, partsFrom}
 use Rattle.lexer.specs.Places.{part}
 use Rattle.lexer.proofs.Cuts.{Found}
 use Rattle.numbers.specs.Numbers.{Number, number, malformed, numberRead}
-use Rattle.numbers.specs.Held.{held, numberHeld}
+use Rattle.numbers.specs.CappedNumbers.{held, numberHeld}
 use Rattle.numbers.specs.declared.Number.the-variants as L
 use Rattle.numbers.proofs.Decimals.{held-value, held-none}
 use Rattle.header.specs.Header.{beyond}
 use Rattle.header.proofs.Limits.{within}
 use Rattle.qdimacs.specs.Lines.{Bound, boundThen, boundOn, someVariable}
-use Rattle.qdimacs.specs.Held.{turnDigit, improper, isFull, boundBy, lineHeld}
+use Rattle.qdimacs.specs.TurnsInWords.{turnDigit, improper, isFull, boundBy, lineHeld}
 use Rattle.qdimacs.specs.Walk.{lastPart}
 use Rattle.qdimacs.specs.declared.Prefix.{Prefix}
 use Rattle.qdimacs.specs.declared.PrefixLine.{PrefixLine}

@@ -1,4 +1,4 @@
--- Turns in a word: what is put in is read out again, and a turn behind others is a digit of the next unit.
+-- Turns in a word: what is put in is read out again, and a turn after others is a digit of the next unit.
 use mathlib.Core.Path.{_≡_, refl, ap, ap₂, _∙_}
 use mathlib.Core.Bool.{Bool, true, false, _&&_}
 use mathlib.Core.List.{List, [], _∷_, _++_}
@@ -11,7 +11,7 @@ use lib.Pow.{pow-pos, pow-add}
 use borrow.Author.Tests.{eq-eqb, ne-eqb, ltb-true}
 use Rattle.words.proofs.Truth.{and-l, and-r}
 use Rattle.qdimacs.specs.Text.{GameTurn}
-use Rattle.qdimacs.specs.Held.{turnDigit, turnsWord, turnIn, turnsIn}
+use Rattle.qdimacs.specs.TurnsInWords.{turnDigit, turnsWord, turnIn, turnsIn}
 
 -- each variable's bit is below 16
 abbrev pub allSmall : List GameTurn → Bool

@@ -18,7 +18,7 @@ use Rattle.clauses.specs.Clauses.{Reading, clauses, clauseRows, complete}
 use Rattle.clauses.proofs.Reading.{belowAll, clauses-below}
 use Rattle.qdimacs.specs.Lines.{Bound, linesBehind, prefixOf, behindPrefix, tokensOn}
 use Rattle.qdimacs.specs.Text.{proper, GameTurn, gameTurns, GameText, game, noGame, gameOn, gameBehind, gameText}
-use Rattle.qdimacs.specs.Held.{turnsWord, turnsIn}
+use Rattle.qdimacs.specs.TurnsInWords.{turnsWord, turnsIn}
 use Rattle.qdimacs.proofs.Turns.{hasTurn, distinct, turns-length, turns-distinct, turns-low, each-turn}
 use Rattle.qdimacs.proofs.Digits.{turns-out}
 use Rattle.qdimacs.proofs.Prefixes.{small-if}

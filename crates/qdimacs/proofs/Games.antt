@@ -1,4 +1,4 @@
--- A text's game by the places in the text as it stands: the header has the same sizes, and the lines behind it are the same, as without the remark lines.
+-- A text's game by the places in the text as it is: the header has the same sizes, and the lines after it are the same, as without the remark lines.
 use mathlib.Core.Path.{_≡_, refl, sym, ap, ap₂, _∙_, subst}
 use mathlib.Core.Bool.{Bool, true, false, _&&_, cond}
 use mathlib.Core.List.{List}
@@ -19,8 +19,8 @@ use Rattle.refusals.specs.declared.Refusal.the-variants.{Text, GameVariables, L
 use Rattle.refusals.specs.declared.Outcome.the-variants.{Taken, Refused}
 use Rattle.refusals.proofs.Outcomes.{refused-taken}
 use Rattle.header.specs.declared.Header.{Header}
-use Rattle.header.specs.declared.Sizes.{Sizes}
-use Rattle.header.specs.declared.Sizes.the-variants as S
+use Rattle.header.specs.declared.HeaderNumbers.{HeaderNumbers}
+use Rattle.header.specs.declared.HeaderNumbers.the-variants as S
 use Rattle.header.specs.Header.{headerOf}
 use Rattle.header.proofs.Kept.{header-same}
 use Rattle.clauses.specs.Clauses.{Reading, clauses, clauseRows, complete}
@@ -31,7 +31,7 @@ use Rattle.dimacs.specs.Body.{bodyWithin}
 use Rattle.dimacs.specs.declared.Table.{Table}
 use Rattle.qdimacs.specs.Lines.{Bound, noToken, linesBehind, prefixOf, behindPrefix, tokensOn}
 use Rattle.qdimacs.specs.Text.{proper, GameText, game, noGame, gameOn, gameLines, gameBehind, plainGame, gameText, gameTurns, mostGameVariables}
-use Rattle.qdimacs.specs.Held.{turnsWord, noVariable, boundAll, quantified}
+use Rattle.qdimacs.specs.TurnsInWords.{turnsWord, noVariable, boundAll, quantified}
 use Rattle.qdimacs.specs.Walk.{LineCut, lineCut, linesPast, Walked, walked, PrefixEnds, standingGame}
 use Rattle.qdimacs.specs.declared.Prefix.{Prefix}
 use Rattle.qdimacs.specs.declared.PrefixEnd.the-variants.{At}
@@ -43,7 +43,7 @@ use Rattle.qdimacs.proofs.Prefixes.{walkedAs, walked-is, Holds, holds-a
 -- ---- the header
 
 -- what a header leads to in the text as it stands
-abbrev pub standing : List ℕ → ℕ → Sizes → GameText
+abbrev pub standing : List ℕ → ℕ → HeaderNumbers → GameText
 standing text end (S.Refused r) = noGame r
 standing text end (S.Of n m) = standingGame n m text end
 
@@ -55,7 +55,7 @@ module _ (text : List ℕ) where
       ∙ ap (λ (l : List ℕ). lineCut noToken l .later) (header-same 1 text .rest)
       ∙ ap (λ (c : LineCut). c .later) (kept-lines (drop (headerOf 1 text .end) text))
 
-  by-sizes : (x : Sizes) → gameBehind (withoutRemarks text) (headerOf 1 (withoutRemarks text) .end) x ≡ standing text (headerOf 1 text .end) x
+  by-sizes : (x : HeaderNumbers) → gameBehind (withoutRemarks text) (headerOf 1 (withoutRemarks text) .end) x ≡ standing text (headerOf 1 text .end) x
   by-sizes (S.Refused r) = refl
   by-sizes (S.Of n m) = ap (λ (ls : List (List ℕ)). cond (ltb mostGameVariables n) (noGame GameVariables) (gameLines n m ls)) lines-same
 
@@ -69,7 +69,7 @@ module _ (text : List ℕ) where
   overlong h = rw (lt-ltb 65536 (length text) h)
 
   -- any other text has its header's refusal, or the game behind the header in the text as it stands
-  pub by-header : length text ≤ 65536 → (h : Header) → h ≡ headerOf 1 text → (x : Sizes) → h .sizes ≡ x → gameText text ≡ standing text (h .end) x
+  pub by-header : length text ≤ 65536 → (h : Header) → h ≡ headerOf 1 text → (x : HeaderNumbers) → h .sizes ≡ x → gameText text ≡ standing text (h .end) x
   unfolding gameText
   by-header short h e x q =
       rw (le-ltb 65536 (length text) short)

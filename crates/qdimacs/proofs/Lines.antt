@@ -1,4 +1,4 @@
--- The lines of a text one at a time: without its remarks, in the text as it stands, and as tokens.
+-- The lines of a text one at a time: without its remarks, in the text as it is, and as tokens.
 use mathlib.Core.Path.{_≡_, refl, sym, ap, ap₂, _∙_, subst}
 use mathlib.Core.Bool.{Bool, true, false, not, cond}
 use mathlib.Core.List.{List, [], _∷_, _++_}
@@ -18,7 +18,7 @@ use Rattle.lexer.specs.Blanks.{start, further, remark, tokensPast}
 use Rattle.lexer.proofs.Cuts.{stops}
 use Rattle.lexer.proofs.Kept.{keptFrom, bytesOf, same-tokens, Words, filledWords, all, withByte, words, pieces-words}
 use Rattle.qdimacs.specs.Lines.{Bound, noPiece, noToken, tokenLines, linesBehind, isVariableLine, variableLine, tokensOn}
-use Rattle.qdimacs.specs.Held.{noVariable, lineHeld, lineRead}
+use Rattle.qdimacs.specs.TurnsInWords.{noVariable, lineHeld, lineRead}
 use Rattle.qdimacs.specs.Walk.{LineCut, unless, lineAhead, lineCut, passedBy, linesPast, walkedOn, walked, PrefixEnds}
 use Rattle.qdimacs.specs.declared.Prefix.{Prefix}
 use Rattle.qdimacs.specs.declared.PrefixLine.{PrefixLine}

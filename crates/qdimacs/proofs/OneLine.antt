@@ -15,7 +15,7 @@ use Rattle.lexer.specs.Pieces.{Piece, cut, notEmpty, partsFrom, tokensFrom}
 use Rattle.lexer.specs.Places.{part}
 use Rattle.lexer.proofs.Cuts.{Found, one-piece}
 use Rattle.qdimacs.specs.Lines.{boundOn, someVariable, lettered, isVariableLine, variableLine, noPiece, noToken}
-use Rattle.qdimacs.specs.Held.{lineHeld, lineRead}
+use Rattle.qdimacs.specs.TurnsInWords.{lineHeld, lineRead}
 use Rattle.qdimacs.specs.declared.Prefix.{Prefix}
 use Rattle.qdimacs.specs.declared.PrefixLine.{PrefixLine}
 use Rattle.qdimacs.specs.declared.PrefixLine.the-variants.{Passed, Clauses, Malformed}

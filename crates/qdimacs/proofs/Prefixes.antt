@@ -18,7 +18,7 @@ use Rattle.header.specs.Header.{beyond}
 use Rattle.header.proofs.Limits.{within}
 use Rattle.qdimacs.specs.Lines.{Bound, boundBefore, isVariableLine, variableLine, prefixOf, behindPrefix}
 use Rattle.qdimacs.specs.Text.{onLine, proper, GameTurn, unlisted, lineTurns, gameTurns}
-use Rattle.qdimacs.specs.Held.{turnDigit, turnsWord, noVariable, improper, isFull, boundBy, boundAll, arranged}
+use Rattle.qdimacs.specs.TurnsInWords.{turnDigit, turnsWord, noVariable, improper, isFull, boundBy, boundAll, arranged}
 use Rattle.qdimacs.specs.Walk.{Walked, walkedOn, walked}
 use Rattle.qdimacs.specs.declared.Prefix.{Prefix}
 use Rattle.qdimacs.proofs.Turns.{hasTurn, bit-value, on-has, occurs-low, listed-count, line-turns-length, turns-length}

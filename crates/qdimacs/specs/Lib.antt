@@ -1,4 +1,4 @@
 pub mod Lines
 pub mod Text
-pub mod Held
+pub mod TurnsInWords
 pub mod Walk

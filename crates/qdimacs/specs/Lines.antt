@@ -1,5 +1,6 @@
 -- The lines of a QDIMACS text between its header and its clauses, each a letter and the variables of one side (document 02, "Who can force
 -- the roster").
+-- Ask: Are the lines document 02's, sentence by sentence?
 use Prim.Native.Nat.{ℕ, zero, suc}
 use mathlib.Core.Bool.{Bool, true, false, _||_, cond}
 use mathlib.Core.List.{List, [], _∷_, _++_}
@@ -37,7 +38,7 @@ someVariable none = none
 someVariable (some []) = none
 someVariable (some (b ∷ bs)) = some (b ∷ bs)
 
--- the letter, a part of its own, and the numbers
+-- the letter, a part by itself, and the numbers
 abbrev pub lettered : Bool → List Piece → Option (List Bound)
 lettered u [] = none
 lettered u (p ∷ ps) = cond (eqb (length (p .bytes)) 1) (someVariable (boundOn u ps)) none
@@ -50,9 +51,9 @@ isVariableLine line = eqb (getD line 0 0) 97 || eqb (getD line 0 0) 101
 abbrev pub variableLine : List ℕ → Option (List Bound)
 variableLine line = lettered (eqb (getD line 0 0) 97) (partsFrom isBlank (trimmed isTail line) 0)
 
--- ---- all lines behind the header's
+-- ---- all lines after the header's
 
--- no token stands among some pieces
+-- no token is among some pieces
 abbrev pub noPiece : List Piece → Bool
 noPiece [] = true
 noPiece (p ∷ ps) = false
@@ -66,7 +67,7 @@ abbrev pub tokenLines : List Piece → List (List ℕ)
 tokenLines [] = []
 tokenLines (l ∷ ls) = cond (noToken (l .bytes)) (tokenLines ls) (l .bytes ∷ tokenLines ls)
 
--- those behind the header's line, of which the first piece is what is left
+-- those after the header's line, of which the first piece is what is left
 abbrev pub linesBehind : List Piece → List (List ℕ)
 linesBehind [] = []
 linesBehind (l ∷ ls) = tokenLines ls
@@ -82,7 +83,7 @@ unfoldable pub prefixOf : List (List ℕ) → Option (List Bound)
 prefixOf [] = some []
 prefixOf (l ∷ ls) = cond (isVariableLine l) (boundBefore (variableLine l) (prefixOf ls)) (some [])
 
--- the lines behind the prefix, which are the clauses'
+-- the lines after the prefix, which are the clauses'
 unfoldable pub behindPrefix : List (List ℕ) → List (List ℕ)
 behindPrefix [] = []
 behindPrefix (l ∷ ls) = cond (isVariableLine l) (behindPrefix ls) (l ∷ ls)

@@ -1,5 +1,6 @@
 -- What a QDIMACS text means: rows and the turns in which two sides fix its variables, or refusal 1, 2, 21, 5 or 22 (document 02, "Who can
 -- force the roster").
+-- Ask: Is 21 before 5 before 22?
 use Prim.Native.Nat.{ℕ, zero, suc, _-_}
 use mathlib.Core.Bool.{Bool, true, false, not, _&&_, _||_, cond}
 use mathlib.Core.List.{List, [], _∷_, _++_}
@@ -11,8 +12,8 @@ use Rattle.lexer.specs.Pieces.{linesFrom}
 use Rattle.refusals.specs.declared.Refusal.{Refusal}
 use Rattle.refusals.specs.declared.Refusal.the-variants.{Text, GameVariables, LineVariables}
 use Rattle.words.specs.declared.Row.{Row}
-use Rattle.header.specs.declared.Sizes.{Sizes}
-use Rattle.header.specs.declared.Sizes.the-variants.{Of, Refused}
+use Rattle.header.specs.declared.HeaderNumbers.{HeaderNumbers}
+use Rattle.header.specs.declared.HeaderNumbers.the-variants.{Of, Refused}
 use Rattle.header.specs.Header.{beyond, headerOf}
 use Rattle.clauses.specs.Clauses.{Reading, clauses, clauseRows, complete}
 use Rattle.qdimacs.specs.Lines.{Bound, linesBehind, prefixOf, behindPrefix, tokensOn}
@@ -28,7 +29,7 @@ abbrev pub onLine : ℕ → List Bound → Bool
 onLine v [] = false
 onLine v (b ∷ bs) = eqb (b .value) v || onLine v bs
 
--- each is one of 1 to n, and none stands again behind itself
+-- each is one of 1 to n, and none occurs twice
 abbrev pub proper : ℕ → List Bound → Bool
 proper n [] = true
 proper n (b ∷ bs) = not (beyond 1 n (b .minus) (b .value)) && not (onLine (b .value) bs) && proper n bs
@@ -70,12 +71,12 @@ gameOn n m (some bs) reading =
     (cond (proper n bs) (game (clauseRows reading) (gameTurns n bs)) (noGame LineVariables))
     (noGame Text)
 
--- what the lines behind the header say
+-- what the lines after the header say
 abbrev pub gameLines : ℕ → ℕ → List (List ℕ) → GameText
 gameLines n m lines = gameOn n m (prefixOf lines) (clauses n (tokensOn (behindPrefix lines)))
 
 -- "21 directly follows the header's 1 and 2 and comes before 5"
-abbrev pub gameBehind : List ℕ → ℕ → Sizes → GameText
+abbrev pub gameBehind : List ℕ → ℕ → HeaderNumbers → GameText
 gameBehind text end (Refused r) = noGame r
 gameBehind text end (Of n m) = cond (ltb mostGameVariables n) (noGame GameVariables) (gameLines n m (linesBehind (linesFrom text end)))
 

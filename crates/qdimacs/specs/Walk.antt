@@ -1,4 +1,4 @@
--- The lines of a text as code walks over them, remarks passed by. No entry's contract rests on this file.
+-- The lines of a text as code walks over them, remarks passed by.
 use Prim.Native.Nat.{ℕ}
 use mathlib.Core.Path.{_≡_}
 use mathlib.Core.Bool.{Bool, true, false, _&&_, _||_, cond}
@@ -12,12 +12,12 @@ use Rattle.lexer.specs.Pieces.{Piece}
 use Rattle.refusals.specs.declared.Refusal.the-variants.{GameVariables}
 use Rattle.qdimacs.specs.Lines.{Bound, noPiece, noToken, isVariableLine, variableLine}
 use Rattle.qdimacs.specs.Text.{GameText, noGame, mostGameVariables, gameLines}
-use Rattle.qdimacs.specs.Held.{boundAll}
+use Rattle.qdimacs.specs.TurnsInWords.{boundAll}
 use Rattle.qdimacs.specs.declared.Prefix.{Prefix}
 use Rattle.qdimacs.specs.declared.PrefixEnd.{PrefixEnd}
 use Rattle.qdimacs.specs.declared.PrefixEnd.the-variants.{At, Malformed}
 
--- the 0 is the line's last part, and a variable stands before it
+-- the 0 is the line's last part, and a variable comes before it
 abbrev pub lastPart : Bool → List Piece → Bool
 lastPart told ps = told && noPiece ps
 
@@ -43,11 +43,11 @@ lineCut out (b ∷ bs) = lineAhead out (isLineFeed b) b (lineCut out bs)
 abbrev pub passedBy : List ℕ → Bool
 passedBy line = isRemark line || noToken line
 
--- the lines behind the one at a place
+-- the lines after the one at a place
 abbrev pub linesPast : List ℕ → ℕ → List (List ℕ)
 linesPast text at = lineCut passedBy (drop at text) .later
 
--- the variables read and the lines behind the prefix, or none where a line is malformed
+-- the variables read and the lines after the prefix, or none where a line is malformed
 pub record Walked : Type 0 where
   pub prefix : Prefix
   pub rest : List (List ℕ)
@@ -61,11 +61,11 @@ walked n p [] = some (record { prefix = p; rest = [] })
 walked n p (l ∷ ls) =
     cond (isVariableLine l) (walkedOn n p (variableLine l) (λ q. walked n q ls)) (some (record { prefix = p; rest = l ∷ ls }))
 
--- what the prefix is answered with: its variables and a line's end behind which the clauses begin, or malformed
+-- what the prefix is answered with: its variables and the end of the line after which the clauses begin, or malformed
 abbrev pub PrefixEnds : List ℕ → Option Walked → PrefixEnd → Type 0
 PrefixEnds text w (At p at) = (w ≡ some (record { prefix = p; rest = linesPast text at })) × (lineCut passedBy (drop at text) .line ≡ [])
 PrefixEnds text w Malformed = w ≡ none
 
--- the game behind a header of n and m that ends at a place of the text as it stands
+-- the game after a header of n and m that ends at a place of the text as it is
 abbrev pub standingGame : ℕ → ℕ → List ℕ → ℕ → GameText
 standingGame n m text end = cond (ltb mostGameVariables n) (noGame GameVariables) (gameLines n m (linesPast text end))

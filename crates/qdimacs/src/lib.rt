@@ -1,5 +1,5 @@
 // Reads a QDIMACS text: a table of row words, and the turns in which two sides fix its variables.
-use header::Sizes;
+use header::HeaderNumbers;
 use lexer::kinds::Kind;
 use lexer::pieces::Piece;
 use numbers::Number;
@@ -15,7 +15,7 @@ ghost use Rattle.lexer.specs.Pieces.{partsFrom};
 ghost use Rattle.dimensions.specs.Sizes.{mostVariables, mostRows};
 ghost use Rattle.qdimacs.specs.Lines.{boundOn, someVariable, lettered};
 ghost use Rattle.qdimacs.specs.Text.{noGame, gameText};
-ghost use Rattle.qdimacs.specs.Held.{noVariable, improper, boundBy, lineHeld, lineRead, arranged, quantified};
+ghost use Rattle.qdimacs.specs.TurnsInWords.{noVariable, improper, boundBy, lineHeld, lineRead, arranged, quantified};
 ghost use Rattle.qdimacs.specs.Walk.{walked, linesPast, PrefixEnds, standingGame, lastPart};
 ghost use Rattle.qdimacs.specs.declared.PrefixLine.the-variants.{Malformed, Passed};
 
@@ -52,7 +52,7 @@ enum PrefixLine {
     Malformed,
 }
 
-// The variables of the prefix, and the end of a line behind which the clauses begin.
+// The variables of the prefix, and the end of a line after which the clauses begin.
 enum PrefixEnd {
     At(Prefix, usize),
     Malformed,
@@ -103,7 +103,7 @@ fn bind(p: Prefix, n: u8, universal: bool, minus: bool, v: u32) -> Prefix
     }
 }
 
-// A line whose 0 ends at a place: it has a variable, and nothing stands behind the 0.
+// A line whose 0 ends at a place: it has a variable, and nothing follows the 0.
 fn close(line: &[u8], at: usize, some: bool, p: Prefix) -> PrefixLine
     ensures { λ r. ⌜ r ≡ cond (lastPart some (partsFrom isBlank (now (line .entry)) at)) (Passed p) Malformed ⌝ }
 {
@@ -137,7 +137,7 @@ fn read_numbers(line: &[u8], start: usize, n: u8, before: Prefix, universal: boo
     }
 }
 
-// The variables of a line that begins with a letter, a part of its own; the line's tail is cut off.
+// The variables of a line that begins with a letter, a part by itself; the line's tail is cut off.
 fn read_variables(line: &[u8], n: u8, before: Prefix, universal: bool) -> PrefixLine
     ensures { λ r. ⌜ r ≡ lineHeld n before (lettered universal (partsFrom isBlank (now (line .entry)) 0)) ⌝ }
 {
@@ -171,7 +171,7 @@ fn read_line(line: &[u8], n: u8, before: Prefix) -> PrefixLine
     PrefixLine::Passed(before)
 }
 
-// The lines behind the one at a place, up to the clauses' first.
+// The lines after the one at a place, up to the clauses' first.
 fn read_prefix(text: &[u8], start: usize, n: u8) -> PrefixEnd
     ensures { λ r. ⌜ PrefixEnds (now (text .entry)) (walked n noVariable (linesPast (now (text .entry)) start)) r ⌝ }
 {
@@ -194,7 +194,7 @@ fn read_prefix(text: &[u8], start: usize, n: u8) -> PrefixEnd
     PrefixEnd::At(p, at)
 }
 
-// All turns: those of the variables that are not listed stand before the others, by number.
+// All turns: those of the variables that are not listed come before the others, by number.
 fn arrange(listed: u32, listed_turns: u64, n: u8) -> u64
     requires { ⌜ n ≤ 12 ⌝ }
     ensures { λ r. ⌜ r ≡ arranged listed «listed_turns» n ⌝ }
@@ -210,7 +210,7 @@ fn arrange(listed: u32, listed_turns: u64, n: u8) -> u64
     turns
 }
 
-// The game behind a header of n and m.
+// The game after a header of n and m.
 fn read_game(text: &[u8], end: usize, n: u8, m: u8) -> Quantified
     requires { ⌜ n ≤ mostVariables ⌝ }
     requires { ⌜ m ≤ mostRows ⌝ }
@@ -224,8 +224,9 @@ fn read_game(text: &[u8], end: usize, n: u8, m: u8) -> Quantified
     };
     let table = dimacs::read_body(text, at, n, m);
     let outcome = table.outcome;
-    if let Outcome::Refused(refusal) = outcome {
-        return refuse(refusal);
+    match outcome {
+        Outcome::Taken => {}
+        Outcome::Refused(refusal) => return refuse(refusal),
     }
     if !p.proper {
         return refuse(Refusal::LineVariables);
@@ -252,7 +253,7 @@ pub fn read(text: &[u8]) -> Quantified
     let end = header.end;
     let sizes = header.sizes;
     match sizes {
-        Sizes::Of(n, m) => read_game(text, end, n, m),
-        Sizes::Refused(refusal) => refuse(refusal),
+        HeaderNumbers::Of(n, m) => read_game(text, end, n, m),
+        HeaderNumbers::Refused(refusal) => refuse(refusal),
     }
 }

@@ -1,5 +1,5 @@
--- What holds of three texts that were read: n is at most 32, and refusals 1 to 4 do not apply to their tables, so that only the texts
--- and the line are ever turned back. From what the reader proves of accepted texts.
+-- What holds of three texts that were read: n is at most 32, and refusals 1 to 4 do not apply to their tables, so that only the texts and the line are ever
+-- refused. From what the reader proves of accepted texts.
 use mathlib.Core.Path.{_≡_, refl, sym, ap, _∙_, subst}
 use mathlib.Core.Bool.{true}
 use mathlib.Core.List.{List, [], _∷_}

@@ -1,5 +1,5 @@
--- What is known before all is read: where a text is refused, the reply does not rest on the texts behind it nor on the line.
--- So the pair program may answer an overlong text at once. By what the definition looks at first.
+-- What is known before all is read: where a text is refused, the reply does not rest on the texts after it nor on the line. So the pair program may answer an
+-- overlong text at once. By what the definition looks at first.
 use mathlib.Core.Path.{_≡_, refl, sym, ap, _∙_}
 use mathlib.Core.List.{List}
 use Prim.Native.Nat.{ℕ, _<_}

@@ -1,6 +1,5 @@
 -- What the pair program prints for two stations' texts, that of the public rest rules and a line of standard input: document 01, "Turned
--- back" and "Programs";
--- document 02, "Public rest rules".
+-- back" and "Programs"; document 02, "Public rest rules".
 use Prim.Native.Nat.{ℕ}
 use mathlib.Core.List.{List}
 use Rattle.refusals.specs.Checks.{given}

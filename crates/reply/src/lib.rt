@@ -10,7 +10,19 @@ ghost use mathlib.Core.Path.{_≡_};
 ghost use Prim.Native.Nat.{min};
 ghost use Rattle.text.specs.Texts.{textOf};
 ghost use Rattle.answers.specs.Printed.{solvedText};
-ghost use Rattle.reply.specs.Reply.{answered, replied, replyText};
+ghost use Rattle.reply.specs.Reply.{dimensionsOf, answered, replied, replyText};
+
+// n and the row counts of tables that were read.
+pub fn dimensions_of(tables: TextTables) -> Dimensions
+    ensures { λ r. ⌜ r ≡ dimensionsOf tables ⌝ }
+{
+    Dimensions {
+        n: tables.n,
+        left: tables.left_rows,
+        right: tables.right_rows,
+        public: tables.public_rows,
+    }
+}
 
 // The budgeted run over tables that were read, or 8.
 fn answer(tables: TextTables, budget: Budget) -> Solved
@@ -22,26 +34,22 @@ fn answer(tables: TextTables, budget: Budget) -> Solved
     match budget {
         Budget::Refused(refusal) => Solved::Refused(refusal),
         Budget::Of(steps) => {
-            let d = Dimensions {
-                n: tables.n,
-                left: tables.left_rows,
-                right: tables.right_rows,
-                public: tables.public_rows,
-            };
+            let d = dimensions_of(tables);
             indexed::solve_indexed(d, &left, &right, &public, steps)
         }
     }
 }
 
 // The refusal of the texts, or 8, or the answer.
-fn judge(tables: TextTables, line: &[u8]) -> Solved
+fn solve_texts(tables: TextTables, line: &[u8]) -> Solved
     ensures { λ r. ⌜ r ≡ replied tables (now (line .entry)) ⌝ }
 {
     let outcome = tables.outcome;
     match outcome {
-        Outcome::Refused(refusal) => Solved::Refused(refusal),
-        Outcome::Taken => answer(tables, lines::read_budget(line)),
+        Outcome::Taken => {}
+        Outcome::Refused(refusal) => return Solved::Refused(refusal),
     }
+    answer(tables, lines::read_budget(line))
 }
 
 // An answer or a refusal as it is printed.
@@ -59,5 +67,5 @@ pub fn reply(left: &[u8], right: &[u8], public: &[u8], line: &[u8]) -> Text
     ensures { λ r. ⌜ r ≡ textOf (replyText (now (left .entry)) (now (right .entry)) (now (public .entry)) (now (line .entry))) ⌝ }
 {
     let tables = dimacs::read_tables(left, right, public);
-    print(tables.n, judge(tables, line))
+    print(tables.n, solve_texts(tables, line))
 }

@@ -1,4 +1,4 @@
--- A text that grows at its end. Functions that compose texts go by it; no entry's contract rests on this file.
+-- A text that grows at its end. Functions that compose texts go by it.
 use Prim.Native.Nat.{ℕ, _+_}
 use mathlib.Core.Bool.{cond}
 use mathlib.Core.List.{List, [], _∷_}

@@ -24,7 +24,7 @@ impl Text {
         }
     }
 
-    // The text with one byte more; a full one stays as it is.
+    // The text and one more byte; a full one stays as it is.
     pub fn push(self, byte: u8) -> Self
         ensures { λ r. ⌜ r ≡ pushed self byte ⌝ }
     {
@@ -40,7 +40,7 @@ impl Text {
         }
     }
 
-    // The text with these bytes more, as many as have room.
+    // The text, then these bytes, as many as have room.
     pub fn append(self, more: &[u8]) -> Self
         ensures { λ r. ⌜ r ≡ appended self (now (more .entry)) ⌝ }
     {
@@ -53,7 +53,7 @@ impl Text {
         text
     }
 
-    // The text with a number's decimal digits more.
+    // The text, then a number's decimal digits.
     pub fn decimal(self, x: u64) -> Self
         ensures { λ r. ⌜ r ≡ appended self (Decimal.decimal x) ⌝ }
     {

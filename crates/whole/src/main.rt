@@ -1,56 +1,40 @@
 // The program that goes through the whole budget: reads left.cnf, right.cnf, public.cnf and the budget on standard input, each whole before
-// the next, and prints the reply. A text that is overlong, as one that cannot be read counts, is answered at once, whatever stands behind
-// it.
+// the next, and prints the reply.
+use input::Files;
 use libc::STDIN_FILENO;
 use libc::STDOUT_FILENO;
-ghost use Rattle.io.specs.Counts.{Counts};
+ghost use Prim.Native.Nat.{_≤_};
+ghost use lib.ListN.{length};
+ghost use Rattle.input.specs.Files.{FilesWithin};
 
-// One byte more than a text may have.
-const OVERLONG: usize = 65537;
-
-// Fills buf from a file. One that does not open has the descriptor -1, of which every read fails.
-fn read(path: &[u8], buf: &mut [u8]) -> usize
-    ensures { λ r. ⌜ Counts r (now (buf .exit)) ⌝ }
+// Prints the reply to the three files and a line.
+fn print(buf: &[u8], files: Files, line: &[u8])
+    requires { ⌜ FilesWithin files (length (now buf)) ⌝ }
 {
-    input::fill(os::open_read(path), buf, 0)
-}
-
-// Prints the reply to three texts and a line.
-fn print(left: &[u8], right: &[u8], public: &[u8], line: &[u8]) {
-    let text = whole_reply::reply_whole(left, right, public, line);
+    let left = files.left;
+    let right = files.right;
+    let public = files.public;
+    let text = whole_reply::reply_whole(&buf[..left], &buf[left..right], &buf[right..public], line);
     let bytes = text.bytes;
     let length = text.length;
     io::write_all(STDOUT_FILENO, &bytes[..length]);
 }
 
-// Reads the public text, then the line.
-fn read_public(left: &[u8], right: &[u8]) {
-    let mut public = [0u8; OVERLONG];
-    let n = read(b"public.cnf", &mut public);
-    if n == OVERLONG {
-        return print(left, right, &public[..n], b"");
+// Reads the line and prints the reply. An overlong file is answered at once, whatever the files past it and the line: they are empty then.
+fn answer(buf: &[u8], files: Files)
+    requires { ⌜ FilesWithin files (length (now buf)) ⌝ }
+{
+    if files.whole < 3 {
+        return print(buf, files, b"");
     }
     let mut line = [0u8; 101];
-    let end = input::read_line(STDIN_FILENO, &mut line);
-    print(left, right, &public[..n], &line[..end]);
+    let n = input::read_line(STDIN_FILENO, &mut line);
+    print(buf, files, &line[..n]);
 }
 
-// Reads the right text, then the rest.
-fn read_right(left: &[u8]) {
-    let mut right = [0u8; OVERLONG];
-    let n = read(b"right.cnf", &mut right);
-    if n == OVERLONG {
-        return print(left, &right[..n], b"", b"");
-    }
-    read_public(left, &right[..n]);
-}
-
-// Reads the left text, then the rest.
+// Reads the files, then the rest.
 fn main() {
-    let mut left = [0u8; OVERLONG];
-    let n = read(b"left.cnf", &mut left);
-    if n == OVERLONG {
-        return print(&left[..n], b"", b"", b"");
-    }
-    read_right(&left[..n]);
+    let mut buf = [0u8; input::ROOM];
+    let files = input::read_on(input::begin(), &mut buf);
+    answer(&buf, files);
 }

@@ -1,5 +1,5 @@
--- What is known before all is read: where a text is refused, what is printed does not rest on the texts behind it nor on the line, as for the pair program.
--- So the program may answer an overlong text at once.
+-- What is known before all is read: where a text is refused, what is printed does not rest on the texts after it nor on the line, as for the pair program. So
+-- the program may answer an overlong text at once.
 use mathlib.Core.Path.{_≡_, sym, ap, _∙_}
 use mathlib.Core.List.{List}
 use Prim.Native.Nat.{ℕ, _<_}

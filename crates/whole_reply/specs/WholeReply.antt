@@ -1,5 +1,6 @@
 -- What the program that goes through the whole budget prints for two stations' texts, that of the public rest rules and a line of standard
 -- input: document 02, "The count kept secret too".
+-- Ask: Is 23 before 7?
 use Prim.Native.Nat.{ℕ}
 use mathlib.Core.Path.{_≡_}
 use mathlib.Core.List.{List, [], _∷_}
@@ -44,6 +45,6 @@ wholeReplied t line = given (t .outcome) (wholeAnswered t (budgetOf line)) Refus
 unfoldable pub wholeText : List ℕ → List ℕ → List ℕ → List ℕ → List ℕ
 wholeText left right public line = let t = textTables left right public in solvedText (t .n) (wholeReplied t line)
 
--- of tables that were read none is turned back by 1 to 4
+-- of tables that were read none is refused by 1 to 4
 abbrev pub Readable : TextTables → Type 0
 Readable t = t .outcome ≡ Taken → outcome (tableChecks (dimensionsOf t) (tablesIn t)) ≡ Taken

@@ -63,27 +63,23 @@ fn answer(tables: TextTables, budget: Budget) -> Solved
             if whole_budget::MOST_BUDGET < steps {
                 return Solved::Refused(Refusal::WholeBudget);
             }
-            let d = Dimensions {
-                n: tables.n,
-                left: tables.left_rows,
-                right: tables.right_rows,
-                public: tables.public_rows,
-            };
+            let d = reply::dimensions_of(tables);
             go_through(d, &left, &right, &public, steps)
         }
     }
 }
 
 // The refusal of the texts, or 8, 23 or 7, or the answer.
-fn judge(tables: TextTables, line: &[u8]) -> Solved
+fn solve_texts(tables: TextTables, line: &[u8]) -> Solved
     requires { ⌜ Readable tables ⌝ }
     ensures { λ r. ⌜ r ≡ wholeReplied tables (now (line .entry)) ⌝ }
 {
     let outcome = tables.outcome;
     match outcome {
-        Outcome::Refused(refusal) => Solved::Refused(refusal),
-        Outcome::Taken => answer(tables, lines::read_budget(line)),
+        Outcome::Taken => {}
+        Outcome::Refused(refusal) => return Solved::Refused(refusal),
     }
+    answer(tables, lines::read_budget(line))
 }
 
 // What the program prints. For a file that it cannot read it hands over 65,537 bytes, an overlong text, which is 5.
@@ -91,5 +87,5 @@ pub fn reply_whole(left: &[u8], right: &[u8], public: &[u8], line: &[u8]) -> Tex
     ensures { λ r. ⌜ r ≡ textOf (wholeText (now (left .entry)) (now (right .entry)) (now (public .entry)) (now (line .entry))) ⌝ }
 {
     let tables = dimacs::read_tables(left, right, public);
-    reply::print(tables.n, judge(tables, line))
+    reply::print(tables.n, solve_texts(tables, line))
 }

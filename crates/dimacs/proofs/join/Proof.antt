@@ -102,18 +102,18 @@ pub join-spec : {M : Type 1} → statement M
 join-spec =
     tie.close
     (tie.spec
+    enum-told
     enum-known-left
     refuse-texts-requires
     returns
-    enum-told
+    enum-told-2
     enum-known-right
     refuse-texts-requires-2
     returns-2
-    enum-told-2
+    enum-told-3
     enum-known-public
     refuse-texts-requires-3
     returns-3
-    enum-told-3
     refuse-texts-requires-4
     returns-4
     accept-texts-requires

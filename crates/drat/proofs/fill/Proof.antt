@@ -1,4 +1,4 @@
--- `fill` meets its contract: accepted tables have 384 rows at most, one table's behind the other's.
+-- `fill` meets its contract: accepted tables have 384 rows at most, one table's after the other's.
 use mathlib.Core.Path.{refl}
 use native.Mathlib.Omega.{arith}
 use borrow.Author.Needs.{needs}

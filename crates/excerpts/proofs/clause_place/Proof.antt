@@ -4,21 +4,21 @@ use Rattle.refusals.specs.Checks.{outcome}
 use Rattle.refusals.specs.declared.Outcome.the-variants.{Taken}
 use Rattle.tables.specs.Tables.{Tables, allTables}
 use Rattle.excerpts.specs.Excerpts.{excerptChecks}
-use Rattle.excerpts.proofs.Places.{with-said, place-refused, left-place, right-place, some-row, left-room, right-room}
+use Rattle.excerpts.proofs.Places.{with-said, place-refused, left-place, right-place, some-row}
 use borrow.Author.Needs.{needs}
 use Rattle.excerpts.proofs.clause_place.Statement.{statement}
 use Rattle.excerpts.proofs.clause_place.Tie as tie
 
 -- where the tables are lent, before the texts
-abbrev tables-lent : tie.After-check → tie.After-shared-slice-known3
+abbrev tables-lent : tie.After-check-excerpt → tie.After-shared-slice-known3
 tables-lent c = c .before .before .before
 
 -- where the code starts, from the checks
-abbrev start : tie.After-check → tie.Start
+abbrev start : tie.After-check-excerpt → tie.Start
 start c = tables-lent c .before .before .before
 
 -- the checks, from the row not refused
-abbrev checked : tie.After-enum-told → tie.After-check
+abbrev checked : tie.After-enum-told → tie.After-check-excerpt
 checked c = c .before .before
 
 -- the tables
@@ -28,10 +28,10 @@ tables s = allTables (s .args .left .now) (s .args .right .now) (s .args .public
 -- the row is not refused
 taken : (c : tie.After-enum-told) → let s = start (checked c) in
     Taken ≡ outcome (excerptChecks (s .args .d) (tables s) (s .args .left-text .now) (s .args .right-text .now) (s .args .number))
-taken c = sym (c .enum-told .given .1) ∙ checked c .check .ensures .0
+taken c = sym (c .enum-told .given .1) ∙ checked c .check-excerpt .ensures .0
 
-check-requires : tie.Need-check-requires
-check-requires c κs = search needs
+check-excerpt-requires : tie.Need-check-excerpt-requires
+check-excerpt-requires c κs = search needs
 
 enum-known-checked : tie.Need-enum-known-checked
 enum-known-checked c = search needs
@@ -42,7 +42,7 @@ returns c =
     let s = start check in
     with-said (s .args .d) (tables s) (s .args .left-text .now) (s .args .right-text .now) (s .args .number) _
     (place-refused (s .args .d) (tables s) (s .args .left-text .now) (s .args .right-text .now) (s .args .number) _
-    (sym (c .before .checked .given .1) ∙ check .check .ensures .0))
+    (sym (c .before .checked .given .1) ∙ check .check-excerpt .ensures .0))
 
 enum-told : tie.Need-enum-told
 enum-told c = search needs
@@ -57,10 +57,7 @@ sub-i c =
     some-row (s .args .d) (tables s) (s .args .left-text .now) (s .args .right-text .now) (s .args .number) (taken told)
 
 find-place-requires : tie.Need-find-place-requires
-find-place-requires c κs =
-    let told = c .before .before in
-    let s = start (checked told) in
-    left-room (s .args .d) (tables s) (s .args .left-text .now) (s .args .right-text .now) (s .args .number) (taken told) (c .if1 .taken)
+find-place-requires c κs = search needs
 
 returns-2 : tie.Need-returns-2
 returns-2 c =
@@ -77,10 +74,7 @@ sub-i-3 : tie.Need-sub-i-3
 sub-i-3 c = search needs
 
 find-place-requires-2 : tie.Need-find-place-requires-2
-find-place-requires-2 c κs =
-    let told = c .before .before in
-    let s = start (checked told) in
-    right-room (s .args .d) (tables s) (s .args .left-text .now) (s .args .right-text .now) (s .args .number) (taken told) (c .if1 .left)
+find-place-requires-2 c κs = search needs
 
 returns-3 : tie.Need-returns-3
 returns-3 c =
@@ -94,10 +88,10 @@ pub clause-place-spec : {M : Type 1} → statement M
 clause-place-spec =
     tie.close
     (tie.spec
-    check-requires
+    check-excerpt-requires
+    enum-told
     enum-known-checked
     returns
-    enum-told
     cast-left-rows
     sub-i
     find-place-requires

@@ -1,4 +1,7 @@
 -- `find_place` meets its contract: the clause that is found has the row's place in the text.
+use mathlib.Core.Path.{ap, _∙_}
+use Rattle.words.specs.declared.Row.{Row}
+use Rattle.excerpts.specs.PlaceByWords.{placeHeld}
 use Rattle.excerpts.proofs.Places.{ordered, place-found}
 use borrow.Author.Needs.{needs}
 use Rattle.excerpts.proofs.find_place.Statement.{statement}
@@ -11,50 +14,24 @@ start c = c .before .before .before
 find-clause-requires : tie.Need-find-clause-requires
 find-clause-requires c κs = search needs
 
-mul-place-held : tie.Need-mul-place-held
-mul-place-held c = search needs
-
-mul-place-held-2 : tie.Need-mul-place-held-2
-mul-place-held-2 c = search needs
-
-shared-slice-read-place-held : tie.Need-shared-slice-read-place-held
-shared-slice-read-place-held c = search needs
-
-mul-place-held-3 : tie.Need-mul-place-held-3
-mul-place-held-3 c = search needs
-
-add-place-held : tie.Need-add-place-held
-add-place-held c = search needs
-
-mul-place-held-4 : tie.Need-mul-place-held-4
-mul-place-held-4 c = search needs
-
-shared-slice-read-place-held-2 : tie.Need-shared-slice-read-place-held-2
-shared-slice-read-place-held-2 c = search needs
+row-at-requires : tie.Need-row-at-requires
+row-at-requires c κs = search needs
 
 place-held-requires : tie.Need-place-held-requires
 place-held-requires c κs =
-    let found = c .before .before in
+    let found = c .before in
     let a = start found .args in
     ordered (a .station) (a .words .now) (a .text .now) (a .i) _ (found .find-clause .ensures)
 
 returns : tie.Need-returns
 returns c =
-    let found = c .before .before .before in
+    let row = c .before in
+    let found = row .before in
     let a = start found .args in
-    place-found (a .station) (a .words .now) (a .text .now) (a .i) _ (found .find-clause .ensures) _ (c .place-held .ensures)
+    place-found (a .station) (a .words .now) (a .text .now) (a .i) _ (found .find-clause .ensures) _
+    (c .place-held .ensures ∙ ap (λ (r : Row). placeHeld (a .station) (found .find-clause .result) (r .positive) (r .negative)) (row .row-at .ensures))
 
 pub find-place-spec : {M : Type 1} → statement M
 find-place-spec =
     tie.close
-    (tie.spec
-    find-clause-requires
-    mul-place-held
-    mul-place-held-2
-    shared-slice-read-place-held
-    mul-place-held-3
-    add-place-held
-    mul-place-held-4
-    shared-slice-read-place-held-2
-    place-held-requires
-    returns)
+    (tie.spec find-clause-requires row-at-requires place-held-requires returns)

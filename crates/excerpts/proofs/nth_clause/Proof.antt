@@ -1,4 +1,4 @@
--- `nth_clause` meets its contract: with each clause that is read one is left behind. The measure is how many are still to be passed.
+-- `nth_clause` meets its contract: with each clause that is read one more is passed. The measure is how many are still to be passed.
 use mathlib.Core.Path.{sym, _∙_}
 use Prim.Native.Nat.{_-_}
 use Rattle.excerpts.proofs.Clauses.{Skipping, none-skipped, one-skipped, none-left, all-skipped}

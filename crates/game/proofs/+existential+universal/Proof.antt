@@ -6,7 +6,7 @@ use mathlib.Core.Bool.{not}
 use native.Mathlib.Omega.{arith}
 use Rattle.words.specs.Sets.{bit}
 use Rattle.scan.specs.Rules.{rowsIn}
-use Rattle.qdimacs.specs.Held.{turnsIn}
+use Rattle.qdimacs.specs.TurnsInWords.{turnsIn}
 use Rattle.game.proofs.Laws.{forced-cut}
 use Rattle.game.proofs.Turns.{same-flags, other-flags, apart-agrees, fewer, none-left, ready-true, ready-false}
 use Rattle.game.proofs.Turns.{existential-first, existential-second, universal-first, universal-second}

@@ -66,9 +66,9 @@ answer-spec =
     tie.close
     (tie.spec
     read-requires
+    enum-told
     enum-known-outcome
     returns
-    enum-told
     cast-length
     mul-length
     array-share-prefix-words

@@ -41,8 +41,8 @@ returns-2 c =
     let read = c .before .before in
     sym (no-m (start (first read) .args .least) _ _ (sym (read .read-number2 .ensures) ∙ c .enum-told2 .given .1))
 
-judge-requires : tie.Need-judge-requires
-judge-requires c κs = search needs
+check-limits-requires : tie.Need-check-limits-requires
+check-limits-requires c κs = search needs
 
 returns-3 : tie.Need-returns-3
 returns-3 c =
@@ -50,7 +50,7 @@ returns-3 c =
     let read-m = read-t .before .before in
     let read-s = read-m .before .before in
     let read-n = first read-m in
-    c .judge .ensures
+    c .check-limits .ensures
     ∙ both (start read-n .args .least) _ _ (omega arith) _ _ _ _ (sym (read-n .read-number .ensures) ∙ read-s .s .given .1)
     (sym (read-m .read-number2 .ensures) ∙ read-t .t .given .1)
 
@@ -66,5 +66,5 @@ read-both-spec =
     enum-known-t
     enum-told-2
     returns-2
-    judge-requires
+    check-limits-requires
     returns-3)

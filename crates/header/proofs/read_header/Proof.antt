@@ -7,7 +7,7 @@ use lib.ListN.{length}
 use borrow.Author.Needs.{needs}
 use Rattle.lexer.specs.Bytes.{isLineFeed}
 use Rattle.lexer.proofs.Runs.{end-ge, end-le}
-use Rattle.header.specs.declared.Sizes.{Sizes}
+use Rattle.header.specs.declared.HeaderNumbers.{HeaderNumbers}
 use Rattle.header.proofs.Lines.{header-at, said}
 use Rattle.header.proofs.read_header.Statement.{statement}
 use Rattle.header.proofs.read_header.Tie as tie
@@ -49,7 +49,7 @@ returns c =
     let found = at-find .before .find-header in
     let least = start at-find .args .least in
     said least _ _
-    (ap (λ (x : Sizes). record { sizes = x; end = at-find .find .result }) (c .read-line .ensures)
+    (ap (λ (x : HeaderNumbers). record { sizes = x; end = at-find .find .result }) (c .read-line .ensures)
     ∙ sym (header-at _ (found .result) least (at-find .find .result) (at-find .find .ensures) (found .ensures .0)) ∙ found .ensures .1 least)
 
 pub read-header-spec : {M : Type 1} → statement M

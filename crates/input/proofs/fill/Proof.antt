@@ -19,11 +19,8 @@ Inv-loop fd buf₀ from done₀ buf done = (done ≤ length buf) × (length buf 
 abbrev μ-loop : tie.MeasureT-loop
 μ-loop fd buf₀ from done₀ buf done = length buf - done
 
-returns : tie.Need-returns Inv-loop μ-loop
-returns c = (simp length-take (omega arith), refl)
-
 loop-holds : tie.Need-loop-holds Inv-loop μ-loop
-loop-holds c = search needs
+loop-holds c = (search needs, refl, omega arith, refl)
 
 sub-read : tie.Need-sub-read Inv-loop μ-loop
 sub-read c = search needs
@@ -55,20 +52,20 @@ close-requires c κs = search needs
 same-length : tie.Need-same-length Inv-loop μ-loop
 same-length c = search needs
 
-returns-2 : tie.Need-returns-2 Inv-loop μ-loop
-returns-2 c =
+returns : tie.Need-returns Inv-loop μ-loop
+returns c =
     let count = c .before .before .before in
     let read = count .before .before .before .before .before in
-    (simp length-take (omega arith), kept _ _ _ _ _ (read .before .before .before .loop .inv))
+    (simp length-take (omega arith), (omega arith, kept _ _ _ _ _ (read .before .before .before .loop .inv)))
 
 same-length-2 : tie.Need-same-length-2 Inv-loop μ-loop
 same-length-2 c = search needs
 
-returns-3 : tie.Need-returns-3 Inv-loop μ-loop
-returns-3 c =
+returns-2 : tie.Need-returns-2 Inv-loop μ-loop
+returns-2 c =
     let count = c .before .before .before in
     let read = count .before .before .before .before .before in
-    (simp length-take (omega arith), kept _ _ _ _ _ (read .before .before .before .loop .inv))
+    (simp length-take (omega arith), (omega arith, kept _ _ _ _ _ (read .before .before .before .loop .inv)))
 
 add-done : tie.Need-add-done Inv-loop μ-loop
 add-done c = search needs
@@ -85,8 +82,8 @@ loop-again c =
 same-length-3 : tie.Need-same-length-3 Inv-loop μ-loop
 same-length-3 c = search needs
 
-returns-4 : tie.Need-returns-4 Inv-loop μ-loop
-returns-4 c = (simp length-take (omega arith), c .before .loop .inv .3)
+returns-3 : tie.Need-returns-3 Inv-loop μ-loop
+returns-3 c = (simp length-take (omega arith), (omega arith, c .before .loop .inv .3))
 
 pub fill-spec : {M : Type 1} → statement M
 fill-spec =
@@ -94,7 +91,6 @@ fill-spec =
     (tie.spec
     Inv-loop
     μ-loop
-    returns
     loop-holds
     sub-read
     part-read-start
@@ -106,11 +102,11 @@ fill-spec =
     count-requires
     close-requires
     same-length
-    returns-2
+    returns
     same-length-2
-    returns-3
+    returns-2
     add-done
     loop-less
     loop-again
     same-length-3
-    returns-4)
+    returns-3)

@@ -1,4 +1,4 @@
--- `read_line` meets its contract. The invariant: what was read is within the buffer and has no LF, and the bytes behind are as they were.
+-- `read_line` meets its contract. The invariant: what was read is within the buffer and has no LF, and the bytes after are as they were.
 use Prim.Native.Nat.{_≤_, _-_}
 use mathlib.Core.Path.{_≡_, refl}
 use lib.ListN.{length, take, drop, length-set, length-take}

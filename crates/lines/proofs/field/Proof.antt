@@ -38,14 +38,14 @@ shared-slice-read-b c = search needs
 is-digit-requires : tie.Need-is-digit-requires Inv-loop μ-loop
 is-digit-requires c κs = search needs
 
-closed-requires : tie.Need-closed-requires Inv-loop μ-loop
-closed-requires c κs = omega arith
+field-end-requires : tie.Need-field-end-requires Inv-loop μ-loop
+field-end-requires c κs = omega arith
 
 returns : tie.Need-returns Inv-loop μ-loop
 returns c =
     let at = turn (c .before .before) in
     let start = entered at .args in
-    c .closed .ensures
+    c .field-end .ensures
     ∙ ends (start .line .now) (start .at) (start .closing) (at .loop .i) (at .loop .value) (omega arith) (at .loop .inv .1 .1)
     (sym (c .before .before .is-digit .ensures) ∙ not-true _ (c .before .if1 .taken)) (at .loop .inv .1 .0)
 
@@ -109,7 +109,7 @@ field-spec =
     loop-holds
     shared-slice-read-b
     is-digit-requires
-    closed-requires
+    field-end-requires
     returns
     sub-digit
     cast-digit

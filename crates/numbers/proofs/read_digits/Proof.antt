@@ -6,7 +6,7 @@ use native.Mathlib.Omega.{arith}
 use borrow.Author.Needs.{needs}
 use borrow.Author.Tests.{not-true, not-false}
 use Rattle.numbers.specs.Numbers.{digitsAfter, decimalOf}
-use Rattle.numbers.specs.Held.{digitsHeld}
+use Rattle.numbers.specs.CappedNumbers.{digitsHeld}
 use Rattle.numbers.proofs.Decimals.{empty, leading, plain, no-digit, one-digit, digit-low, no-more}
 use Rattle.numbers.proofs.read_digits.Statement.{statement}
 use Rattle.numbers.proofs.read_digits.Tie as tie

@@ -1,7 +1,7 @@
--- `read_number` meets its contract: the digits behind the sign are held, and the sign is added.
+-- `read_number` meets its contract: the digits after the sign are held, and the sign is added.
 use mathlib.Core.Path.{sym, ap, _∙_}
 use borrow.Author.Needs.{needs}
-use Rattle.numbers.specs.Held.{numberHeld}
+use Rattle.numbers.specs.CappedNumbers.{numberHeld}
 use Rattle.numbers.proofs.Decimals.{number-empty, plain-value, plain-none, minus-none, minus-zero, minus-value}
 use Rattle.numbers.proofs.read_number.Statement.{statement}
 use Rattle.numbers.proofs.read_number.Tie as tie

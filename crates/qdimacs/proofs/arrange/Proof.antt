@@ -7,7 +7,7 @@ use native.Mathlib.Omega.{arith}
 use borrow.Author.Needs.{needs}
 use borrow.Author.Tests.{not-true, not-false}
 use Rattle.words.specs.Sets.{bit}
-use Rattle.qdimacs.specs.Held.{arranged}
+use Rattle.qdimacs.specs.TurnsInWords.{arranged}
 use Rattle.qdimacs.proofs.arrange.Statement.{statement}
 use Rattle.qdimacs.proofs.arrange.Tie as tie
 

@@ -5,7 +5,7 @@ use Prim.Native.Nat.{_-_}
 use native.Mathlib.Omega.{arith}
 use borrow.Author.Needs.{needs}
 use Rattle.words.specs.Sets.{bit}
-use Rattle.qdimacs.specs.Held.{isFull}
+use Rattle.qdimacs.specs.TurnsInWords.{isFull}
 use Rattle.qdimacs.proofs.Bindings.{beyond-spoils, again-spoils, some-value, made-small, made-fits, unit-fits, made-is}
 use Rattle.qdimacs.proofs.bind.Statement.{statement}
 use Rattle.qdimacs.proofs.bind.Tie as tie

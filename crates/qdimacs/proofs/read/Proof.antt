@@ -4,7 +4,7 @@ use borrow.Author.Needs.{needs}
 use Rattle.refusals.proofs.Outcomes.{held-said}
 use Rattle.dimacs.proofs.Texts.{limits}
 use Rattle.qdimacs.specs.declared.Quantified.{Quantified}
-use Rattle.qdimacs.specs.Held.{quantified}
+use Rattle.qdimacs.specs.TurnsInWords.{quantified}
 use Rattle.qdimacs.proofs.Games.{overlong, by-header}
 use Rattle.qdimacs.proofs.read.Statement.{statement}
 use Rattle.qdimacs.proofs.read.Tie as tie

@@ -1,10 +1,10 @@
--- `read_game` meets its contract: prefix and clauses lead where the definition's do, 22 behind 5.
+-- `read_game` meets its contract: prefix and clauses lead where the definition's do, 22 after 5.
 use mathlib.Core.Path.{sym, ap, _∙_, subst}
 use borrow.Author.Needs.{needs}
 use borrow.Author.Tests.{not-true, not-false}
 use Rattle.clauses.specs.Clauses.{Reading}
 use Rattle.clauses.specs.First.{clausesFrom}
-use Rattle.qdimacs.specs.Held.{quantified, noVariable}
+use Rattle.qdimacs.specs.TurnsInWords.{quantified, noVariable}
 use Rattle.qdimacs.specs.Walk.{walked, linesPast, PrefixEnds}
 use Rattle.qdimacs.specs.declared.PrefixEnd.{PrefixEnd}
 use Rattle.qdimacs.proofs.Prefixes.{arranged-all}
@@ -134,10 +134,10 @@ read-game-spec =
     refuse-requires-2
     returns-2
     read-body-requires
+    enum-told-2
     enum-known-outcome
     refuse-requires-3
     returns-3
-    enum-told-2
     refuse-requires-4
     returns-4
     arrange-requires

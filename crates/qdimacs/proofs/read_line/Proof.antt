@@ -12,7 +12,7 @@ use Rattle.lexer.specs.Pieces.{partsFrom}
 use Rattle.lexer.proofs.Cuts.{found, missing}
 use Rattle.lexer.proofs.Trims.{trimmed-take, trimmed-le}
 use Rattle.qdimacs.specs.Lines.{lettered}
-use Rattle.qdimacs.specs.Held.{lineHeld}
+use Rattle.qdimacs.specs.TurnsInWords.{lineHeld}
 use Rattle.qdimacs.proofs.OneLine.{empty-passed, remark-passed, blank-passed, clauses-line, letter-line}
 use Rattle.qdimacs.proofs.read_line.Statement.{statement}
 use Rattle.qdimacs.proofs.read_line.Tie as tie

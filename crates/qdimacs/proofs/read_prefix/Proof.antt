@@ -1,4 +1,4 @@
--- `read_prefix` meets its contract: with each line passed the lines behind it lead to what all lead to.
+-- `read_prefix` meets its contract: with each line passed the lines after it lead to what all lead to.
 use mathlib.Core.Path.{sym, _∙_}
 use mathlib.Core.Bool.{not}
 use Prim.Native.Nat.{_+_, _-_, _≤_}

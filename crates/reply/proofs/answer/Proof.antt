@@ -1,6 +1,8 @@
 -- `answer` meets its contract: each case of the budget is the definition's.
 use mathlib.Core.Path.{sym, ap, _∙_}
-use Rattle.reply.specs.Reply.{answered}
+use Rattle.dimensions.specs.declared.Dimensions.{Dimensions}
+use Rattle.solver.specs.Entries.{solved}
+use Rattle.reply.specs.Reply.{tablesIn, answered}
 use borrow.Author.Needs.{needs}
 use Rattle.reply.proofs.answer.Statement.{statement}
 use Rattle.reply.proofs.answer.Tie as tie
@@ -14,6 +16,9 @@ enum-known-budget c = search needs
 
 enum-known-budget-2 : tie.Need-enum-known-budget-2
 enum-known-budget-2 c = search needs
+
+dimensions-of-requires : tie.Need-dimensions-of-requires
+dimensions-of-requires c κs = search needs
 
 slice-aggregate-solve-indexed : tie.Need-slice-aggregate-solve-indexed
 slice-aggregate-solve-indexed c = search needs
@@ -34,8 +39,11 @@ returns c =
 
 returns-2 : tie.Need-returns-2
 returns-2 c =
-    let taken = c .before .before .before .before .before in
-    c .solve-indexed .ensures .0 ∙ sym (ap (answered (start (taken .before .before) .args .tables)) (taken .budget2 .given .1))
+    let dims = c .before .before .before .before in
+    let taken = dims .before .before in
+    let t = start (taken .before .before) .args .tables in
+    c .solve-indexed .ensures .0 ∙ ap (λ (d : Dimensions). solved d (tablesIn t) (taken .budget2 .given .0 .0)) (dims .dimensions-of .ensures)
+    ∙ sym (ap (answered t) (taken .budget2 .given .1))
 
 pub answer-spec : {M : Type 1} → statement M
 answer-spec =
@@ -43,6 +51,7 @@ answer-spec =
     (tie.spec
     enum-known-budget
     enum-known-budget-2
+    dimensions-of-requires
     slice-aggregate-solve-indexed
     slice-aggregate-solve-indexed-2
     slice-aggregate-solve-indexed-3

@@ -18,8 +18,8 @@ start c = c .before .before .before .before .before
 read-tables-requires : tie.Need-read-tables-requires
 read-tables-requires c κs = search needs
 
-judge-requires : tie.Need-judge-requires
-judge-requires c κs = search needs
+solve-texts-requires : tie.Need-solve-texts-requires
+solve-texts-requires c κs = search needs
 
 print-requires : tie.Need-print-requires
 print-requires c κs = search needs
@@ -31,10 +31,10 @@ returns c =
     let a = start read .args in
     let tables = read .read-tables .result in
     c .print .ensures
-    ∙ ap (λ (s : Solved). textOf (solvedText (min (tables .n) 32) s)) (c .before .judge .ensures)
+    ∙ ap (λ (s : Solved). textOf (solvedText (min (tables .n) 32) s)) (c .before .solve-texts .ensures)
     ∙ ap textOf
     (printed (a .left .now) (a .right .now) (a .public .now) tables (replied tables (a .line .now)) (read .read-tables .ensures .0)
     ∙ ap (λ (t : TextTables). solvedText (t .n) (replied t (a .line .now))) (read .read-tables .ensures .0))
 
 pub reply-spec : {M : Type 1} → statement M
-reply-spec = tie.close (tie.spec read-tables-requires judge-requires print-requires returns)
+reply-spec = tie.close (tie.spec read-tables-requires solve-texts-requires print-requires returns)

@@ -1,6 +1,16 @@
 -- `answer` meets its contract: each case of the budget is the definition's, and 23 comes before 7.
-use mathlib.Core.Path.{sym, ap, _∙_}
-use Rattle.whole_reply.specs.WholeReply.{wholeAnswered}
+use Prim.Native.Nat.{ℕ}
+use mathlib.Core.Path.{_≡_, sym, ap, subst, _∙_}
+use Rattle.refusals.specs.Checks.{outcome, given}
+use Rattle.refusals.specs.declared.Outcome.the-variants.{Taken}
+use Rattle.dimensions.specs.declared.Dimensions.{Dimensions}
+use Rattle.tables.specs.Acceptance.{tableChecks}
+use Rattle.dimacs.specs.declared.TextTables.{TextTables}
+use Rattle.solver.specs.declared.Solved.{Solved}
+use Rattle.solver.specs.declared.Solved.the-variants.{Of, Refused}
+use Rattle.reply.specs.Reply.{tablesIn}
+use Rattle.whole_budget.specs.Applications.{wholeAnswer}
+use Rattle.whole_reply.specs.WholeReply.{ceilingChecks, wholeAnswered}
 use Rattle.whole_reply.proofs.Served.{budget-above, budget-within}
 use borrow.Author.Needs.{needs}
 use Rattle.whole_reply.proofs.answer.Statement.{statement}
@@ -14,6 +24,10 @@ start c = c .before .before .before
 abbrev bound : tie.After-known-told2 → tie.After-budget2
 bound c = c .before
 
+-- what the run over these tables gives, by their dimensions
+abbrev through : TextTables → ℕ → Dimensions → Solved
+through t steps d = given (outcome (ceilingChecks d)) (Of (wholeAnswer d (tablesIn t) steps)) Refused
+
 enum-known-budget : tie.Need-enum-known-budget
 enum-known-budget c = search needs
 
@@ -24,6 +38,9 @@ returns : tie.Need-returns
 returns c =
     let b = bound (c .before) in
     budget-above (start (b .before .before) .args .tables) _ _ (b .budget2 .given .1) (c .if1 .taken)
+
+dimensions-of-requires : tie.Need-dimensions-of-requires
+dimensions-of-requires c κs = search needs
 
 slice-aggregate-go-through : tie.Need-slice-aggregate-go-through
 slice-aggregate-go-through c = search needs
@@ -36,8 +53,12 @@ slice-aggregate-go-through-3 c = search needs
 
 go-through-requires : tie.Need-go-through-requires
 go-through-requires c κs =
-    let e = c .before .before .before in
-    (start (bound (e .before) .before .before) .pre, e .if1 .left)
+    let dims = c .before .before .before in
+    let e = dims .before in
+    let s = start (bound (e .before) .before .before) in (
+      subst (λ (d : Dimensions). outcome (tableChecks d (tablesIn (s .args .tables))) ≡ Taken) (sym (dims .dimensions-of .ensures)) (s .pre),
+      e .if1 .left,
+    )
 
 returns-2 : tie.Need-returns-2
 returns-2 c =
@@ -46,9 +67,12 @@ returns-2 c =
 
 returns-3 : tie.Need-returns-3
 returns-3 c =
-    let e = c .before .before .before .before in
+    let dims = c .before .before .before .before in
+    let e = dims .before in
     let b = bound (e .before) in
-    c .go-through .ensures ∙ budget-within (start (b .before .before) .args .tables) _ _ (b .budget2 .given .1) (e .if1 .left)
+    let t = start (b .before .before) .args .tables in
+    c .go-through .ensures ∙ ap (through t (b .budget2 .given .0 .0)) (dims .dimensions-of .ensures)
+    ∙ budget-within t _ _ (b .budget2 .given .1) (e .if1 .left)
 
 pub answer-spec : {M : Type 1} → statement M
 answer-spec =
@@ -57,6 +81,7 @@ answer-spec =
     enum-known-budget
     enum-known-budget-2
     returns
+    dimensions-of-requires
     slice-aggregate-go-through
     slice-aggregate-go-through-2
     slice-aggregate-go-through-3

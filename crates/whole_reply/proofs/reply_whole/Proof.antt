@@ -20,8 +20,8 @@ start c = c .before .before .before .before .before
 read-tables-requires : tie.Need-read-tables-requires
 read-tables-requires c κs = search needs
 
-judge-requires : tie.Need-judge-requires
-judge-requires c κs =
+solve-texts-requires : tie.Need-solve-texts-requires
+solve-texts-requires c κs =
     let a = start c .args in
     let t = textTables (a .left .now) (a .right .now) (a .public .now) in
     subst Readable (sym (c .read-tables .ensures .0)) (λ taken. tables-taken t (accepted-texts (a .left .now) (a .right .now) (a .public .now) taken))
@@ -36,10 +36,10 @@ returns c =
     let a = start read .args in
     let tables = read .read-tables .result in
     c .print .ensures
-    ∙ ap (λ (s : Solved). textOf (solvedText (min (tables .n) 32) s)) (c .before .judge .ensures)
+    ∙ ap (λ (s : Solved). textOf (solvedText (min (tables .n) 32) s)) (c .before .solve-texts .ensures)
     ∙ ap textOf
     (printed (a .left .now) (a .right .now) (a .public .now) tables (wholeReplied tables (a .line .now)) (read .read-tables .ensures .0)
     ∙ ap (λ (t : TextTables). solvedText (t .n) (wholeReplied t (a .line .now))) (read .read-tables .ensures .0))
 
 pub reply-whole-spec : {M : Type 1} → statement M
-reply-whole-spec = tie.close (tie.spec read-tables-requires judge-requires print-requires returns)
+reply-whole-spec = tie.close (tie.spec read-tables-requires solve-texts-requires print-requires returns)

@@ -1,4 +1,4 @@
--- `add` meets its contract: two stores behind the rows.
+-- `add` meets its contract: two stores after the rows.
 use native.Mathlib.Omega.{arith}
 use lib.ListN.{length-set}
 use Rattle.drat.proofs.Present.{one-more}

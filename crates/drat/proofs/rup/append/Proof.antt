@@ -1,8 +1,9 @@
--- `append` meets its contract. The loop's invariant: so many rows of the table stand behind those that were there.
+-- `append` meets its contract. The loop's invariant: the first i rows of the table come after those that were there.
 use mathlib.Core.Path.{refl, ap, _∙_}
 use mathlib.Core.List.{[], _∷_, _++_}
 use Prim.Native.Nat.{_+_, _-_, _≤_}
 use native.Mathlib.Omega.{arith}
+use borrow.Author.Needs.{needs}
 use Rattle.words.specs.declared.Row.{Row}
 use Rattle.tables.specs.Rows.{rowsFrom}
 use Rattle.drat.proofs.Present.{Appended, append-start, append-more, append-end}
@@ -19,7 +20,7 @@ loop-holds : tie.Need-loop-holds Inv-loop μ-loop
 loop-holds c = let a = c .before .before .args in (omega arith, append-start (a .words .now) (a .count) (a .table .now))
 
 row-at-requires : tie.Need-row-at-requires Inv-loop μ-loop
-row-at-requires c κs = omega arith
+row-at-requires c κs = search needs
 
 add-add : tie.Need-add-add Inv-loop μ-loop
 add-add c = omega arith

@@ -1,4 +1,4 @@
--- `trim` meets its contract: what stands before `end`, trimmed, is the text trimmed.
+-- `trim` meets its contract: what comes before `end`, trimmed, is the text trimmed.
 use mathlib.Core.Path.{_≡_, sym, ap, _∙_}
 use Prim.Native.Nat.{ℕ, _≤_}
 use native.Mathlib.Omega.{arith}

@@ -1,4 +1,4 @@
--- `token_start` meets its contract: from `i` on stands the token that stands from `at` on.
+-- `token_start` meets its contract: the first token from `i` on is the first from `at` on.
 use mathlib.Core.Path.{_≡_, refl, sym, ap, _∙_}
 use Prim.Native.Nat.{_-_, _≤_}
 use native.Mathlib.Omega.{arith}

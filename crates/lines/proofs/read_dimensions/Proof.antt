@@ -1,4 +1,4 @@
--- `read_size` meets its contract: each place found gives the definition's field.
+-- `read_dimensions` meets its contract: each place found gives the definition's field.
 use mathlib.Core.Path.{_≡_, sym, ap, _∙_}
 use mathlib.Core.Bool.{cond}
 use mathlib.Core.List.{List}
@@ -7,14 +7,14 @@ use lib.Dec.{leb}
 use lib.ListN.{drop}
 use borrow.Author.Tests.{lt-leb, le-leb}
 use Rattle.refusals.specs.declared.Refusal.the-variants.{NumberLine}
-use Rattle.lines.specs.declared.Size.the-variants.{Of, Refused}
-use Rattle.lines.specs.Numbers.{fieldOf, sizeOf}
+use Rattle.lines.specs.declared.DimensionLine.the-variants.{Of, Refused}
+use Rattle.lines.specs.Numbers.{fieldOf, dimensionLineOf}
 use Rattle.lines.specs.Places.{secondFrom, thirdFrom, fourthFrom}
 use Rattle.lines.proofs.Readings.{lost, no-first, one-first, one-second, one-third, one-fourth}
 use Rattle.lines.proofs.Said.{size-said}
 use borrow.Author.Needs.{needs}
-use Rattle.lines.proofs.read_size.Statement.{statement}
-use Rattle.lines.proofs.read_size.Tie as tie
+use Rattle.lines.proofs.read_dimensions.Statement.{statement}
+use Rattle.lines.proofs.read_dimensions.Tie as tie
 
 -- ---- the places of the code, each from the one behind it
 
@@ -50,17 +50,17 @@ behindLeft c = c .left .given .0 .1 .0
 abbrev behindRight : tie.After-right → ℕ
 behindRight c = c .right .given .0 .1 .0
 
-after-first : (c : tie.After-n) → sizeOf (lineOf c) ≡ secondFrom (lineOf c) (nOf c) (fieldOf 32 (drop (behindN c) (lineOf c)))
+after-first : (c : tie.After-n) → dimensionLineOf (lineOf c) ≡ secondFrom (lineOf c) (nOf c) (fieldOf 32 (drop (behindN c) (lineOf c)))
 after-first c = one-first _ _ _ (sym (c .before .before .field .ensures) ∙ c .n .given .1)
 
 after-second : (c : tie.After-left) → let first = firstOf c in
-    sizeOf (lineOf first) ≡ thirdFrom (lineOf first) (nOf first) (leftOf c) (fieldOf 32 (drop (behindLeft c) (lineOf first)))
+    dimensionLineOf (lineOf first) ≡ thirdFrom (lineOf first) (nOf first) (leftOf c) (fieldOf 32 (drop (behindLeft c) (lineOf first)))
 after-second c =
     let first = firstOf c in
     after-first first ∙ one-second (lineOf first) (nOf first) (behindN first) _ _ (sym (c .before .before .field2 .ensures) ∙ c .left .given .1)
 
 after-third : (c : tie.After-right) → let second = secondOf c in let first = firstOf second in
-    sizeOf (lineOf first) ≡ fourthFrom (lineOf first) (nOf first) (leftOf second) (rightOf c) (fieldOf 10 (drop (behindRight c) (lineOf first)))
+    dimensionLineOf (lineOf first) ≡ fourthFrom (lineOf first) (nOf first) (leftOf second) (rightOf c) (fieldOf 10 (drop (behindRight c) (lineOf first)))
 after-third c =
     let second = secondOf c in
     let first = firstOf second in
@@ -68,7 +68,7 @@ after-third c =
     ∙ one-third (lineOf first) (nOf first) (leftOf second) (behindLeft second) _ _ (sym (c .before .before .field3 .ensures) ∙ c .right .given .1)
 
 after-fourth : (c : tie.After-public) → let third = thirdOf c in let second = secondOf third in let first = firstOf second in
-    sizeOf (lineOf first)
+    dimensionLineOf (lineOf first)
     ≡ cond (leb (c .public .given .0 .1 .0) 100) (Of (nOf first) (leftOf second) (rightOf third) (c .public .given .0 .0)) (Refused NumberLine)
 after-fourth c =
     let third = thirdOf c in
@@ -144,8 +144,8 @@ returns-5 c = size-said _ _ (sym (after-fourth (c .before .before) ∙ rw (le-le
 returns-6 : tie.Need-returns-6
 returns-6 c = size-said _ _ (sym (after-fourth (c .before .before) ∙ rw (lt-leb _ _ (c .if1 .left))))
 
-pub read-size-spec : {M : Type 1} → statement M
-read-size-spec =
+pub read-dimensions-spec : {M : Type 1} → statement M
+read-dimensions-spec =
     tie.close
     (tie.spec
     field-requires

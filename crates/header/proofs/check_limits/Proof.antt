@@ -1,4 +1,4 @@
--- `judge` meets its contract: each test is the definition's, and what passes it fits a byte.
+-- `check_limits` meets its contract: each test is the definition's, and what passes it fits a byte.
 use mathlib.Core.Path.{_≡_, sym, _∙_}
 use mathlib.Core.Bool.{false}
 use native.Mathlib.Omega.{arith}
@@ -6,8 +6,8 @@ use borrow.Author.Needs.{needs}
 use Rattle.dimensions.specs.Sizes.{mostVariables, mostRows}
 use Rattle.header.specs.Header.{beyond}
 use Rattle.header.proofs.Limits.{within}
-use Rattle.header.proofs.judge.Statement.{statement}
-use Rattle.header.proofs.judge.Tie as tie
+use Rattle.header.proofs.check_limits.Statement.{statement}
+use Rattle.header.proofs.check_limits.Tie as tie
 
 -- where the code starts, from either test passed
 abbrev start : tie.Else1 → tie.Start
@@ -44,7 +44,7 @@ cast-m c = let a = start (first-passed c) .args in omega (arith, within (a .leas
 returns-3 : tie.Need-returns-3
 returns-3 c = rw (n-passed (first-passed c), m-passed c)
 
-pub judge-spec : {M : Type 1} → statement M
-judge-spec =
+pub check-limits-spec : {M : Type 1} → statement M
+check-limits-spec =
     tie.close
     (tie.spec is-beyond-requires returns is-beyond-requires-2 returns-2 cast-n cast-m returns-3)

@@ -1,4 +1,4 @@
--- `check` meets its contract: the tables are accepted, the text is not overlong, and its lines are checked against their rows.
+-- `check_proof` meets its contract: the tables are accepted, the text is not overlong, and its lines are checked against their rows.
 use mathlib.Core.Path.{_≡_, sym, _∙_}
 use native.Mathlib.Omega.{arith}
 use borrow.Author.Needs.{needs}
@@ -9,8 +9,8 @@ use Rattle.tables.specs.Tables.{Tables, allTables}
 use Rattle.tables.specs.Acceptance.{tableChecks}
 use Rattle.tables.proofs.Accepted.{accepted}
 use Rattle.drat.proofs.Entry.{tables-refused, overlong, lines-checked}
-use Rattle.drat.proofs.check.Statement.{statement}
-use Rattle.drat.proofs.check.Tie as tie
+use Rattle.drat.proofs.check_proof.Statement.{statement}
+use Rattle.drat.proofs.check_proof.Tie as tie
 
 -- where the code starts, from the tables' checks
 abbrev start : tie.After-accept → tie.Start
@@ -75,14 +75,14 @@ returns-3 c =
     (lines-checked (s .args .d) (tables s) (s .args .text .now) (taken told) (omega arith) _ (f .fill .ensures .0) (done .check-lines .result)
     (done .check-lines .ensures))
 
-pub check-spec : {M : Type 1} → statement M
-check-spec =
+pub check-proof-spec : {M : Type 1} → statement M
+check-proof-spec =
     tie.close
     (tie.spec
     accept-requires
+    enum-told
     enum-known-accepted
     returns
-    enum-told
     returns-2
     slice-aggregate-fill
     fill-requires

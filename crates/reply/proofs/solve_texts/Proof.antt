@@ -1,4 +1,4 @@
--- `judge` meets its contract: each case of the texts' outcome is the definition's.
+-- `solve_texts` meets its contract: each case of the texts' outcome is the definition's.
 use mathlib.Core.Path.{sym, ap, _∙_}
 use Rattle.refusals.specs.Checks.{given}
 use Rattle.refusals.specs.declared.Outcome.{Outcome}
@@ -6,8 +6,8 @@ use Rattle.solver.specs.declared.Solved.the-variants.{Refused}
 use Rattle.lines.specs.Numbers.{budgetOf}
 use Rattle.reply.specs.Reply.{answered}
 use borrow.Author.Needs.{needs}
-use Rattle.reply.proofs.judge.Statement.{statement}
-use Rattle.reply.proofs.judge.Tie as tie
+use Rattle.reply.proofs.solve_texts.Statement.{statement}
+use Rattle.reply.proofs.solve_texts.Tie as tie
 
 enum-known-outcome : tie.Need-enum-known-outcome
 enum-known-outcome c = search needs
@@ -32,7 +32,7 @@ returns-2 c =
     c .answer .ensures ∙ ap (answered (start .tables)) (c .before .read-budget .ensures .0)
     ∙ sym (ap (λ (o : Outcome). given o (answered (start .tables) (budgetOf (start .line .now))) Refused) (c .before .before .enum-told .given .1))
 
-pub judge-spec : {M : Type 1} → statement M
-judge-spec =
+pub solve-texts-spec : {M : Type 1} → statement M
+solve-texts-spec =
     tie.close
-    (tie.spec enum-known-outcome enum-told read-budget-requires answer-requires returns returns-2)
+    (tie.spec enum-told enum-known-outcome returns read-budget-requires answer-requires returns-2)

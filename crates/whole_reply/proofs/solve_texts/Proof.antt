@@ -1,4 +1,4 @@
--- `judge` meets its contract: each case of the texts' outcome is the definition's.
+-- `solve_texts` meets its contract: each case of the texts' outcome is the definition's.
 use mathlib.Core.Path.{sym, ap, _∙_}
 use Rattle.refusals.specs.Checks.{given}
 use Rattle.refusals.specs.declared.Outcome.{Outcome}
@@ -6,8 +6,8 @@ use Rattle.solver.specs.declared.Solved.the-variants.{Refused}
 use Rattle.lines.specs.Numbers.{budgetOf}
 use Rattle.whole_reply.specs.WholeReply.{wholeAnswered}
 use borrow.Author.Needs.{needs}
-use Rattle.whole_reply.proofs.judge.Statement.{statement}
-use Rattle.whole_reply.proofs.judge.Tie as tie
+use Rattle.whole_reply.proofs.solve_texts.Statement.{statement}
+use Rattle.whole_reply.proofs.solve_texts.Tie as tie
 
 -- where the code starts, once the outcome is told
 abbrev start : tie.After-enum-told → tie.Start
@@ -37,7 +37,7 @@ returns-2 c =
     c .answer .ensures ∙ ap (wholeAnswered (s .tables)) (c .before .read-budget .ensures .0)
     ∙ sym (ap (λ (o : Outcome). given o (wholeAnswered (s .tables) (budgetOf (s .line .now))) Refused) (told .enum-told .given .1))
 
-pub judge-spec : {M : Type 1} → statement M
-judge-spec =
+pub solve-texts-spec : {M : Type 1} → statement M
+solve-texts-spec =
     tie.close
-    (tie.spec enum-known-outcome enum-told read-budget-requires answer-requires returns returns-2)
+    (tie.spec enum-told enum-known-outcome returns read-budget-requires answer-requires returns-2)

@@ -1,11 +1,11 @@
--- `check` meets its contract: an overlong text is refused first, then the tables, then the texts' tables.
+-- `check_excerpt` meets its contract: an overlong text is refused first, then the tables, then the texts' tables.
 use mathlib.Core.Path.{sym, _∙_}
 use Rattle.refusals.proofs.Outcomes.{outcome-said}
 use Rattle.tables.specs.Tables.{Tables, allTables}
 use Rattle.excerpts.proofs.Checks.{overlong-refused, tables-refused, tables-taken}
 use borrow.Author.Needs.{needs}
-use Rattle.excerpts.proofs.check.Statement.{statement}
-use Rattle.excerpts.proofs.check.Tie as tie
+use Rattle.excerpts.proofs.check_excerpt.Statement.{statement}
+use Rattle.excerpts.proofs.check_excerpt.Tie as tie
 
 -- where the code starts, from where the texts are lent
 abbrev lent : tie.After-shared-slice-known5 → tie.Start
@@ -39,8 +39,8 @@ read-requires c κs = search needs
 read-requires-2 : tie.Need-read-requires-2
 read-requires-2 c κs = search needs
 
-judge-requires : tie.Need-judge-requires
-judge-requires c κs = search needs
+check-texts-requires : tie.Need-check-texts-requires
+check-texts-requires c κs = search needs
 
 returns-2 : tie.Need-returns-2
 returns-2 c =
@@ -57,18 +57,18 @@ returns-3 c =
     let accept = told .before .before in
     let s = start accept in
     outcome-said (tables-taken (s .args .d) (tables s) (s .args .left-text .now) (s .args .right-text .now) (s .args .number) (accept .before .if1 .left)
-    (sym (accept .accept .ensures .0) ∙ told .enum-told .given .1) _ _ (left .read .ensures .0) (right .read2 .ensures .0) _ (c .judge .ensures))
+    (sym (accept .accept .ensures .0) ∙ told .enum-told .given .1) _ _ (left .read .ensures .0) (right .read2 .ensures .0) _ (c .check-texts .ensures))
 
-pub check-spec : {M : Type 1} → statement M
-check-spec =
+pub check-excerpt-spec : {M : Type 1} → statement M
+check-excerpt-spec =
     tie.close
     (tie.spec
     returns
     accept-requires
-    enum-known-checked
     enum-told
+    enum-known-checked
+    returns-2
     read-requires
     read-requires-2
-    judge-requires
-    returns-2
+    check-texts-requires
     returns-3)

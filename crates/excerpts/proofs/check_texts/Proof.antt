@@ -1,10 +1,10 @@
--- `judge` meets its contract: each test is the definition's, in its order.
+-- `check_texts` meets its contract: each test is the definition's, in its order.
 use mathlib.Core.Path.{sym, _∙_}
 use borrow.Author.Tests.{not-true, not-false}
 use Rattle.excerpts.proofs.Checks.{left-refused, right-refused, differ, no-clause, texts-taken}
 use borrow.Author.Needs.{needs}
-use Rattle.excerpts.proofs.judge.Statement.{statement}
-use Rattle.excerpts.proofs.judge.Tie as tie
+use Rattle.excerpts.proofs.check_texts.Statement.{statement}
+use Rattle.excerpts.proofs.check_texts.Tie as tie
 
 -- ---- the places of the code, each from the one behind it
 
@@ -68,16 +68,16 @@ returns-5 c =
     texts-taken (s .args .d) (s .args .left) (s .args .right) (s .args .number) (left .enum-told .given .1) (right .enum-told2 .given .1) (same .if1 .left)
     (sym (c .before .has-clause .ensures) ∙ not-false _ (c .if2 .left))
 
-pub judge-spec : {M : Type 1} → statement M
-judge-spec =
+pub check-texts-spec : {M : Type 1} → statement M
+check-texts-spec =
     tie.close
     (tie.spec
+    enum-told
     enum-known-left-outcome
     returns
-    enum-told
+    enum-told-2
     enum-known-right-outcome
     returns-2
-    enum-told-2
     returns-3
     has-clause-requires
     returns-4
