@@ -5,16 +5,14 @@ use refusals::Refusal;
 use verdicts::Verdict;
 ghost use mathlib.Core.Path.{_≡_};
 ghost use mathlib.Core.List.{[], _∷_};
-ghost use Prim.Native.Nat.{min};
 ghost use Rattle.refusals.specs.Checks.{outcome};
 ghost use Rattle.refusals.specs.Numbers.{codeOf, said};
-ghost use Rattle.dimensions.specs.Sizes as Sizes;
 ghost use Rattle.verdicts.specs.Verdicts.{verdictNumber, modelWord};
-ghost use Rattle.codes.specs.Codes.{variableChecks, verdictFrom};
+ghost use Rattle.codes.specs.Codes.{asByte, hostDimensions, variableChecks, verdictFrom};
 
-// A number as a byte. What no byte holds becomes 255, which no limit allows either.
+// A number as a byte; 255, which no limit allows, for what no byte holds.
 pub fn byte(x: u64) -> u8
-    ensures { λ r. ⌜ r ≡ min x 255 ⌝ }
+    ensures { λ r. ⌜ r ≡ asByte x ⌝ }
 {
     if x < 255 {
         return x as u8;
@@ -33,9 +31,9 @@ pub fn check_variables(n: u8) -> Outcome
     Outcome::Taken
 }
 
-// Four numbers as dimensions, whatever they are: every entry judges them first.
+// Four numbers as dimensions, each as a byte: every entry judges them.
 pub fn dimensions(n: u64, left: u64, right: u64, public: u64) -> Dimensions
-    ensures { λ r. ⌜ r ≡ Sizes.dimensions (min n 255) (min left 255) (min right 255) (min public 255) ⌝ }
+    ensures { λ r. ⌜ r ≡ hostDimensions n left right public ⌝ }
 {
     Dimensions {
         n: byte(n),

@@ -30,7 +30,7 @@ use Rattle.clauses.specs.Clauses.{Reading, clauses, clauseRows, complete}
 use Rattle.scan.specs.Rules.{anyRow, unsatisfiedWith, forcedVariable, forcedTrue}
 use Rattle.propagation.specs.Propagation.{reaches, follows}
 use Rattle.lexer.specs.Remarks.{linesOf, kept, withoutRemarks}
-use Rattle.header.specs.declared.Sizes.{Sizes}
+use Rattle.header.specs.declared.HeaderNumbers.{HeaderNumbers}
 use Rattle.header.specs.Header.{pastRemarks, headerOf}
 use Rattle.qdimacs.specs.Lines.{Bound, linesBehind, boundOn, prefixOf, behindPrefix, tokensOn}
 use Rattle.qdimacs.specs.Text.{mostGameVariables, proper, GameTurn, gameTurns, GameText, game as game′, noGame, gameOn, gameBehind, gameText}
@@ -48,7 +48,7 @@ use Rattle.demand1.specs.Demand1.{Demand1}
 use Rattle.demand1.specs.Named.{namedTables}
 use Rattle.demand1.specs.Texts.{namedText, headerNumber, headOf}
 use Rattle.demand1.specs.Checking.{readBudget, linesJudged, proofJudged, checkProof, tooMany, gameJudged, judgeGame}
-use Rattle.demand1.proofs.Shapes.{Judged, by-held, demand, whole}
+use Rattle.demand1.proofs.Shapes.{Judged, by-held, demand, whole, as-given, by-sizes}
 use Rattle.demand1.proofs.Fronts.{named-rows, named-short, named-high}
 use Rattle.demand1.proofs.OneText.{Fair, sized, of-variables, of-rows, of-text, head-fair, text-named, text-whole, overlong-true}
 
@@ -84,6 +84,7 @@ unfolding proofOf proofLines lineSaid clauseIn hasBreak clauses partsFrom cut no
     without follows reaches padding satisfied freeLiterals unsatisfiedWith anyRow forcedVariable forcedTrue any count lowest bit allBelow
 of-check-proof =
     whole checkProof
+    (by-sizes checkProof (λ a. a .0) (λ (d, tables, text) h i. (h i, tables, text)) (λ a. refl) (λ a. refl) (λ a. refl))
     (λ (d, tables, text). by-held (proofJudged d tables text) [] (outcome (proofChecks d tables text)) (λ o. []) (proof-exact d tables text) (λ r. refl))
     (λ a. refl) refl (λ a. refl) (λ (d, tables, text). proof-same d tables text)
 
@@ -102,13 +103,13 @@ game-left : (g : GameText) (answer : List ℕ) (r : Refusal) → gameOutcome g �
 game-left (game′ rows turns) answer r e = absurd (refused-taken (sym e))
 game-left (noGame q) answer r e = refl
 
--- the checks behind the first
-abbrev byHead : Sizes → GameText → Outcome
+-- the checks after the first
+abbrev byHead : HeaderNumbers → GameText → Outcome
 byHead z g =
     outcome (check (eqb (headerNumber z) 1) Variables ∷ check (eqb (headerNumber z) 2) RowCount ∷ check (tooMany z) GameVariables
     ∷ check (eqb (gameCode (gameAnswer g)) 5) Text ∷ check (not (eqb (gameCode (gameAnswer g)) 0)) LineVariables ∷ [])
 
-head-decides : (z : Sizes) → Fair z → (text : List ℕ) (end : ℕ) → byHead z (gameBehind text end z) ≡ gameOutcome (gameBehind text end z)
+head-decides : (z : HeaderNumbers) → Fair z → (text : List ℕ) (end : ℕ) → byHead z (gameBehind text end z) ≡ gameOutcome (gameBehind text end z)
 head-decides z of-variables text end = refl
 head-decides z of-rows text end = refl
 head-decides z of-text text end = refl
@@ -150,7 +151,7 @@ game-occurs = rw overlong-true
 pub of-game : Demand1 judgeGame
 unfolding beside
 of-game =
-    demand judgeGame (record {
+    demand judgeGame (as-given judgeGame (λ a. refl)) (record {
       judged = λ (text, answer). record {
         numbered = game-number (gameText text) ∙ ap codeOf (game-exact text);
         unchanged = λ r e. game-left (gameText text) answer r (game-exact text ∙ e);
@@ -198,7 +199,7 @@ closed-cut size size′ (d ∷ ds) (b ∷ r) h = go (eqb b 10) (digitsAfter 0 (d
     go true (some v) = on-bound (ltb v (2 ^ 64)) v
     go false o = refl
 
--- the digits of a budget line and the byte behind them are all that is read of it
+-- the digits of a budget line and the byte after them are all that is read of it
 pub budget-named : (line : List ℕ) → budgetOf line ≡ budgetOf (take (suc (run isDigit line)) line)
 unfolding fieldOf
 budget-named line =
@@ -242,5 +243,5 @@ budget-judged lent b of-line = record { numbered = refl; unchanged = λ r e. ref
 pub of-read-budget : Demand1 readBudget
 unfolding fieldOf run digitsAfter
 of-read-budget =
-    whole readBudget (λ (line, lent). budget-judged lent (budgetOf line) (budget-fair line)) (λ a. refl) refl (λ a. refl)
+    whole readBudget (as-given readBudget (λ a. refl)) (λ (line, lent). budget-judged lent (budgetOf line) (budget-fair line)) (λ a. refl) refl (λ a. refl)
     (λ (line, lent). ap (budgetCall lent) (budget-named line))

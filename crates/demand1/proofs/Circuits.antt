@@ -42,7 +42,7 @@ use Rattle.demand1.specs.Demand1.{Demand1}
 use Rattle.demand1.specs.Named.{namedTables}
 use Rattle.demand1.specs.Examples.{freshWords}
 use Rattle.demand1.specs.Circuits.{generate, pack, evaluate}
-use Rattle.demand1.proofs.Shapes.{by-outcome, demand}
+use Rattle.demand1.proofs.Shapes.{by-outcome, demand, as-given, by-sizes}
 use Rattle.demand1.proofs.Fronts.{named-rows, named-short, named-high, front-short, over-front, front-kept, front-stays}
 
 -- ---- the circuit generated
@@ -66,7 +66,9 @@ module _ (d : Dimensions) (gates : List ℕ) where
 pub of-generate : Demand1 generate
 unfolding beside
 of-generate =
-    demand generate (record {
+    demand generate
+    (by-sizes generate (λ a. a .0) (λ (d, gates, count) h i. (h i, gates, count)) (λ a. refl) (λ a. refl) (λ a. refl))
+    (record {
       judged = λ (d, gates, count).
           let g : Outcome → Generated = λ o. given o (generated′.Of (length (gatesOn d))) generated′.Refused in
           by-outcome (generatorChecks d gates) (gates ∷ count ∷ []) (λ o. generatedCode (g o))
@@ -103,7 +105,9 @@ module _ (d : Dimensions) (tables : Tables) (run : Run) (bytes : List ℕ) where
 pub of-pack : Demand1 pack
 unfolding packed runIn freshWords allBelow all bit wellFormed beside
 of-pack =
-    demand pack (record {
+    demand pack
+    (by-sizes pack (λ a. a .0) (λ (d, tables, run, bytes) h i. (h i, tables, run, bytes)) (λ a. refl) (λ a. refl) (λ a. refl))
+    (record {
       judged = λ (d, tables, run, bytes).
           by-outcome (packChecks d tables (runIn run) (length bytes)) (bytes ∷ []) codeOf
           (λ o. given o (over (bytesOf (inputBits d tables (stateOf (runIn run)))) bytes) (λ r. bytes) ∷ []) refl (λ r. refl) (λ r. refl);
@@ -139,7 +143,7 @@ module _ (gates inputs wires : List ℕ) where
 pub of-evaluate : Demand1 evaluate
 unfolding accepted bits beside
 of-evaluate =
-    demand evaluate (record {
+    demand evaluate (as-given evaluate (λ a. refl)) (record {
       judged = λ (gates, inputs, wires).
           by-outcome (evaluationChecks gates inputs wires) (wires ∷ []) codeOf
           (λ o. given o (over (bytesOf (wiresOf (bitsOf inputs) (gatesOf gates))) wires) (λ r. wires) ∷ []) refl (λ r. refl) (λ r. refl);

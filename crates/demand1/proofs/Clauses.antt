@@ -11,7 +11,7 @@ use Rattle.refusals.specs.declared.Refusal.the-variants.{Text, TextsDiffer, NoC
 use Rattle.refusals.specs.declared.Outcome.{Outcome}
 use Rattle.refusals.specs.declared.Outcome.the-variants.{Taken, Refused}
 use Rattle.refusals.specs.Checks.{Check, check, outcome, given}
-use Rattle.refusals.proofs.Outcomes.{check-passed}
+use Rattle.refusals.proofs.Outcomes.{check-passed, checks-taken}
 use Rattle.words.proofs.Truth.{on, or-l, or-r}
 use Rattle.words.specs.Sets.{put}
 use Rattle.words.specs.Sameness.{same}
@@ -23,6 +23,7 @@ use Rattle.numbers.specs.Numbers.{digitsAfter, decimalOf, numberRead}
 use Rattle.header.specs.Header.{pastRemarks, headerOf}
 use Rattle.clauses.specs.Clauses.{clauses}
 use Rattle.dimensions.specs.declared.Dimensions.{Dimensions}
+use Rattle.dimensions.specs.Sizes.{sizeChecks}
 use Rattle.tables.specs.Tables.{Tables}
 use Rattle.tables.specs.Acceptance.{allBelow, tableChecks}
 use Rattle.words.specs.declared.Row.{Row}
@@ -33,14 +34,15 @@ use Rattle.excerpts.specs.declared.Placed.the-variants as placed′
 use Rattle.excerpts.specs.Excerpts.{outcomeChecks, hasClause, textChecks, overlong, excerptChecks, skip, clauseOf, placeIn, clausePlace}
 use Rattle.excerpts.specs.Excerpts.{placed, placedCode, placedNumbers, bytesAt, clauseBytes}
 use Rattle.excerpts.proofs.Checks.{asked}
+use Rattle.codes.proofs.AsBytes.{sizes-alike, sizes-same}
 use Rattle.lent.specs.Lent.{front, numbersOr}
 use Rattle.host_excerpts.specs.Parts.{roomChecks, partAfter, lengthAfter, excerptIn}
 use Rattle.demand1.specs.Calls.{beside}
 use Rattle.demand1.specs.Demand1.{Demand1}
 use Rattle.demand1.specs.Named.{namedTables}
 use Rattle.demand1.specs.Texts.{namedText, readJudged}
-use Rattle.demand1.specs.Texts.{clauseJudged, placeClause, excerpt}
-use Rattle.demand1.proofs.Shapes.{by-outcome, by-held, rejudged, given-same, outcome-append, outcome-then, demand}
+use Rattle.demand1.specs.Texts.{clauseJudged, ClauseAsked, clauseInBytes, placeClause, excerpt}
+use Rattle.demand1.proofs.Shapes.{by-outcome, by-held, rejudged, given-same, outcome-append, outcome-then, demand, leading}
 use Rattle.demand1.proofs.Fronts.{front-short, front-row, sets-front, front-stays, named-short, named-high}
 use Rattle.demand1.proofs.OneText.{read-exact, text-whole, text-named, table-named, overlong-true}
 
@@ -129,6 +131,22 @@ module _ (d : Dimensions) (tables : Tables) (leftText rightText : List ℕ) (row
       given-same (outcome (excerptChecks d tables leftText rightText row)) _ _ _ (λ r. []) (ap outcome excerpt-checked)
       (λ h. bytes-cut h)
 
+-- ---- a host's numbers: only overlong texts come before them
+
+abbrev first : ClauseAsked → List Check
+first (d, tables, leftText, rightText, row) = check (overlong leftText || overlong rightText) Text ∷ sizeChecks d
+
+first-alike : (c : ClauseAsked) → outcome (first (clauseInBytes c)) ≡ outcome (first c)
+first-alike (d, tables, leftText, rightText, row) =
+    ap (λ (o : Outcome). cond (overlong leftText || overlong rightText) (Refused Text) o) (sizes-alike (d .n) (d .left) (d .right) (d .public))
+
+first-same : (c : ClauseAsked) → outcome (first c) ≡ Taken → clauseInBytes c ≡ c
+first-same (d, tables, leftText, rightText, row) h =
+    let sized = checks-taken (overlong leftText || overlong rightText) Text (outcome (sizeChecks d)) h in
+    λ i. (sizes-same (d .n) (d .left) (d .right) (d .public) sized i, tables, leftText, rightText, row)
+
+-- ---- the place
+
 clause-occurs : map (λ a. placeClause .call a .returned) (placeClause .examples) ≡ 0 ∷ placeClause .numbers
 unfolding placed tableOf withoutRemarks linesOf kept headerOf pastRemarks partsFrom cut notEmpty run trimmed same clauses numberRead decimalOf digitsAfter put
     allBelow
@@ -137,7 +155,8 @@ clause-occurs = rw overlong-true
 pub of-clause : Demand1 placeClause
 unfolding placed beside
 of-clause =
-    demand placeClause (record {
+    demand placeClause (leading placeClause (λ (c, place). first c) (λ a. drop 3 (placeClause .call a .judged))
+    (λ (c, place). first-alike c) (λ (c, place) h i. (first-same c h i, place)) (λ a. refl) (λ a. refl)) (record {
       judged = λ ((d, tables, leftText, rightText, row), place).
           let p : Outcome → Placed = λ o. given o (placed′.Of (clausePlace d tables leftText rightText row)) placed′.Refused in
           rejudged (clauseJudged d tables leftText rightText row) (clause-exact d tables leftText rightText row)
@@ -193,7 +212,8 @@ excerpt-occurs = rw overlong-true
 pub of-excerpt : Demand1 excerpt
 unfolding beside
 of-excerpt =
-    demand excerpt (record {
+    demand excerpt (leading excerpt (λ (c, bytes, number). first c) (λ a. drop 3 (excerpt .call a .judged))
+    (λ (c, bytes, number). first-alike c) (λ (c, bytes, number) h i. (first-same c h i, bytes, number)) (λ a. refl) (λ a. refl)) (record {
       judged = λ ((d, tables, leftText, rightText, row), bytes, number).
           by-held (excerpt .call ((d, tables, leftText, rightText, row), bytes, number) .judged) (bytes ∷ number ∷ [])
           (excerptIn d tables leftText rightText row bytes)

@@ -23,7 +23,7 @@ use Rattle.demand1.specs.Calls.{beside}
 use Rattle.demand1.specs.Demand1.{Demand1}
 use Rattle.demand1.specs.Named.{namedRows}
 use Rattle.demand1.specs.Columns.{planeWords, columns, rows}
-use Rattle.demand1.proofs.Shapes.{by-outcome, demand}
+use Rattle.demand1.proofs.Shapes.{by-outcome, demand, as-given}
 use Rattle.demand1.proofs.Fronts.{front-short, front-high, sets-front, front-kept}
 
 -- ---- to columns
@@ -51,7 +51,7 @@ module _ (n count : ℕ) (table planes : List ℕ) where
 pub of-columns : Demand1 columns
 unfolding columnsAfter allBelow beside
 of-columns =
-    demand columns (record {
+    demand columns (as-given columns (λ a. refl)) (record {
       judged = λ (n, count, table, planes).
           by-outcome (columnChecks n count table (length planes)) (planes ∷ []) codeOf
           (λ o. given o (sets planes 0 (planesOf count table)) (λ r. planes) ∷ []) refl (λ r. refl) (λ r. refl);
@@ -101,7 +101,7 @@ module _ (n count : ℕ) (planes table : List ℕ) where
 pub of-rows : Demand1 rows
 unfolding rowsAfter stray any beside
 of-rows =
-    demand rows (record {
+    demand rows (as-given rows (λ a. refl)) (record {
       judged = λ (n, count, planes, table).
           by-outcome (rowChecks n count planes (length table)) (table ∷ []) codeOf
           (λ o. given o (sets table 0 (tableFrom count planes)) (λ r. table) ∷ []) refl (λ r. refl) (λ r. refl);

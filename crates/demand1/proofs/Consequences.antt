@@ -9,7 +9,7 @@ use Rattle.refusals.specs.Numbers.{numberOf}
 use Rattle.refusals.proofs.Numbers.{number-positive}
 use Rattle.refusals.specs.Checks.{Check}
 use Rattle.demand1.specs.Calls.{firstNumber, numbersOf, beside}
-use Rattle.demand1.specs.Demand1.{Entry, Demand1}
+use Rattle.demand1.specs.Demand1.{Entry, done, Demand1}
 
 -- no check applies
 unfoldable pub none : List Check → Bool
@@ -64,22 +64,22 @@ first-among (c ∷ cs) = go (c .fails) (first-among cs)
 
 module _ {A : Type 0} (e : Entry A) (demand : Demand1 e) where
   -- 0 exactly if no check applies
-  pub taken-exactly : (a : A) → (e .call a .returned ≡ 0 → none (e .call a .judged) ≡ true) × (none (e .call a .judged) ≡ true → e .call a .returned ≡ 0)
+  pub taken-exactly : (a : A) → (done e a .returned ≡ 0 → none (done e a .judged) ≡ true) × (none (done e a .judged) ≡ true → done e a .returned ≡ 0)
   taken-exactly a = (
-    λ h. none-passed (e .call a .judged) (sym (demand .first a) ∙ h),
-    λ h. demand .first a ∙ none-then (e .call a .judged) h,
+    λ h. none-passed (done e a .judged) (sym (demand .first a) ∙ h),
+    λ h. demand .first a ∙ none-then (done e a .judged) h,
   )
 
   -- no number but 0 and those listed
-  pub listed : (a : A) → among (e .call a .returned) (0 ∷ e .numbers) ≡ true
+  pub listed : (a : A) → among (done e a .returned) (0 ∷ e .numbers) ≡ true
   listed a =
-      ap₂ (λ (k : ℕ) (l : List ℕ). among k (0 ∷ l)) (demand .first a) (sym (demand .order a)) ∙ first-among (e .call a .judged)
+      ap₂ (λ (k : ℕ) (l : List ℕ). among k (0 ∷ l)) (demand .first a) (sym (demand .order a)) ∙ first-among (done e a .judged)
 
   -- two calls that agree on the words named return the same number and leave the same in these words
-  pub agreeing : (a b : A) → e .named a ≡ e .named b → (e .call a .returned ≡ e .call b .returned)
-      × (e .call a .left ≡ beside (e .call (e .named b) .left) (e .past a)) × (e .call b .left ≡ beside (e .call (e .named b) .left) (e .past b))
+  pub agreeing : (a b : A) → e .named a ≡ e .named b → (done e a .returned ≡ done e b .returned)
+      × (done e a .left ≡ beside (done e (e .named b) .left) (e .past a)) × (done e b .left ≡ beside (done e (e .named b) .left) (e .past b))
   agreeing a b h = (
-    demand .alone a ∙ ap (λ (x : A). e .call x .returned) h ∙ sym (demand .alone b),
-    demand .stays a ∙ ap (λ (x : A). beside (e .call x .left) (e .past a)) h,
+    demand .alone a ∙ ap (λ (x : A). done e x .returned) h ∙ sym (demand .alone b),
+    demand .stays a ∙ ap (λ (x : A). beside (done e x .left) (e .past a)) h,
     demand .stays b,
   )

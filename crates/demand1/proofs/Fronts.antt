@@ -42,7 +42,7 @@ front-rows words k i (suc c) h = ap₂ (λ (r : Row) (rs : List Row). r ∷ rs) 
 
 -- ---- values over a front
 
--- what stands from a place on, in a front and behind it
+-- what is from a place on, in a front and after it
 drop-front : (j k : ℕ) (l : List ℕ) → j ≤ k → drop j (take k l) ++ drop k l ≡ drop j l
 drop-front zero k l h = take-append-drop k l
 drop-front (suc j) zero l h = absurd (omega arith)
@@ -64,7 +64,7 @@ sets-front-at (v ∷ vs) k i l h =
 pub sets-front : (values : List ℕ) (k : ℕ) (l : List ℕ) → length values ≤ k → sets l 0 values ≡ sets (take k l) 0 values ++ drop k l
 sets-front values k l h = sets-front-at values k 0 l (omega arith)
 
--- a buffer that a taken call writes, the rest of it behind the words named
+-- a buffer that a taken call writes, the rest of it after the words named
 pub front-kept : {o q : Outcome} {x : List ℕ} (y r l m : List ℕ) → o ≡ Taken → o ≡ q → x ≡ y ++ r → given o x (λ z. l) ≡ given q y (λ z. m) ++ r
 front-kept {o} {q} {x} y r l m h e w =
     ap (λ (z : Outcome). given z x (λ i. l)) h ∙ w ∙ ap (λ (z : Outcome). given z y (λ i. m) ++ r) (sym h ∙ e)

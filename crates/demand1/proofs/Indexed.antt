@@ -35,7 +35,7 @@ use Rattle.demand1.specs.Demand1.{Demand1}
 use Rattle.demand1.specs.Named.{namedTables}
 use Rattle.demand1.specs.Examples.{two, rows, freshWords, array}
 use Rattle.demand1.specs.Indexed.{index, unsatisfied, stepIndexed, continue, stepWeighted, solveWeighted, continueWeighted}
-use Rattle.demand1.proofs.Shapes.{Judged, by-outcome, whole}
+use Rattle.demand1.proofs.Shapes.{Judged, by-outcome, whole, by-sizes}
 use Rattle.demand1.proofs.Fronts.{named-rows, named-short, named-high, named-checks}
 use Rattle.demand1.proofs.Runs.{step-judged, step-same, solved-judged, solve-same}
 
@@ -43,6 +43,7 @@ pub of-index : Demand1 index
 unfolding indexAfter allBelow
 of-index =
     whole index
+    (by-sizes index (λ a. a .0) (λ (d, tables, lent) h i. (h i, tables, lent)) (λ a. refl) (λ a. refl) (λ a. refl))
     (λ (d, tables, lent).
     by-outcome (tableChecks d tables) (lent ∷ []) codeOf (λ o. given o (indexOf (rowsOf d tables)) (λ r. lent) ∷ []) refl (λ r. refl) (λ r. refl))
     (λ a. refl) refl (λ a. refl)
@@ -52,6 +53,7 @@ pub of-unsatisfied : Demand1 unsatisfied
 unfolding counted runIn freshWords allBelow all bit wellFormed
 of-unsatisfied =
     whole unsatisfied
+    (by-sizes unsatisfied (λ a. a .0) (λ (d, tables, run, number) h i. (h i, tables, run, number)) (λ a. refl) (λ a. refl) (λ a. refl))
     (λ (d, tables, run, number).
     let c : Outcome → Counted = λ o. given o (counted′.Of (unsatisfiedRows (d .n) (rowsOf d tables) (runIn run .t) (runIn run .f))) counted′.Refused in
     by-outcome (tableChecks d tables ++ stateChecks d (runIn run)) (number ∷ []) (λ o. countedCode (c o)) (λ o. numbersOr (countedNumbers (c o)) number ∷ [])
@@ -72,6 +74,7 @@ pub of-step-indexed : Demand1 stepIndexed
 unfolding steppedIndexed
 of-step-indexed =
     whole stepIndexed
+    (by-sizes stepIndexed (λ a. a .0) (λ (d, tables, index, run, number) h i. (h i, tables, index, run, number)) (λ a. refl) (λ a. refl) (λ a. refl))
     (λ (d, tables, index, run, number).
     let s : Outcome → SteppedIndexed = λ o. steppedBy o (d .n) (rowsOf d tables) (runIn run) number in
     by-outcome (tableChecks d tables ++ indexedChecks (d .n) (rowsOf d tables) index (runIn run) number) (run ∷ (number ∷ []) ∷ []) (λ o. codeOf (s o .outcome))
@@ -109,7 +112,9 @@ module _ (ruling : Ruling) (d : Dimensions) (tables : Tables) (times : ℕ) (run
 pub of-continue : Demand1 continue
 unfolding continued runIn freshWords allBelow all bit wellFormed
 of-continue =
-    whole continue (λ (d, tables, times, run, lent). continue-judged rule d tables times run lent) (λ a. refl) refl (λ a. refl)
+    whole continue
+    (by-sizes continue (λ a. a .0) (λ (d, tables, times, run, lent) h i. (h i, tables, times, run, lent)) (λ a. refl) (λ a. refl) (λ a. refl))
+    (λ (d, tables, times, run, lent). continue-judged rule d tables times run lent) (λ a. refl) refl (λ a. refl)
     (λ (d, tables, times, run, lent). continue-same rule d tables times run lent)
 
 -- ---- the weighted choice
@@ -117,17 +122,23 @@ of-continue =
 pub of-step-weighted : Demand1 stepWeighted
 unfolding steppedWith runIn freshWords allBelow all bit wellFormed
 of-step-weighted =
-    whole stepWeighted (λ (d, tables, run). step-judged weightedRule d tables run) (λ a. refl) refl (λ a. refl)
+    whole stepWeighted
+    (by-sizes stepWeighted (λ a. a .0) (λ (d, tables, run) h i. (h i, tables, run)) (λ a. refl) (λ a. refl) (λ a. refl))
+    (λ (d, tables, run). step-judged weightedRule d tables run) (λ a. refl) refl (λ a. refl)
     (λ (d, tables, run). step-same weightedRule d tables run)
 
 pub of-solve-weighted : Demand1 solveWeighted
 unfolding allBelow solvedWith
 of-solve-weighted =
-    whole solveWeighted (λ (d, tables, budget, answer). solved-judged weightedRule d tables budget answer) (λ a. refl) refl (λ a. refl)
+    whole solveWeighted
+    (by-sizes solveWeighted (λ a. a .0) (λ (d, tables, budget, answer) h i. (h i, tables, budget, answer)) (λ a. refl) (λ a. refl) (λ a. refl))
+    (λ (d, tables, budget, answer). solved-judged weightedRule d tables budget answer) (λ a. refl) refl (λ a. refl)
     (λ (d, tables, budget, answer). solve-same weightedRule d tables budget answer)
 
 pub of-continue-weighted : Demand1 continueWeighted
 unfolding continuedWith runIn freshWords allBelow all bit wellFormed
 of-continue-weighted =
-    whole continueWeighted (λ (d, tables, times, run, lent). continue-judged weightedRule d tables times run lent) (λ a. refl) refl (λ a. refl)
+    whole continueWeighted
+    (by-sizes continueWeighted (λ a. a .0) (λ (d, tables, times, run, lent) h i. (h i, tables, times, run, lent)) (λ a. refl) (λ a. refl) (λ a. refl))
+    (λ (d, tables, times, run, lent). continue-judged weightedRule d tables times run lent) (λ a. refl) refl (λ a. refl)
     (λ (d, tables, times, run, lent). continue-same weightedRule d tables times run lent)

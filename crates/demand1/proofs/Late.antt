@@ -1,4 +1,4 @@
--- Demand 1 for late conditions and for the step that tells its rule: a row that may be replaced stands within the rows, so both of its words are named.
+-- Demand 1 for late conditions and for the step that tells its rule: a row that may be replaced is one of the rows, so both of its words are named.
 use mathlib.Core.Path.{_≡_, refl, sym, ap, ap₂, _∙_}
 use mathlib.Core.Bool.{true, false}
 use mathlib.Core.List.{List, [], _∷_, _++_, map}
@@ -45,8 +45,8 @@ use Rattle.demand1.specs.Calls.{Effect, beside}
 use Rattle.demand1.specs.Demand1.{Demand1}
 use Rattle.demand1.specs.Named.{namedTables}
 use Rattle.demand1.specs.Examples.{two, rows, freshWords, satisfiedWords, array}
-use Rattle.demand1.specs.Late.{stations, behindRows, padded, replace, replaceIndexed, stepExplained}
-use Rattle.demand1.proofs.Shapes.{Judged, by-outcome, by-held, demand, whole}
+use Rattle.demand1.specs.Late.{stations, pastRows, padded, replace, replaceIndexed, stepExplained}
+use Rattle.demand1.proofs.Shapes.{Judged, by-outcome, by-held, demand, whole, by-sizes}
 use Rattle.demand1.proofs.Runs.{stepped-outcome, stepped-named}
 use Rattle.demand1.proofs.Fronts.{named-rows, named-short, named-high, named-checks}
 
@@ -62,35 +62,36 @@ module _ (words : List ℕ) (i k : ℕ) (r : Row) (h : 2 * i + 1 < k) where
   put-drop = drop-set-lt k (set words (2 * i) (r .positive)) (2 * i + 1) (r .negative) h ∙ drop-set-lt k words (2 * i) (r .positive) (omega arith)
 
 -- the stations' words are those named and what follows them
-stations-split : (d : Dimensions) (tables : Tables) → stations tables ≡ beside (stations (namedTables d tables)) (behindRows d tables)
+stations-split : (d : Dimensions) (tables : Tables) → stations tables ≡ beside (stations (namedTables d tables)) (pastRows d tables)
 unfolding beside
 stations-split d tables =
     ap₂ (λ (l r : List ℕ). l ∷ r ∷ []) (sym (take-append-drop (2 * d .left) (tables .left))) (sym (take-append-drop (2 * d .right) (tables .right)))
 
 module _ (d : Dimensions) (tables : Tables) (c : Condition) where
-  module _ (own : owns d (c .station) (c .number) ≡ true) where
+  module _ (own : owns d (c .station) (c .replaced) ≡ true) where
     named-replaced : replacedIn d (namedTables d tables) c ≡ namedTables d (replacedIn d tables c)
     unfolding replacedIn
     named-replaced =
-        on (leb (c .number) (d .left))
+        on (leb (c .replaced) (d .left))
         (λ e. rw e (ap (λ (l : List ℕ). allTables l (namedTables d tables .right) (namedTables d tables .public))
-        (put-take (tables .left) (c .number - 1) (2 * d .left) (c .row)
-        (omega (arith, owned-place d (c .station) (c .number) own .0 e)))))
+        (put-take (tables .left) (c .replaced - 1) (2 * d .left) (c .row)
+        (omega (arith, owned-place d (c .station) (c .replaced) own .0 e)))))
         (λ e. rw e (ap (λ (r : List ℕ). allTables (namedTables d tables .left) r (namedTables d tables .public))
-        (put-take (tables .right) (c .number - 1 - d .left) (2 * d .right) (c .row)
-        (omega (arith, owned-place d (c .station) (c .number) own .1 e)))))
+        (put-take (tables .right) (c .replaced - 1 - d .left) (2 * d .right) (c .row)
+        (omega (arith, owned-place d (c .station) (c .replaced) own .1 e)))))
 
-    behind-replaced : behindRows d (replacedIn d tables c) ≡ behindRows d tables
+    behind-replaced : pastRows d (replacedIn d tables c) ≡ pastRows d tables
     unfolding replacedIn
     behind-replaced =
-        on (leb (c .number) (d .left))
-        (λ e. rw e (ap (λ (l : List ℕ). l ∷ drop (2 * d .right) (tables .right) ∷ []) (put-drop (tables .left) (c .number - 1) (2 * d .left) (c .row)
-        (omega (arith, owned-place d (c .station) (c .number) own .0 e)))))
-        (λ e. rw e (ap (λ (r : List ℕ). drop (2 * d .left) (tables .left) ∷ r ∷ []) (put-drop (tables .right) (c .number - 1 - d .left) (2 * d .right) (c .row)
-        (omega (arith, owned-place d (c .station) (c .number) own .1 e)))))
+        on (leb (c .replaced) (d .left))
+        (λ e. rw e (ap (λ (l : List ℕ). l ∷ drop (2 * d .right) (tables .right) ∷ []) (put-drop (tables .left) (c .replaced - 1) (2 * d .left) (c .row)
+        (omega (arith, owned-place d (c .station) (c .replaced) own .0 e)))))
+        (λ e. rw e (ap (λ (r : List ℕ). drop (2 * d .left) (tables .left) ∷ r ∷ [])
+        (put-drop (tables .right) (c .replaced - 1 - d .left) (2 * d .right) (c .row)
+        (omega (arith, owned-place d (c .station) (c .replaced) own .1 e)))))
 
     -- the tables with the row replaced, in the words named and in all of them
-    replaced-front : stations (replacedIn d tables c) ≡ beside (stations (replacedIn d (namedTables d tables) c)) (behindRows d tables)
+    replaced-front : stations (replacedIn d tables c) ≡ beside (stations (replacedIn d (namedTables d tables) c)) (pastRows d tables)
     replaced-front =
         stations-split d (replacedIn d tables c)
         ∙ ap₂ (λ (t : Tables) (r : List (List ℕ)). beside (stations t) r) (sym named-replaced) behind-replaced
@@ -105,17 +106,19 @@ module _ (d : Dimensions) (tables : Tables) (run : Run) (c : Condition) where
   late-checked = rw (← named-short d tables, ← named-high d tables, ← named-rows d tables)
 
   late-written : outcome (lateChecks d tables run c) ≡ Taken
-      → stations (tablesAfter d tables run c) ≡ beside (stations (tablesAfter d (namedTables d tables) run c)) (behindRows d tables)
+      → stations (tablesAfter d tables run c) ≡ beside (stations (tablesAfter d (namedTables d tables) run c)) (pastRows d tables)
   late-written h =
       ap stations (after-taken d tables run c h)
       ∙ replaced-front d tables c (late-parts d tables run c h .fitting .owned)
-      ∙ ap (λ (t : Tables). beside (stations t) (behindRows d tables))
+      ∙ ap (λ (t : Tables). beside (stations t) (pastRows d tables))
       (sym (after-taken d (namedTables d tables) run c (sym (ap outcome late-checked) ∙ h)))
 
 pub of-replace : Demand1 replace
 unfolding tablesAfter runIn freshWords satisfiedWords allBelow all any bit wellFormed padding
 of-replace =
-    demand replace (record {
+    demand replace
+    (by-sizes replace (λ a. a .0) (λ (d, tables, run, c) h i. (h i, tables, run, c)) (λ a. refl) (λ a. refl) (λ a. refl))
+    (record {
       judged = λ (d, tables, run, c).
           by-outcome (lateChecks d tables (runIn run) c) (stations tables) codeOf
           (λ o. stations (given o (replacedIn d tables c) (λ r. tables))) refl (λ r. refl) (λ r. refl);
@@ -141,7 +144,7 @@ module _ (d : Dimensions) (tables : Tables) (index : List ℕ) (run : Run) (numb
 
   replace-written : outcome (replaceChecks d tables index run number c) ≡ Taken
       → replacedBy tables (outcome (replaceChecks d tables index run number c))
-      ≡ beside (replacedBy (namedTables d tables) (outcome (replaceChecks d (namedTables d tables) index run number c))) (behindRows d tables)
+      ≡ beside (replacedBy (namedTables d tables) (outcome (replaceChecks d (namedTables d tables) index run number c))) (pastRows d tables)
   unfolding beside
   replace-written h =
       let judged = indexedChecks (d .n) (rowsOf d tables) index run number in
@@ -150,7 +153,7 @@ module _ (d : Dimensions) (tables : Tables) (index : List ℕ) (run : Run) (numb
       ap (replacedBy tables) h
       ∙ ap₂ (λ (l : List (List ℕ)) (rs : List Row). l ++ indexOf rs ∷ (unsatisfiedRows (d .n) rs (run .t) (run .f) ∷ []) ∷ [])
       (replaced-front d tables c own) (replaced-rows d tables c own)
-      ∙ ap (λ (o : Outcome). beside (replacedBy (namedTables d tables) o) (behindRows d tables)) (sym (sym (ap outcome replace-checked) ∙ h))
+      ∙ ap (λ (o : Outcome). beside (replacedBy (namedTables d tables) o) (pastRows d tables)) (sym (sym (ap outcome replace-checked) ∙ h))
 
 -- nines are not the rows' sets
 wrong-index : same (array 384) (indexOf (rowsOf two padded)) ≡ false
@@ -164,7 +167,9 @@ replace-indexed-occurs = rw (same-self (indexOf (rowsOf two padded)), same-self 
 pub of-replace-indexed : Demand1 replaceIndexed
 unfolding tablesThen indexThen numberThen beside
 of-replace-indexed =
-    demand replaceIndexed (record {
+    demand replaceIndexed
+    (by-sizes replaceIndexed (λ a. a .0) (λ (d, tables, run, c, index, number) h i. (h i, tables, run, c, index, number)) (λ a. refl) (λ a. refl) (λ a. refl))
+    (record {
       judged = λ (d, tables, run, c, index, number).
           by-outcome (replaceChecks d tables index (runIn run) number c) (stations tables ++ index ∷ (number ∷ []) ∷ []) codeOf
           (replacedBy d tables index (runIn run) number c tables) refl (λ r. refl) (λ r. refl);
@@ -206,5 +211,7 @@ module _ (d : Dimensions) (tables : Tables) (run explanation : List ℕ) where
 pub of-step-explained : Demand1 stepExplained
 unfolding explained stepped runIn freshWords allBelow all bit wellFormed
 of-step-explained =
-    whole stepExplained (λ (d, tables, run, explanation). explain-judged d tables run explanation) (λ a. refl) refl (λ a. refl)
+    whole stepExplained
+    (by-sizes stepExplained (λ a. a .0) (λ (d, tables, run, explanation) h i. (h i, tables, run, explanation)) (λ a. refl) (λ a. refl) (λ a. refl))
+    (λ (d, tables, run, explanation). explain-judged d tables run explanation) (λ a. refl) refl (λ a. refl)
     (λ (d, tables, run, explanation). ap₂ (explainCall d tables run explanation) (sym (named-checks d tables)) (explained-named d tables run explanation))

@@ -22,8 +22,8 @@ use Rattle.lexer.specs.Remarks.{withoutRemarks}
 use Rattle.lexer.specs.Pieces.{Piece, linesFrom, partsFrom, tokensFrom}
 use Rattle.numbers.specs.Numbers.{Number, number, malformed, numberRead}
 use Rattle.dimensions.specs.Sizes.{mostVariables, mostRows}
-use Rattle.header.specs.declared.Sizes.{Sizes}
-use Rattle.header.specs.declared.Sizes.the-variants.{Of, Refused}
+use Rattle.header.specs.declared.HeaderNumbers.{HeaderNumbers}
+use Rattle.header.specs.declared.HeaderNumbers.the-variants.{Of, Refused}
 use Rattle.header.specs.Header.{pastRemarks, beyond, judgedSizes, twoNumbers, headerParts, headed, headerOf}
 use Rattle.clauses.specs.Clauses.{clauses, complete, clauseRows}
 use Rattle.dimacs.specs.Text.{refused, acceptedTable, fromHeader, tableOf}
@@ -32,7 +32,7 @@ use Rattle.demand1.specs.Texts.{namedText, overlongText, headerNumber, h
 
 -- ---- a header meets 1, 2 or 5
 
-pub data Fair : Sizes → Type 0 where
+pub data Fair : HeaderNumbers → Type 0 where
   sized : (n m : ℕ) → Fair (Of n m)
   of-variables : Fair (Refused Variables)
   of-rows : Fair (Refused RowCount)
@@ -75,10 +75,10 @@ head-fair least text = headed-fair least (withoutRemarks text) (pastRemarks (lin
 -- ---- the checks come to what reading gives
 
 -- the header's checks and one more, by what reading gives
-abbrev byHead : Sizes → Outcome → Outcome
+abbrev byHead : HeaderNumbers → Outcome → Outcome
 byHead z o = outcome (check (eqb (headerNumber z) 1) Variables ∷ check (eqb (headerNumber z) 2) RowCount ∷ check (not (isTaken o)) Text ∷ [])
 
-head-decides : (z : Sizes) → Fair z → (text : List ℕ) (end : ℕ) → byHead z (fromHeader text end z .outcome) ≡ fromHeader text end z .outcome
+head-decides : (z : HeaderNumbers) → Fair z → (text : List ℕ) (end : ℕ) → byHead z (fromHeader text end z .outcome) ≡ fromHeader text end z .outcome
 head-decides z of-variables text end = refl
 head-decides z of-rows text end = refl
 head-decides z of-text text end = refl

@@ -30,8 +30,8 @@ use Rattle.page.proofs.Answering.{shown, read-variables, read-shape, read-form,
 use Rattle.page.proofs.RoundTrip.{page-read, read-page}
 use Rattle.gates.specs.Memory.{gatesOf, accepted, over}
 use Rattle.bristol.specs.Text.{circuitLines}
-use Rattle.bristol.specs.declared.Written.{Written}
-use Rattle.bristol.specs.declared.Written.the-variants as written
+use Rattle.bristol.specs.declared.WrittenLine.{WrittenLine}
+use Rattle.bristol.specs.declared.WrittenLine.the-variants as written
 use Rattle.bristol.specs.declared.WrittenLines.{WrittenLines}
 use Rattle.bristol.specs.declared.WrittenLines.the-variants as lines
 use Rattle.bristol.specs.Writing.{lineAt, lineChecks, lineCode, lineNumbers, filledLine, linesAt, linesCode, linesNumbers}
@@ -45,7 +45,7 @@ use Rattle.demand1.specs.Calls.{beside}
 use Rattle.demand1.specs.Demand1.{Demand1}
 use Rattle.demand1.specs.Examples.{freshWords, satisfiedWords}
 use Rattle.demand1.specs.Pages.{page, readPage, writeLine, writeLines, answer}
-use Rattle.demand1.proofs.Shapes.{by-outcome, demand, whole}
+use Rattle.demand1.proofs.Shapes.{by-outcome, demand, whole, as-given, by-number, by-sizes}
 use Rattle.demand1.proofs.Fronts.{front-short, sets-front, over-front, front-kept}
 
 -- ---- a page made
@@ -67,7 +67,7 @@ module _ (run : Run) (p s : ℕ) (lent : List ℕ) where
 pub of-page : Demand1 page
 unfolding pageAfter runIn freshWords satisfiedWords wellFormed all bit beside
 of-page =
-    demand page (record {
+    demand page (as-given page (λ a. refl)) (record {
       judged = λ (run, p, s, lent).
           by-outcome (pageChecks (runIn run) p s (length lent)) (lent ∷ []) codeOf
           (λ o. given o (sets lent 0 (pageOf p s (runIn run .t))) (λ r. lent) ∷ []) refl (λ r. refl) (λ r. refl);
@@ -126,7 +126,7 @@ module _ (n p s : ℕ) (lent : List ℕ) where
 pub of-read-page : Demand1 readPage
 unfolding modelOn beside decimal bit wordOf
 of-read-page =
-    demand readPage (record {
+    demand readPage (as-given readPage (λ a. refl)) (record {
       judged = λ (n, p, s, lent, model).
           let m : Outcome → Modelled = λ o. given o (modelled.Model (marked n s lent)) modelled.Refused in
           by-outcome (readPageChecks n p s lent) (model ∷ []) (λ o. modelCode (m o)) (λ o. numbersOr (modelNumbers (m o)) model ∷ []) refl (λ r. refl)
@@ -151,7 +151,7 @@ module _ (d : Dimensions) (gates : List ℕ) (line : ℕ) (bytes : List ℕ) whe
       → filledLine d gates line bytes ≡ filledLine d gates line (take size bytes) ++ drop size bytes
   line-written h = front-kept _ _ _ _ h (ap outcome line-checked) (over-front (lineAt d gates line) size bytes (omega arith))
 
-  abbrev lineBy : Outcome → Written
+  abbrev lineBy : Outcome → WrittenLine
   lineBy o = given o (cond (ltb line (length (circuitLines d (gatesOf gates)))) (written.Line size) written.Past) written.Refused
 
   line-taken : lineCode (lineBy Taken) ≡ 0
@@ -164,7 +164,9 @@ module _ (d : Dimensions) (gates : List ℕ) (line : ℕ) (bytes : List ℕ) whe
 pub of-write-line : Demand1 writeLine
 unfolding accepted beside circuitLines decimal gatesOf
 of-write-line =
-    demand writeLine (record {
+    demand writeLine
+    (by-sizes writeLine (λ a. a .0) (λ (d, gates, line, bytes, length) h i. (h i, gates, line, bytes, length)) (λ a. refl) (λ a. refl) (λ a. refl))
+    (record {
       judged = λ (d, gates, line, bytes, number).
           by-outcome (lineChecks d gates line bytes) (bytes ∷ number ∷ []) (λ o. lineCode (lineBy d gates line bytes o))
           (λ o. given o (over (lineAt d gates line) bytes) (λ r. bytes) ∷ numbersOr (lineNumbers (lineBy d gates line bytes o)) number ∷ [])
@@ -181,6 +183,7 @@ pub of-write-lines : Demand1 writeLines
 unfolding accepted circuitLines decimal gatesOf
 of-write-lines =
     whole writeLines
+    (by-sizes writeLines (λ a. a .0) (λ (d, gates, line, bytes, written) h i. (h i, gates, line, bytes, written)) (λ a. refl) (λ a. refl) (λ a. refl))
     (λ (d, gates, line, bytes, number).
     let l = linesAt d gates line bytes in
     let w : Outcome → WrittenLines = λ o. given o (lines.Lines (length l) (length (flatten l))) lines.Refused in
@@ -191,6 +194,8 @@ of-write-lines =
 pub of-answer : Demand1 answer
 of-answer =
     whole answer
+    (by-number answer (λ a. a .0) (λ (n, count, verdict, model, text, length) h i. (h i, count, verdict, model, text, length))
+    (λ a. refl) (λ a. refl) (λ a. refl))
     (λ (n, count, verdict, model, text, number).
     let printed = answerText n (answerFrom count verdict model) in
     by-outcome (variableChecks n) (text ∷ number ∷ []) codeOf

@@ -29,9 +29,9 @@ use Rattle.solver.specs.Step.{always}
 use Rattle.solver.specs.Entries.{answerOf}
 use Rattle.solver.proofs.Entries.{solve-taken}
 use Rattle.lines.specs.declared.Budget.{Budget}
-use Rattle.lines.specs.declared.Size.{Size}
-use Rattle.lines.specs.declared.Size.the-variants as size
-use Rattle.lines.specs.Numbers.{Field, field, noField, fieldOf, onField, shortLine, budgetOf, budgetCode, sizeOf}
+use Rattle.lines.specs.declared.DimensionLine.{DimensionLine}
+use Rattle.lines.specs.declared.DimensionLine.the-variants as dimension
+use Rattle.lines.specs.Numbers.{Field, field, noField, fieldOf, onField, shortLine, budgetOf, budgetCode, dimensionLineOf}
 use Rattle.answers.specs.Printed.{answerText, refusalText, solvedText}
 use Rattle.reply.specs.Reply.{dimensionsOf, tablesIn, answered, replyText}
 use Rattle.reply.proofs.Accepted.{tables-taken}
@@ -183,24 +183,25 @@ of-whole = record {
 -- ---- the circuit program
 
 -- a line is refused with 8 alone
-data FairSize : Size → Type 0 where
-  sized : (n left right public : ℕ) → FairSize (size.Of n left right public)
-  unsized : FairSize (size.Refused NumberLine)
+data FairSize : DimensionLine → Type 0 where
+  sized : (n left right public : ℕ) → FairSize (dimension.Of n left right public)
+  unsized : FairSize (dimension.Refused NumberLine)
 
-field-fair : (f : Field) (k : ℕ → List ℕ → Size) → ((v : ℕ) (rest : List ℕ) → FairSize (k v rest)) → FairSize (onField f (size.Refused NumberLine) k)
+field-fair : (f : Field) (k : ℕ → List ℕ → DimensionLine) → ((v : ℕ) (rest : List ℕ) → FairSize (k v rest)) → FairSize
+    (onField f (dimension.Refused NumberLine) k)
 field-fair noField k h = unsized
 field-fair (field v rest) k h = h v rest
 
-short-fair : (b : Bool) (n left right public : ℕ) → FairSize (cond b (size.Of n left right public) (size.Refused NumberLine))
+short-fair : (b : Bool) (n left right public : ℕ) → FairSize (cond b (dimension.Of n left right public) (dimension.Refused NumberLine))
 short-fair true n left right public = sized n left right public
 short-fair false n left right public = unsized
 
-size-fair : (line : List ℕ) → FairSize (sizeOf line)
+size-fair : (line : List ℕ) → FairSize (dimensionLineOf line)
 size-fair line =
     field-fair (fieldOf 32 line) _ (λ n second. field-fair (fieldOf 32 second) _ (λ left third. field-fair (fieldOf 32 third) _ (λ right fourth.
     field-fair (fieldOf 10 fourth) _ (λ public rest. short-fair (shortLine line rest) n left right public))))
 
-circuit-by : (z : Size) → FairSize z
+circuit-by : (z : DimensionLine) → FairSize z
     → sizeText z ≡ given (outcome (check (unread z) NumberLine ∷ listChecks (sizesIn z))) (circuitText (sizesIn z) (gatesOn (sizesIn z))) refusedLine
 circuit-by z (sized n left right public) = refl
 circuit-by z unsized = refl
@@ -211,7 +212,7 @@ circuit-occurs = refl
 
 pub of-circuit : Demand1Printed circuit
 of-circuit = record {
-  first = λ line. circuit-by (sizeOf line) (size-fair line) ∙ printed-by refusedLine (circuit .judged line) (circuit .answer line);
+  first = λ line. circuit-by (dimensionLineOf line) (size-fair line) ∙ printed-by refusedLine (circuit .judged line) (circuit .answer line);
   order = λ a. refl;
   occurs = circuit-occurs;
   alone = λ a. refl;

@@ -1,4 +1,4 @@
--- Demand 1 for reading back: a state's bytes are read back as that state wherever they stand in front, so the bytes behind them make no difference.
+-- Demand 1 for reading back: a state's bytes are read back as that state wherever they come first, so the bytes after them make no difference.
 use mathlib.Core.Path.{_≡_, refl, sym, ap, _∙_}
 use mathlib.Core.Bool.{true, false, not, _&&_}
 use mathlib.Core.List.{List, [], _∷_}
@@ -29,7 +29,7 @@ use Rattle.lent.specs.Lent.{storedIf}
 use Rattle.demand1.specs.Calls.{beside}
 use Rattle.demand1.specs.Demand1.{Demand1}
 use Rattle.demand1.specs.Circuits.{readBackRun}
-use Rattle.demand1.proofs.Shapes.{by-held, demand}
+use Rattle.demand1.proofs.Shapes.{by-held, demand, by-number}
 
 read-outcome : (n : ℕ) (bytes : List ℕ) → readBack n bytes .outcome ≡ outcome (readChecks n bytes)
 unfolding readBack
@@ -85,7 +85,9 @@ module _ (n : ℕ) (bytes : List ℕ) where
 pub of-read-back : Demand1 readBackRun
 unfolding readBack beside stateBits holdsState upto wellFormed joined Unpacking.runIn runOf wordOf bit all lastFirst lowest same onLevel
 of-read-back =
-    demand readBackRun (record {
+    demand readBackRun
+    (by-number readBackRun (λ a. a .0) (λ (n, bytes, run) h i. (h i, bytes, run)) (λ a. refl) (λ a. refl) (λ a. refl))
+    (record {
       judged = λ (n, bytes, run). by-held (readChecks n bytes) (run ∷ []) (readBack n bytes .outcome) (λ o. storedIf o (readBack n bytes .run) run ∷ [])
           (read-outcome n bytes) (λ r. refl);
       order = λ a. refl;

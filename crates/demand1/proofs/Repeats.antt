@@ -50,7 +50,7 @@ use Rattle.demand1.specs.Demand1.{Demand1}
 use Rattle.demand1.specs.Named.{namedTables}
 use Rattle.demand1.specs.Examples.{freshWords}
 use Rattle.demand1.specs.Circuits.{one, repeat}
-use Rattle.demand1.proofs.Shapes.{by-outcome, demand}
+use Rattle.demand1.proofs.Shapes.{by-outcome, demand, by-sizes}
 use Rattle.demand1.proofs.Fronts.{named-rows, named-short, named-high, front-short, front-within, over-front, front-kept, front-stays}
 use Rattle.demand1.proofs.Circuits.{pack-checked, inputs-named, pack-written, generator-written}
 
@@ -219,7 +219,10 @@ repeat-occurs = rw one-fits
 pub of-repeat : Demand1 repeat
 unfolding repeated gatesAfter bytesAfter wiresAfter allowed beside
 of-repeat =
-    demand repeat (record {
+    demand repeat
+    (by-sizes repeat (λ a. a .0) (λ (d, tables, times, gates, bytes, wires, run, lent) h i. (h i, tables, times, gates, bytes, wires, run, lent))
+    (λ a. refl) (λ a. refl) (λ a. refl))
+    (record {
       judged = λ (d, tables, times, gates, bytes, wires, run, lent).
           let h = made d tables times bytes wires (runIn run) in
           let r : Outcome → Repeated = λ o. given o (repeatedBy (runIn run) h) (refusedWith (runIn run)) in

@@ -40,12 +40,13 @@ use Rattle.demand1.specs.Demand1.{Demand1}
 use Rattle.demand1.specs.Named.{namedTables}
 use Rattle.demand1.specs.Examples.{freshWords, satisfiedWords}
 use Rattle.demand1.specs.Runs.{sizes, accept, judge, freshRun, stepPlain, solve, model, countFree}
-use Rattle.demand1.proofs.Shapes.{Judged, by-outcome, by-held, demand, whole}
+use Rattle.demand1.proofs.Shapes.{Judged, by-outcome, by-held, demand, whole, as-given, by-number, by-sizes}
 use Rattle.demand1.proofs.Fronts.{named-rows, named-short, named-high, named-checks, front-short, sets-front, front-kept}
 
 pub of-sizes : Demand1 sizes
 of-sizes =
     whole sizes
+    (by-sizes sizes (λ a. a .0) (λ (d, lent) h i. (h i, lent)) (λ a. refl) (λ a. refl) (λ a. refl))
     (λ (d, lent). by-outcome (sizeChecks d) (lent ∷ []) codeOf (λ o. given o (sizeNumbers d) (λ r. lent) ∷ []) refl (λ r. refl) (λ r. refl))
     (λ a. refl) refl (λ a. refl) (λ a. refl)
 
@@ -53,16 +54,20 @@ pub of-accept : Demand1 accept
 unfolding allBelow
 of-accept =
     whole accept
+    (by-sizes accept (λ a. a .0) (λ (d, tables) h i. (h i, tables)) (λ a. refl) (λ a. refl) (λ a. refl))
     (λ (d, tables). by-outcome (tableChecks d tables) [] codeOf (λ o. []) refl (λ r. refl) (λ r. refl))
     (λ a. refl) refl (λ a. refl)
     (λ (d, tables). ap (λ (cs : List Check). record { returned = codeOf (outcome cs); judged = cs; lent = []; left = [] }) (sym (named-checks d tables)))
 
 pub of-judge : Demand1 judge
-of-judge = whole judge (λ a. record { numbered = refl; unchanged = λ r e. absurd (refused-taken (sym e)) }) (λ a. refl) refl (λ a. refl) (λ a. refl)
+of-judge =
+    whole judge (as-given judge (λ a. refl)) (λ a. record { numbered = refl; unchanged = λ r e. absurd (refused-taken (sym e)) })
+    (λ a. refl) refl (λ a. refl) (λ a. refl)
 
 pub of-fresh : Demand1 freshRun
 of-fresh =
     whole freshRun
+    (by-number freshRun (λ a. a .0) (λ (n, run) h i. (h i, run)) (λ a. refl) (λ a. refl) (λ a. refl))
     (λ (n, run). by-outcome (variableChecks n) (run ∷ []) codeOf (λ o. storedIf o (runOf n fresh) run ∷ []) refl (λ r. refl) (λ r. refl))
     (λ a. refl) refl (λ a. refl) (λ a. refl)
 
@@ -101,7 +106,9 @@ module _ (ruling : Ruling) (d : Dimensions) (tables : Tables) (run : List ℕ) w
 pub of-step : Demand1 stepPlain
 unfolding stepped runIn allBelow freshWords all bit
 of-step =
-    whole stepPlain (λ (d, tables, run). step-judged rule d tables run) (λ a. refl) refl (λ a. refl) (λ (d, tables, run). step-same rule d tables run)
+    whole stepPlain
+    (by-sizes stepPlain (λ a. a .0) (λ (d, tables, run) h i. (h i, tables, run)) (λ a. refl) (λ a. refl) (λ a. refl))
+    (λ (d, tables, run). step-judged rule d tables run) (λ a. refl) refl (λ a. refl) (λ (d, tables, run). step-same rule d tables run)
 
 -- ---- the answer of a whole run
 
@@ -126,13 +133,15 @@ module _ (ruling : Ruling) (d : Dimensions) (tables : Tables) (budget : ℕ) (an
 pub of-solve : Demand1 solve
 unfolding solved allBelow
 of-solve =
-    whole solve (λ (d, tables, budget, answer). solved-judged rule d tables budget answer) (λ a. refl) refl (λ a. refl)
+    whole solve
+    (by-sizes solve (λ a. a .0) (λ (d, tables, budget, answer) h i. (h i, tables, budget, answer)) (λ a. refl) (λ a. refl) (λ a. refl))
+    (λ (d, tables, budget, answer). solved-judged rule d tables budget answer) (λ a. refl) refl (λ a. refl)
     (λ (d, tables, budget, answer). solve-same rule d tables budget answer)
 
 pub of-model : Demand1 model
 unfolding modelOf runIn freshWords satisfiedWords wellFormed all bit
 of-model =
-    whole model
+    whole model (as-given model (λ a. refl))
     (λ (run, lent).
     let m : Outcome → Modelled = λ o. given o (modelled.Model (runIn run .t)) modelled.Refused in
     by-outcome (modelChecks (runIn run)) (lent ∷ []) (λ o. modelCode (m o)) (λ o. numbersOr (modelNumbers (m o)) lent ∷ []) refl (λ r. refl) (λ r. refl))
@@ -156,7 +165,9 @@ module _ (d : Dimensions) (tables : Tables) (run : Run) (counts : List ℕ) wher
 pub of-count-free : Demand1 countFree
 unfolding countsAfter runIn freshWords allBelow all bit beside wellFormed
 of-count-free =
-    demand countFree (record {
+    demand countFree
+    (by-sizes countFree (λ a. a .0) (λ (d, tables, run, counts) h i. (h i, tables, run, counts)) (λ a. refl) (λ a. refl) (λ a. refl))
+    (record {
       judged = λ (d, tables, run, counts).
           by-outcome (countChecks d tables (runIn run) (length counts)) (counts ∷ []) codeOf
           (λ o. given o (sets counts 0 (freeCounts (d .n) (rowsOf d tables) (runIn run .t) (runIn run .f))) (λ r. counts) ∷ []) refl (λ r. refl) (λ r. refl);

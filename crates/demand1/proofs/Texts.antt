@@ -22,7 +22,7 @@ use Rattle.host_texts.specs.Texts.{Texts, allTexts, textsOf, noRoom, readOutcom
 use Rattle.demand1.specs.Calls.{beside}
 use Rattle.demand1.specs.Demand1.{Demand1}
 use Rattle.demand1.specs.Texts.{namedText, textJudged, namedLent, differ, allWords, readTables}
-use Rattle.demand1.proofs.Shapes.{by-held, outcome-then, demand}
+use Rattle.demand1.proofs.Shapes.{by-held, outcome-then, demand, as-given}
 use Rattle.demand1.proofs.Fronts.{front-short, sets-front, front-stays}
 use Rattle.demand1.proofs.OneText.{text-exact, table-named, overlong-true}
 
@@ -88,7 +88,7 @@ read-occurs = rw overlong-true
 pub of-read-tables : Demand1 readTables
 unfolding beside
 of-read-tables =
-    demand readTables (record {
+    demand readTables (as-given readTables (λ a. refl)) (record {
       judged = λ (left, right, public, lent, sizes).
           let t = textsOf left right public in
           by-held (readTables .call (left, right, public, lent, sizes) .judged) (allWords lent ++ sizes ∷ []) (readOutcome t lent)

@@ -33,7 +33,7 @@ use Rattle.demand1.specs.Calls.{beside}
 use Rattle.demand1.specs.Demand1.{Demand1}
 use Rattle.demand1.specs.Named.{namedTables}
 use Rattle.demand1.specs.Circuits.{solveWhole}
-use Rattle.demand1.proofs.Shapes.{by-outcome, demand}
+use Rattle.demand1.proofs.Shapes.{by-outcome, demand, by-sizes}
 use Rattle.demand1.proofs.Fronts.{named-short, named-high, front-short, over-front, front-kept}
 use Rattle.demand1.proofs.Circuits.{generator-written}
 use Rattle.demand1.proofs.Repeats.{attempted-named, one-fits}
@@ -107,7 +107,10 @@ whole-occurs = rw one-fits
 pub of-solve-whole : Demand1 solveWhole
 unfolding solvedWhole gatesAfterWhole bytesAfterWhole wiresAfterWhole wholeAllowed beside
 of-solve-whole =
-    demand solveWhole (record {
+    demand solveWhole
+    (by-sizes solveWhole (λ a. a .0) (λ (d, tables, budget, gates, bytes, wires, answer) h i. (h i, tables, budget, gates, bytes, wires, answer))
+    (λ a. refl) (λ a. refl) (λ a. refl))
+    (record {
       judged = λ (d, tables, budget, gates, bytes, wires, answer).
           let s : Outcome → Solved = λ o. given o (solved.Of (wholeAnswer d tables budget)) solved.Refused in
           by-outcome (wholeChecks d tables budget (length gates) (length bytes) (length wires)) (gates ∷ bytes ∷ wires ∷ answer ∷ [])

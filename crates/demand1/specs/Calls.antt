@@ -25,7 +25,7 @@ firstNumber (c ∷ cs) = cond (c .fails) (numberOf (c .refusal)) (firstNumber cs
 abbrev pub numbersOf : List Check → List ℕ
 numbersOf cs = map (λ (c : Check). numberOf (c .refusal)) cs
 
--- buffers with what follows their fronts; those at the end that have nothing behind them are given whole
+-- buffers with what follows their fronts; those at the end that nothing follows are given whole
 unfoldable pub beside : List (List ℕ) → List (List ℕ) → List (List ℕ)
 beside xs [] = xs
 beside [] (r ∷ rs) = []

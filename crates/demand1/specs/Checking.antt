@@ -1,4 +1,5 @@
 -- The functions that read a budget line, check a proof and judge a game.
+-- Read: none, they have the form of `Runs`.
 use Prim.Native.Nat.{ℕ, suc}
 use mathlib.Core.Bool.{Bool, true, false, not}
 use mathlib.Core.List.{List, [], _∷_, _++_, map}
@@ -18,8 +19,8 @@ use Rattle.tables.specs.Acceptance.{tableChecks}
 use Rattle.lexer.specs.Spelling.{bytes}
 use Rattle.lexer.specs.Bytes.{run}
 use Rattle.numbers.specs.Numbers.{isDigit}
-use Rattle.header.specs.declared.Sizes.{Sizes}
-use Rattle.header.specs.declared.Sizes.the-variants as sizes
+use Rattle.header.specs.declared.HeaderNumbers.{HeaderNumbers}
+use Rattle.header.specs.declared.HeaderNumbers.the-variants as sizes
 use Rattle.lines.specs.Numbers.{budgetOf, budgetCode, budgetNumbers}
 use Rattle.excerpts.specs.Excerpts.{overlong}
 use Rattle.drat.specs.Proofs.{ProofLine, allFollow, addsEmpty}
@@ -28,11 +29,11 @@ use Rattle.qdimacs.specs.Text.{mostGameVariables, gameText}
 use Rattle.game.specs.Game.{gameAnswer, gameCode, gameNumbers}
 use Rattle.lent.specs.Lent.{numbersOr}
 use Rattle.demand1.specs.Demand1.{Entry}
-use Rattle.demand1.specs.Named.{namedTables}
+use Rattle.demand1.specs.Named.{asBytes, namedTables}
 use Rattle.demand1.specs.Examples.{badTables, array}
 use Rattle.demand1.specs.Texts.{namedText, headerNumber, headOf, overlongText}
 
--- forkhemit_read_budget: the digits, and the byte behind them
+-- forkhemit_read_budget: the digits, and the byte after them
 abbrev pub readBudget : Entry (List ℕ × List ℕ)
 readBudget = record {
   call = λ (line, budget). record {
@@ -41,6 +42,7 @@ readBudget = record {
     lent = budget ∷ [];
     left = numbersOr (budgetNumbers (budgetOf line)) budget ∷ [];
   };
+  inBytes = λ a. a;
   numbers = 8 ∷ [];
   named = λ (line, budget). (take (suc (run isDigit line)) line, budget);
   past = λ a. [];
@@ -85,6 +87,7 @@ checkProof = record {
     lent = [];
     left = [];
   };
+  inBytes = λ (d, tables, text). (asBytes d, tables, text);
   numbers = 1 ∷ 2 ∷ 4 ∷ 3 ∷ 18 ∷ 19 ∷ 20 ∷ [];
   named = λ (d, tables, text). (d, namedTables d tables, namedText text);
   past = λ a. [];
@@ -96,7 +99,7 @@ checkProof = record {
 -- ---- a game
 
 -- more variables than a game has
-abbrev pub tooMany : Sizes → Bool
+abbrev pub tooMany : HeaderNumbers → Bool
 tooMany (sizes.Of n m) = ltb mostGameVariables n
 tooMany (sizes.Refused r) = false
 
@@ -121,6 +124,7 @@ judgeGame = record {
     lent = answer ∷ [];
     left = numbersOr (gameNumbers (gameAnswer (gameText text))) answer ∷ [];
   };
+  inBytes = λ a. a;
   numbers = 5 ∷ 1 ∷ 2 ∷ 21 ∷ 5 ∷ 22 ∷ [];
   named = λ (text, answer). (namedText text, answer);
   past = λ a. [];

@@ -1,4 +1,5 @@
 -- The functions on circuits.
+-- Read: the first entry.
 use Prim.Native.Nat.{ℕ, _+_, _*_, _/_}
 use mathlib.Core.List.{List, [], _∷_, _++_, map}
 use lib.ListN.{length, take, drop}
@@ -20,12 +21,13 @@ use Rattle.repeats.specs.Repeating.{repeatChecks}
 use Rattle.solver.specs.Entries.{solvedCode, solvedNumbers}
 use Rattle.whole_budget.specs.WholeBudget as Whole
 use Rattle.whole_budget.specs.WholeBudget.{wholeChecks, solvedWhole}
+use Rattle.codes.specs.Codes.{asByte}
 use Rattle.stored.specs.Words.{runIn}
 use Rattle.lent.specs.Lent.{numbersOr}
 use Rattle.host_circuits.specs.Circuits.{readStored}
 use Rattle.host_repeats.specs.Repeats.{repeatIn, repeatStored, repeatNumbers}
 use Rattle.demand1.specs.Demand1.{Entry}
-use Rattle.demand1.specs.Named.{namedTables}
+use Rattle.demand1.specs.Named.{asBytes, namedTables}
 use Rattle.demand1.specs.Examples.{two, rows, badSizes, badTables, freshWords, array}
 
 -- one variable and two rows, whose ceiling is 512 gates
@@ -44,6 +46,7 @@ generate = record {
     lent = gates ∷ count ∷ [];
     left = writtenWords d gates ∷ numbersOr (generatedNumbers (generated d gates)) count ∷ [];
   };
+  inBytes = λ (d, gates, count). (asBytes d, gates, count);
   numbers = 1 ∷ 2 ∷ 7 ∷ [];
   named = λ (d, gates, count). (d, take (3 * ceiling d) gates, count);
   past = λ (d, gates, count). drop (3 * ceiling d) gates ∷ [];
@@ -59,6 +62,7 @@ pack = record {
     lent = bytes ∷ [];
     left = packed d tables (runIn run) bytes ∷ [];
   };
+  inBytes = λ (d, tables, run, bytes). (asBytes d, tables, run, bytes);
   numbers = 1 ∷ 2 ∷ 4 ∷ 3 ∷ 10 ∷ 12 ∷ 13 ∷ [];
   named = λ (d, tables, run, bytes). (d, namedTables d tables, run, take (inputWires d) bytes);
   past = λ (d, tables, run, bytes). drop (inputWires d) bytes ∷ [];
@@ -76,6 +80,7 @@ evaluate = record {
     lent = wires ∷ [];
     left = filledWires gates inputs wires ∷ [];
   };
+  inBytes = λ a. a;
   numbers = 9 ∷ 10 ∷ 10 ∷ [];
   named = λ (gates, inputs, wires). (gates, inputs, take (length inputs + length gates / 3) wires);
   past = λ (gates, inputs, wires). drop (length inputs + length gates / 3) wires ∷ [];
@@ -93,6 +98,7 @@ readBackRun = record {
     lent = run ∷ [];
     left = readStored (readBack n bytes) run ∷ [];
   };
+  inBytes = λ (n, bytes, run). (asByte n, bytes, run);
   numbers = 1 ∷ 10 ∷ 12 ∷ [];
   named = λ (n, bytes, run). (n, take (stateWires n) bytes, run);
   past = λ a. [];
@@ -114,6 +120,7 @@ repeat = record {
             ∷ Repeating.bytesAfter d tables times gates bytes wires (runIn run)
             ∷ Repeating.wiresAfter d tables times gates bytes wires (runIn run) ∷ repeatStored r run ∷ repeatNumbers r lent ∷ [];
       };
+  inBytes = λ (d, tables, times, gates, bytes, wires, run, lent). (asBytes d, tables, times, gates, bytes, wires, run, lent);
   numbers = 1 ∷ 2 ∷ 4 ∷ 3 ∷ 7 ∷ 10 ∷ 12 ∷ 13 ∷ [];
   named = λ (d, tables, times, gates, bytes, wires, run, lent). (
     d,
@@ -149,6 +156,7 @@ solveWhole = record {
             Whole.gatesAfterWhole d tables budget gates bytes wires ∷ Whole.bytesAfterWhole d tables budget gates bytes wires
             ∷ Whole.wiresAfterWhole d tables budget gates bytes wires ∷ numbersOr (solvedNumbers s) answer ∷ [];
       };
+  inBytes = λ (d, tables, budget, gates, bytes, wires, answer). (asBytes d, tables, budget, gates, bytes, wires, answer);
   numbers = 1 ∷ 2 ∷ 4 ∷ 3 ∷ 7 ∷ 23 ∷ 10 ∷ [];
   named = λ (d, tables, budget, gates, bytes, wires, answer). (
     d,

@@ -1,4 +1,5 @@
 -- The functions that turn a table into columns and back.
+-- Read: none, they have the form of `Runs`.
 use Prim.Native.Nat.{ℕ, _*_}
 use mathlib.Core.List.{List, [], _∷_}
 use lib.ListN.{length, take, drop}
@@ -10,7 +11,7 @@ use Rattle.demand1.specs.Demand1.{Entry}
 use Rattle.demand1.specs.Named.{namedRows}
 use Rattle.demand1.specs.Examples.{array}
 
--- the words of the squares of so many rows
+-- the words of the squares of a number of rows
 abbrev pub planeWords : ℕ → ℕ
 planeWords rows = 64 * squareCount rows
 
@@ -23,6 +24,7 @@ columns = record {
     lent = planes ∷ [];
     left = columnsAfter n rows table planes ∷ [];
   };
+  inBytes = λ a. a;
   numbers = 1 ∷ 2 ∷ 4 ∷ 3 ∷ [];
   named = λ (n, rows, table, planes). (n, rows, namedRows rows table, take (planeWords rows) planes);
   past = λ (n, rows, table, planes). drop (planeWords rows) planes ∷ [];
@@ -40,6 +42,7 @@ rows = record {
     lent = table ∷ [];
     left = rowsAfter n rows planes table ∷ [];
   };
+  inBytes = λ a. a;
   numbers = 1 ∷ 2 ∷ 4 ∷ 24 ∷ [];
   named = λ (n, rows, planes, table). (n, rows, take (planeWords rows) planes, namedRows rows table);
   past = λ (n, rows, planes, table). drop (2 * rows) table ∷ [];

@@ -1,5 +1,5 @@
--- Demand 1 for every function of include/forkhemit.h by its name there, and for the programs' own functions.
--- tests/src/demand1.rs fails where the header has a function that is not named here, or says other refusals.
+-- Demand 1 for every function of include/forkhemit.h by its name there, and for the programs' own functions. tests/src/demand1.rs fails
+-- where the header has a function that is not named here, or says other refusals.
 use Rattle.demand1.specs.Demand1.{Demand1}
 use Rattle.demand1.specs.Runs.{sizes, accept, judge, freshRun, stepPlain, solve, model, countFree}
 use Rattle.demand1.specs.Programs.{Demand1Printed, pair, wholeProgram, circuit}
@@ -40,7 +40,7 @@ pub record Every : Type 0 where
   -- late conditions
   pub «forkhemit_replace» : Demand1 replace
   pub «forkhemit_replace_indexed» : Demand1 replaceIndexed
-  -- the rule behind each step
+  -- the rule of each step
   pub «forkhemit_step_explained» : Demand1 stepExplained
   pub «forkhemit_clause» : Demand1 placeClause
   pub «forkhemit_excerpt» : Demand1 excerpt

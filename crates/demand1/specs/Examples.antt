@@ -26,7 +26,7 @@ badTables =
     (dimensions 33 1 1 1, rows) ∷ (dimensions 2 1 0 1, rows)
     ∷ (two, allTables (3 ∷ []) (0 ∷ 1 ∷ []) (1 ∷ 1 ∷ [])) ∷ (two, allTables (3 ∷ 4 ∷ []) (0 ∷ 1 ∷ []) (1 ∷ 1 ∷ [])) ∷ []
 
--- the fresh run of so many variables, in words
+-- the fresh run of n variables, in words
 unfoldable pub freshWords : ℕ → List ℕ
 unfolding runWords runOf
 freshWords n = runWords (runOf n fresh)
@@ -36,6 +36,6 @@ unfoldable pub satisfiedWords : List ℕ
 unfolding runWords runOf
 satisfiedWords = runWords (runOf 2 (record { standing = Satisfied; t = 2; f = 1; levels = [] }))
 
--- an array of so many numbers
+-- an array of k numbers
 abbrev pub array : ℕ → List ℕ
 array k = replicate k 9

@@ -1,4 +1,5 @@
 -- The functions on runs with an index, and those with the weighted choice.
+-- Read: none, they have the form of `Runs`.
 use Prim.Native.Nat.{ℕ}
 use mathlib.Core.List.{List, [], _∷_, _++_, map}
 use Rattle.refusals.specs.Checks.{outcome}
@@ -20,7 +21,7 @@ use Rattle.host_runs.specs.Runs.{stepStored}
 use Rattle.host_indexed.specs.Steps.{indexedStepIn, continueIn}
 use Rattle.demand1.specs.Calls.{Effect}
 use Rattle.demand1.specs.Demand1.{Entry}
-use Rattle.demand1.specs.Named.{namedTables}
+use Rattle.demand1.specs.Named.{asBytes, namedTables}
 use Rattle.demand1.specs.Examples.{two, rows, badTables, freshWords, array}
 
 -- forkhemit_index
@@ -32,6 +33,7 @@ index = record {
     lent = lent ∷ [];
     left = indexAfter d tables lent ∷ [];
   };
+  inBytes = λ (d, tables, lent). (asBytes d, tables, lent);
   numbers = 1 ∷ 2 ∷ 4 ∷ 3 ∷ [];
   named = λ (d, tables, lent). (d, namedTables d tables, lent);
   past = λ a. [];
@@ -47,6 +49,7 @@ unsatisfied = record {
     lent = number ∷ [];
     left = numbersOr (countedNumbers (counted d tables (runIn run))) number ∷ [];
   };
+  inBytes = λ (d, tables, run, number). (asBytes d, tables, run, number);
   numbers = 1 ∷ 2 ∷ 4 ∷ 3 ∷ 12 ∷ 13 ∷ [];
   named = λ (d, tables, run, number). (d, namedTables d tables, run, number);
   past = λ a. [];
@@ -66,6 +69,7 @@ stepIndexed = record {
         lent = run ∷ (number ∷ []) ∷ [];
         left = storedIf (s .outcome) (s .run) run ∷ (s .number ∷ []) ∷ [];
       };
+  inBytes = λ (d, tables, index, run, number). (asBytes d, tables, index, run, number);
   numbers = 1 ∷ 2 ∷ 4 ∷ 3 ∷ 12 ∷ 12 ∷ 12 ∷ 13 ∷ [];
   named = λ (d, tables, index, run, number). (d, namedTables d tables, index, run, number);
   past = λ a. [];
@@ -85,11 +89,12 @@ continueEffect d tables run lent c = record {
   left = storedIf (c .outcome) (c .run) run ∷ numbersOr (continuedNumbers c) lent ∷ [];
 }
 
--- forkhemit_continue: so many times
+-- forkhemit_continue: at most `times` steps
 abbrev pub continue : Entry (Dimensions × Tables × ℕ × List ℕ × List ℕ)
 continue = record {
   call = λ (d, tables, times, run, lent).
       continueEffect d tables run lent (continueIn d tables times run);
+  inBytes = λ (d, tables, times, run, lent). (asBytes d, tables, times, run, lent);
   numbers = 1 ∷ 2 ∷ 4 ∷ 3 ∷ 12 ∷ 13 ∷ [];
   named = λ (d, tables, times, run, lent). (d, namedTables d tables, times, run, lent);
   past = λ a. [];
@@ -111,6 +116,7 @@ stepWeighted = record {
         lent = run ∷ [];
         left = stepStored s run ∷ [];
       };
+  inBytes = λ (d, tables, run). (asBytes d, tables, run);
   numbers = 1 ∷ 2 ∷ 4 ∷ 3 ∷ 12 ∷ 13 ∷ [];
   named = λ (d, tables, run). (d, namedTables d tables, run);
   past = λ a. [];
@@ -130,6 +136,7 @@ solveWeighted = record {
         lent = answer ∷ [];
         left = numbersOr (solvedNumbers s) answer ∷ [];
       };
+  inBytes = λ (d, tables, budget, answer). (asBytes d, tables, budget, answer);
   numbers = 1 ∷ 2 ∷ 4 ∷ 3 ∷ [];
   named = λ (d, tables, budget, answer). (d, namedTables d tables, budget, answer);
   past = λ a. [];
@@ -141,6 +148,7 @@ abbrev pub continueWeighted : Entry (Dimensions × Tables × ℕ × List ℕ × 
 continueWeighted = record {
   call = λ (d, tables, times, run, lent).
       continueEffect d tables run lent (continuedWith weightedRule d tables times (runIn run));
+  inBytes = λ (d, tables, times, run, lent). (asBytes d, tables, times, run, lent);
   numbers = 1 ∷ 2 ∷ 4 ∷ 3 ∷ 12 ∷ 13 ∷ [];
   named = λ (d, tables, times, run, lent). (d, namedTables d tables, times, run, lent);
   past = λ a. [];

@@ -1,4 +1,5 @@
 -- The functions for late conditions, and the step that tells its rule.
+-- Read: none, they have the form of `Runs`.
 use Prim.Native.Nat.{ℕ, _*_}
 use mathlib.Core.List.{List, [], _∷_, _++_, map}
 use lib.ListN.{drop}
@@ -17,16 +18,16 @@ use Rattle.stored.specs.Words.{runIn}
 use Rattle.host_late.specs.Conditions.{conditionOf}
 use Rattle.host_explained.specs.Explanations.{explainIn, runAfter, numbersAfter}
 use Rattle.demand1.specs.Demand1.{Entry}
-use Rattle.demand1.specs.Named.{namedTables}
+use Rattle.demand1.specs.Named.{asBytes, namedTables}
 use Rattle.demand1.specs.Examples.{two, rows, badTables, freshWords, satisfiedWords, array}
 
 -- the two stations' words, which a late condition changes
 abbrev pub stations : Tables → List (List ℕ)
 stations tables = tables .left ∷ tables .right ∷ []
 
--- behind their rows
-abbrev pub behindRows : Dimensions → Tables → List (List ℕ)
-behindRows d tables = drop (2 * d .left) (tables .left) ∷ drop (2 * d .right) (tables .right) ∷ []
+-- what follows their rows
+abbrev pub pastRows : Dimensions → Tables → List (List ℕ)
+pastRows d tables = drop (2 * d .left) (tables .left) ∷ drop (2 * d .right) (tables .right) ∷ []
 
 -- the left row is padding
 abbrev pub padded : Tables
@@ -45,9 +46,10 @@ replace = record {
     lent = stations tables;
     left = stations (tablesAfter d tables (runIn run) c);
   };
+  inBytes = λ (d, tables, run, c). (asBytes d, tables, run, c);
   numbers = 1 ∷ 2 ∷ 4 ∷ 3 ∷ 12 ∷ 13 ∷ 15 ∷ 16 ∷ 3 ∷ [];
   named = λ (d, tables, run, c). (d, namedTables d tables, run, c);
-  past = λ (d, tables, run, c). behindRows d tables;
+  past = λ (d, tables, run, c). pastRows d tables;
   examples =
       (two, padded, freshWords 2, firstLeft 2) ∷ map (λ (d, tables). (d, tables, freshWords 2, firstLeft 2)) badTables
       ++ (two, padded, freshWords 33, firstLeft 2) ∷ (two, padded, freshWords 3, firstLeft 2) ∷ (two, rows, freshWords 2, firstLeft 2)
@@ -65,9 +67,10 @@ replaceIndexed = record {
         stations (tablesThen d tables index (runIn run) number c)
         ++ indexThen d tables index (runIn run) number c ∷ (numberThen d tables index (runIn run) number c ∷ []) ∷ [];
   };
+  inBytes = λ (d, tables, run, c, index, number). (asBytes d, tables, run, c, index, number);
   numbers = 1 ∷ 2 ∷ 4 ∷ 3 ∷ 12 ∷ 12 ∷ 12 ∷ 13 ∷ 15 ∷ 16 ∷ 3 ∷ [];
   named = λ (d, tables, run, c, index, number). (d, namedTables d tables, run, c, index, number);
-  past = λ (d, tables, run, c, index, number). behindRows d tables;
+  past = λ (d, tables, run, c, index, number). pastRows d tables;
   examples =
       let right = indexOf (rowsOf two padded) in
       let plain = indexOf (rowsOf two rows) in
@@ -89,6 +92,7 @@ stepExplained = record {
         lent = run ∷ explanation ∷ [];
         left = runAfter e run ∷ numbersAfter e explanation ∷ [];
       };
+  inBytes = λ (d, tables, run, explanation). (asBytes d, tables, run, explanation);
   numbers = 1 ∷ 2 ∷ 4 ∷ 3 ∷ 12 ∷ 13 ∷ [];
   named = λ (d, tables, run, explanation). (d, namedTables d tables, run, explanation);
   past = λ a. [];

@@ -1,9 +1,15 @@
--- The words that a call names: a table's first 2 × rows words, a text's bytes up to the one that makes it overlong.
+-- The numbers and words that a call names: a host's numbers as bytes, a table's first 2 × rows words.
+-- Ask: Is each buffer cut where the header says, and no later?
 use Prim.Native.Nat.{ℕ, _*_}
 use mathlib.Core.List.{List}
 use lib.ListN.{take}
 use Rattle.dimensions.specs.declared.Dimensions.{Dimensions}
 use Rattle.tables.specs.Tables.{Tables, allTables}
+use Rattle.codes.specs.Codes.{hostDimensions}
+
+-- dimensions as hosts' contracts have them: each number as a byte
+abbrev pub asBytes : Dimensions → Dimensions
+asBytes d = hostDimensions (d .n) (d .left) (d .right) (d .public)
 
 -- a table's rows
 abbrev pub namedRows : ℕ → List ℕ → List ℕ

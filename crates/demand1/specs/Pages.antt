@@ -1,4 +1,5 @@
 -- The functions for watch pages, and those that write lines and the answer.
+-- Read: none, they have the form of `Runs`.
 use Prim.Native.Nat.{ℕ, _*_}
 use mathlib.Core.List.{List, [], _∷_, _++_, map}
 use lib.ListN.{length, take, drop}
@@ -10,12 +11,13 @@ use Rattle.page.specs.Page.{pageOf}
 use Rattle.page.specs.Entries.{pageChecks, pageAfter, readPageChecks, modelOn}
 use Rattle.bristol.specs.Writing.{lineAt, lineChecks, writtenLine, lineCode, lineNumbers, filledLine}
 use Rattle.bristol.specs.Writing.{writtenLines, linesCode, linesNumbers, filledLines}
-use Rattle.codes.specs.Codes.{variableChecks}
+use Rattle.codes.specs.Codes.{asByte, variableChecks}
 use Rattle.answers.specs.Printed.{answerText}
 use Rattle.stored.specs.Words.{runIn}
 use Rattle.lent.specs.Lent.{numbersOr}
 use Rattle.host_lines.specs.Answers.{answerFrom, textGiven, lengthGiven}
 use Rattle.demand1.specs.Demand1.{Entry}
+use Rattle.demand1.specs.Named.{asBytes}
 use Rattle.demand1.specs.Examples.{two, badSizes, freshWords, satisfiedWords, array}
 
 -- ---- watch pages
@@ -29,6 +31,7 @@ page = record {
     lent = page ∷ [];
     left = pageAfter (runIn run) pilots watches page ∷ [];
   };
+  inBytes = λ a. a;
   numbers = 12 ∷ 14 ∷ 25 ∷ 26 ∷ [];
   named = λ (run, pilots, watches, page). (run, pilots, watches, take (80 * pilots) page);
   past = λ (run, pilots, watches, page). drop (80 * pilots) page ∷ [];
@@ -46,6 +49,7 @@ readPage = record {
     lent = model ∷ [];
     left = numbersOr (modelNumbers (modelOn n pilots watches page)) model ∷ [];
   };
+  inBytes = λ a. a;
   numbers = 1 ∷ 25 ∷ 26 ∷ 27 ∷ [];
   named = λ (n, pilots, watches, page, model). (n, pilots, watches, take (80 * pilots) page, model);
   past = λ a. [];
@@ -65,6 +69,7 @@ writeLine = record {
     lent = bytes ∷ length ∷ [];
     left = filledLine d gates line bytes ∷ numbersOr (lineNumbers (writtenLine d gates line bytes)) length ∷ [];
   };
+  inBytes = λ (d, gates, line, bytes, length). (asBytes d, gates, line, bytes, length);
   numbers = 1 ∷ 2 ∷ 9 ∷ 11 ∷ [];
   named = λ (d, gates, line, bytes, number). (d, gates, line, take (length (lineAt d gates line)) bytes, number);
   past = λ (d, gates, line, bytes, number). drop (length (lineAt d gates line)) bytes ∷ [];
@@ -82,6 +87,7 @@ writeLines = record {
     lent = bytes ∷ written ∷ [];
     left = filledLines d gates line bytes ∷ numbersOr (linesNumbers (writtenLines d gates line bytes)) written ∷ [];
   };
+  inBytes = λ (d, gates, line, bytes, written). (asBytes d, gates, line, bytes, written);
   numbers = 1 ∷ 2 ∷ 9 ∷ 11 ∷ [];
   named = λ a. a;
   past = λ a. [];
@@ -101,6 +107,7 @@ answer = record {
         lent = text ∷ length ∷ [];
         left = textGiven n printed text ∷ lengthGiven n printed length ∷ [];
       };
+  inBytes = λ (n, count, verdict, model, text, length). (asByte n, count, verdict, model, text, length);
   numbers = 1 ∷ [];
   named = λ a. a;
   past = λ a. [];

@@ -17,9 +17,9 @@ use Rattle.text.specs.Refused.{refusedLine}
 use Rattle.dimacs.specs.ThreeTexts.{textTables}
 use Rattle.lines.specs.declared.Budget.{Budget}
 use Rattle.lines.specs.declared.Budget.the-variants as budget
-use Rattle.lines.specs.declared.Size.{Size}
-use Rattle.lines.specs.declared.Size.the-variants as size
-use Rattle.lines.specs.Numbers.{budgetOf, budgetCode, sizeOf}
+use Rattle.lines.specs.declared.DimensionLine.{DimensionLine}
+use Rattle.lines.specs.declared.DimensionLine.the-variants as dimension
+use Rattle.lines.specs.Numbers.{budgetOf, budgetCode, dimensionLineOf}
 use Rattle.answers.specs.Printed.{answerText, refusalText}
 use Rattle.reply.specs.Reply.{dimensionsOf, tablesIn, replyText}
 use Rattle.tables.specs.Rows.{rowsOf}
@@ -120,21 +120,21 @@ wholeProgram = record {
 -- ---- the circuit program
 
 -- the line is not read
-abbrev pub unread : Size → Bool
-unread (size.Of n left right public) = false
-unread (size.Refused r) = true
+abbrev pub unread : DimensionLine → Bool
+unread (dimension.Of n left right public) = false
+unread (dimension.Refused r) = true
 
 -- the dimensions of a line that is read
-abbrev pub sizesIn : Size → Dimensions
-sizesIn (size.Of n left right public) = dimensions n left right public
-sizesIn (size.Refused r) = dimensions 0 0 0 0
+abbrev pub sizesIn : DimensionLine → Dimensions
+sizesIn (dimension.Of n left right public) = dimensions n left right public
+sizesIn (dimension.Refused r) = dimensions 0 0 0 0
 
 -- listing::list: a line
 abbrev pub circuit : Program (List ℕ)
 circuit = record {
   printed = listed;
-  judged = λ line. check (unread (sizeOf line)) NumberLine ∷ listChecks (sizesIn (sizeOf line));
-  answer = λ line. let d = sizesIn (sizeOf line) in circuitText d (gatesOn d);
+  judged = λ line. check (unread (dimensionLineOf line)) NumberLine ∷ listChecks (sizesIn (dimensionLineOf line));
+  answer = λ line. let d = sizesIn (dimensionLineOf line) in circuitText d (gatesOn d);
   refusal = refusedLine;
   numbers = 8 ∷ 1 ∷ 2 ∷ 7 ∷ [];
   named = λ line. line;

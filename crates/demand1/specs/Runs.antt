@@ -1,4 +1,6 @@
 -- The functions on tables and runs.
+-- Read: the first entry; all others have its form.
+-- Ask: Is `call` the contract of that name, line by line? Are `judged` the checks in the order of documents 01 and 02?
 use Prim.Native.Nat.{ℕ}
 use mathlib.Core.List.{List, [], _∷_, _++_, map}
 use lib.ListN.{length, take, drop}
@@ -13,14 +15,14 @@ use Rattle.state.specs.WellFormed.{stateChecks}
 use Rattle.verdicts.specs.Verdicts.{modelChecks, modelOf, modelCode, modelNumbers}
 use Rattle.solver.specs.Entries.{solved, solvedCode, solvedNumbers}
 use Rattle.free_counts.specs.Counts.{countChecks, countsAfter}
-use Rattle.codes.specs.Codes.{variableChecks}
+use Rattle.codes.specs.Codes.{asByte, variableChecks}
 use Rattle.stored.specs.Words.{runIn}
 use Rattle.lent.specs.Lent.{numbersOr, storedIf}
 use Rattle.host_circuits.specs.Circuits.{sizesGiven}
 use Rattle.host_runs.specs.Rows.{judgedRow, judgedNumbers}
 use Rattle.host_runs.specs.Runs.{stepIn, stepStored}
 use Rattle.demand1.specs.Demand1.{Entry}
-use Rattle.demand1.specs.Named.{namedTables}
+use Rattle.demand1.specs.Named.{asBytes, namedTables}
 use Rattle.demand1.specs.Examples.{two, rows, badSizes, badTables, freshWords, satisfiedWords, array}
 
 -- forkhemit_sizes
@@ -32,6 +34,7 @@ sizes = record {
     lent = lent ∷ [];
     left = sizesGiven d lent ∷ [];
   };
+  inBytes = λ (d, lent). (asBytes d, lent);
   numbers = 1 ∷ 2 ∷ [];
   named = λ a. a;
   past = λ a. [];
@@ -42,13 +45,14 @@ sizes = record {
 abbrev pub accept : Entry (Dimensions × Tables)
 accept = record {
   call = λ (d, tables). record { returned = codeOf (outcome (tableChecks d tables)); judged = tableChecks d tables; lent = []; left = [] };
+  inBytes = λ (d, tables). (asBytes d, tables);
   numbers = 1 ∷ 2 ∷ 4 ∷ 3 ∷ [];
   named = λ (d, tables). (d, namedTables d tables);
   past = λ a. [];
   examples = (two, rows) ∷ badTables;
 }
 
--- forkhemit_judge: positive, negative, T, F; never turned back
+-- forkhemit_judge: positive, negative, T, F; never refused
 abbrev pub judge : Entry (ℕ × ℕ × ℕ × ℕ × List ℕ)
 judge = record {
   call = λ (positive, negative, t, f, lent). record {
@@ -57,6 +61,7 @@ judge = record {
     lent = lent ∷ [];
     left = judgedNumbers (judgedRow positive negative t f) ∷ [];
   };
+  inBytes = λ a. a;
   numbers = [];
   named = λ a. a;
   past = λ a. [];
@@ -72,6 +77,7 @@ freshRun = record {
     lent = run ∷ [];
     left = storedIf (outcome (variableChecks n)) (runOf n fresh) run ∷ [];
   };
+  inBytes = λ (n, run). (asByte n, run);
   numbers = 1 ∷ [];
   named = λ a. a;
   past = λ a. [];
@@ -87,6 +93,7 @@ stepPlain = record {
     lent = run ∷ [];
     left = stepStored (stepIn d tables run) run ∷ [];
   };
+  inBytes = λ (d, tables, run). (asBytes d, tables, run);
   numbers = 1 ∷ 2 ∷ 4 ∷ 3 ∷ 12 ∷ 13 ∷ [];
   named = λ (d, tables, run). (d, namedTables d tables, run);
   past = λ a. [];
@@ -104,6 +111,7 @@ solve = record {
     lent = answer ∷ [];
     left = numbersOr (solvedNumbers (solved d tables budget)) answer ∷ [];
   };
+  inBytes = λ (d, tables, budget, answer). (asBytes d, tables, budget, answer);
   numbers = 1 ∷ 2 ∷ 4 ∷ 3 ∷ [];
   named = λ (d, tables, budget, answer). (d, namedTables d tables, budget, answer);
   past = λ a. [];
@@ -119,6 +127,7 @@ model = record {
     lent = lent ∷ [];
     left = numbersOr (modelNumbers (modelOf (runIn run))) lent ∷ [];
   };
+  inBytes = λ a. a;
   numbers = 12 ∷ 14 ∷ [];
   named = λ a. a;
   past = λ a. [];
@@ -134,6 +143,7 @@ countFree = record {
     lent = counts ∷ [];
     left = countsAfter d tables (runIn run) counts ∷ [];
   };
+  inBytes = λ (d, tables, run, counts). (asBytes d, tables, run, counts);
   numbers = 1 ∷ 2 ∷ 4 ∷ 3 ∷ 10 ∷ 12 ∷ 13 ∷ [];
   named = λ (d, tables, run, counts). (d, namedTables d tables, run, take (rowCount d) counts);
   past = λ (d, tables, run, counts). drop (rowCount d) counts ∷ [];

@@ -1,4 +1,5 @@
 -- The functions that read texts: three texts to tables, the budget line, a proof, a game, and the places of clauses.
+-- Read: the first entry.
 use Prim.Native.Nat.{ℕ, _*_}
 use mathlib.Core.Bool.{Bool, true, false, not, _||_}
 use mathlib.Core.List.{List, [], _∷_, _++_, map}
@@ -13,8 +14,8 @@ use Rattle.tables.specs.Tables.{Tables, allTables}
 use Rattle.tables.specs.Acceptance.{tableChecks}
 use Rattle.lexer.specs.Spelling.{bytes}
 use Rattle.lexer.specs.Remarks.{withoutRemarks}
-use Rattle.header.specs.declared.Sizes.{Sizes}
-use Rattle.header.specs.declared.Sizes.the-variants as sizes
+use Rattle.header.specs.declared.HeaderNumbers.{HeaderNumbers}
+use Rattle.header.specs.declared.HeaderNumbers.the-variants as sizes
 use Rattle.header.specs.Header.{headerOf}
 use Rattle.dimacs.specs.Text.{tableOf}
 use Rattle.excerpts.specs.Excerpts.{overlong, hasClause, placed, placedCode, placedNumbers, clauseBytes}
@@ -23,7 +24,7 @@ use Rattle.lent.specs.Lent.{numbersOr}
 use Rattle.host_texts.specs.Texts.{Texts, textsOf, noRoom, readOutcome, tablesRead, sizesRead}
 use Rattle.host_excerpts.specs.Parts.{partAfter, lengthAfter, excerptIn}
 use Rattle.demand1.specs.Demand1.{Entry}
-use Rattle.demand1.specs.Named.{namedTables}
+use Rattle.demand1.specs.Named.{asBytes, namedTables}
 use Rattle.demand1.specs.Examples.{two, rows, badTables, array}
 
 -- ---- one text
@@ -33,12 +34,12 @@ unfoldable pub namedText : List ℕ → List ℕ
 namedText text = take 65537 text
 
 -- the number that a header meets; 0 where it is taken
-abbrev pub headerNumber : Sizes → ℕ
+abbrev pub headerNumber : HeaderNumbers → ℕ
 headerNumber (sizes.Of n m) = 0
 headerNumber (sizes.Refused r) = numberOf r
 
 -- a text's header
-abbrev pub headOf : ℕ → List ℕ → Sizes
+abbrev pub headOf : ℕ → List ℕ → HeaderNumbers
 headOf least text = headerOf least (withoutRemarks text) .sizes
 
 -- the call is taken
@@ -97,6 +98,7 @@ readTables = record {
         lent = allWords lent ++ sizes ∷ [];
         left = allWords (tablesRead t lent) ++ sizesRead t lent sizes ∷ [];
       };
+  inBytes = λ a. a;
   numbers = 5 ∷ 1 ∷ 2 ∷ 5 ∷ 5 ∷ 1 ∷ 2 ∷ 5 ∷ 5 ∷ 1 ∷ 2 ∷ 5 ∷ 4 ∷ 6 ∷ [];
   named = λ (left, right, public, lent, sizes).
       (namedText left, namedText right, namedText public, namedLent (textsOf left right public) lent, sizes);
@@ -113,7 +115,7 @@ readTables = record {
       ∷ (goodText, goodText, bytes "p cnf 3 0\n", lent, array 4) ∷ []));
 }
 
--- ---- where a clause stands
+-- ---- the place of a clause
 
 -- 5 for an overlong text, the tables' 1, 2, 4, 3, each text's 1, 2 and 5, 6, 17
 abbrev pub clauseJudged : Dimensions → Tables → List ℕ → List ℕ → ℕ → List Check
@@ -127,6 +129,9 @@ clauseJudged d tables leftText rightText row =
 -- tables, texts and a row's number
 abbrev pub ClauseAsked : Type 0
 ClauseAsked = Dimensions × Tables × List ℕ × List ℕ × ℕ
+
+abbrev pub clauseInBytes : ClauseAsked → ClauseAsked
+clauseInBytes (d, tables, leftText, rightText, row) = (asBytes d, tables, leftText, rightText, row)
 
 abbrev pub namedClause : ClauseAsked → ClauseAsked
 namedClause (d, tables, leftText, rightText, row) = (d, namedTables d tables, namedText leftText, namedText rightText, row)
@@ -153,6 +158,7 @@ placeClause = record {
         lent = place ∷ [];
         left = numbersOr (placedNumbers p) place ∷ [];
       };
+  inBytes = λ (c, place). (clauseInBytes c, place);
   numbers = 5 ∷ 1 ∷ 2 ∷ 4 ∷ 3 ∷ 1 ∷ 2 ∷ 5 ∷ 1 ∷ 2 ∷ 5 ∷ 6 ∷ 17 ∷ [];
   named = λ (c, place). (namedClause c, place);
   past = λ a. [];
@@ -171,6 +177,7 @@ excerpt = record {
         lent = bytes ∷ number ∷ [];
         left = partAfter o part bytes ∷ lengthAfter o part number ∷ [];
       };
+  inBytes = λ (c, bytes, number). (clauseInBytes c, bytes, number);
   numbers = 5 ∷ 1 ∷ 2 ∷ 4 ∷ 3 ∷ 1 ∷ 2 ∷ 5 ∷ 1 ∷ 2 ∷ 5 ∷ 6 ∷ 17 ∷ 11 ∷ [];
   named = λ ((d, tables, leftText, rightText, row), bytes, number).
       (namedClause (d, tables, leftText, rightText, row), take (length (clauseBytes d tables leftText rightText row)) bytes, number);

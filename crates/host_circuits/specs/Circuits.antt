@@ -11,7 +11,7 @@ use Rattle.lent.specs.Lent.{storedIf}
 abbrev pub sizeNumbers : Dimensions → List ℕ
 sizeNumbers d = ceiling d ∷ (3 * ceiling d ∷ (inputWires d ∷ (stateWires (d .n) ∷ [])))
 
--- the lent sizes of dimensions within the limits; of others what stood there
+-- the lent sizes of dimensions within the limits; of others what was there
 abbrev pub sizesGiven : Dimensions → List ℕ → List ℕ
 sizesGiven d lent = given (outcome (sizeChecks d)) (sizeNumbers d) (λ r. lent)
 

@@ -19,7 +19,7 @@ explainIn d tables words = explained d tables (runIn words)
 abbrev pub runAfter : Explained → List ℕ → List ℕ
 runAfter e words = storedIf (e .outcome) (e .run) words
 
--- rule, row, variable, value where the call is taken; else what stood there
+-- rule, row, variable, value where the call is taken; else what was there
 abbrev pub numbersIf : Outcome → Told → List ℕ → List ℕ
 numbersIf o told lent = given o (toldNumbers told) (λ r. lent)
 

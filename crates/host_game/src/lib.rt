@@ -31,7 +31,7 @@ fn numbers(winner: Winner) -> [u64; 3]
 }
 
 // Who can force the roster of a text: the winner (1 existential, 2 universal), the first variable where the winner moves first, else 0, and
-// its value; 5 (overlong), 1, 2, 21, 5 or 22 where it is turned back, and then no number is written.
+// its value; 5 (overlong), 1, 2, 21, 5 or 22 where it is refused, and then no number is written.
 #[no_mangle]
 pub extern "C" fn forkhemit_game(text: &[u8], answer: &mut [u64; 3]) -> u8
     ensures { λ r. ⌜ r ≡ gameCode (gameAnswer (gameText (now (text .entry)))) ⌝ }

@@ -14,6 +14,6 @@ use Rattle.stored.specs.Words.{runIn}
 abbrev pub indexedStepIn : Dimensions → Tables → List ℕ → List ℕ → List ℕ → SteppedIndexed
 indexedStepIn d tables index run number = steppedIndexed d tables index (runIn run) (getD number 0 0)
 
--- the run in lent words continued, at most so many times
+-- the run in lent words continued, at most a given number of times
 abbrev pub continueIn : Dimensions → Tables → ℕ → List ℕ → Continued
 continueIn d tables times run = continued d tables times (runIn run)

@@ -1,6 +1,6 @@
-// For hosts in C and Rust: the rows of each literal as an index, the number of unsatisfied rows, and the steps that go by them.
-// Each function is a thin call of a proved entry. A slice passes as a pointer and then a length, an array as a pointer.
-// It returns 0 where the call is taken, else the refusal's number, and then all lent memory is as it was.
+// For hosts in C and Rust: the rows of each literal as an index, the number of unsatisfied rows, and the steps that go by them. Each
+// function is a thin call of a proved entry. A slice passes as a pointer and then a length, an array as a pointer. It returns 0 where the
+// call is taken, else the refusal's number, and then all lent memory is as it was.
 use indexed::Continued;
 use indexed::Counted;
 use refusals::Outcome;
@@ -8,16 +8,16 @@ ghost use mathlib.Core.Path.{_≡_};
 ghost use mathlib.Core.List.{[], _∷_};
 ghost use Rattle.refusals.specs.Checks.{outcome};
 ghost use Rattle.refusals.specs.Numbers.{codeOf};
-ghost use Rattle.dimensions.specs.Sizes.{dimensions};
 ghost use Rattle.tables.specs.Tables.{lentTables};
 ghost use Rattle.tables.specs.Acceptance.{tableChecks};
 ghost use Rattle.indexed.specs.Entries.{indexAfter, counted, countedCode, countedNumbers};
 ghost use Rattle.indexed.specs.Continuing.{continuedCode, continuedNumbers};
+ghost use Rattle.codes.specs.Codes.{hostDimensions};
 ghost use Rattle.stored.specs.Words.{runIn};
 ghost use Rattle.lent.specs.Lent.{numbersOr, storedIf};
 ghost use Rattle.host_indexed.specs.Steps.{indexedStepIn, continueIn};
 
-// The index of three tables; 1, 2, 4 or 3 where it is turned back.
+// The index of three tables; 1, 2, 4 or 3 where it is refused.
 #[no_mangle]
 pub extern "C" fn forkhemit_index(
     n: u64,
@@ -30,16 +30,16 @@ pub extern "C" fn forkhemit_index(
     index: &mut [u64; 384],
 ) -> u8
     ensures { λ r.
-        ⌜ r ≡ codeOf (outcome (tableChecks (dimensions n «left_rows» «right_rows» «public_rows») (lentTables left right public))) ⌝ }
+        ⌜ r ≡ codeOf (outcome (tableChecks (hostDimensions n «left_rows» «right_rows» «public_rows») (lentTables left right public))) ⌝ }
     ensures { λ _.
-        ⌜ now (index .exit) ≡ indexAfter (dimensions n «left_rows» «right_rows» «public_rows») (lentTables left right public)
+        ⌜ now (index .exit) ≡ indexAfter (hostDimensions n «left_rows» «right_rows» «public_rows») (lentTables left right public)
         (now (index .entry)) ⌝ }
 {
     let d = codes::dimensions(n, left_rows, right_rows, public_rows);
     codes::code(indexed::index(d, left, right, public, index))
 }
 
-// How many rows are unsatisfied under the T and F of the run in the lent words; 1, 2, 4, 3, 12 or 13 where it is turned back.
+// How many rows are unsatisfied under the T and F of the run in the lent words; 1, 2, 4, 3, 12 or 13 where it is refused.
 #[no_mangle]
 pub extern "C" fn forkhemit_unsatisfied(
     n: u64,
@@ -53,10 +53,10 @@ pub extern "C" fn forkhemit_unsatisfied(
     number: &mut [u64; 1],
 ) -> u8
     ensures { λ r.
-        ⌜ r ≡ countedCode (counted (dimensions n «left_rows» «right_rows» «public_rows») (lentTables left right public)
+        ⌜ r ≡ countedCode (counted (hostDimensions n «left_rows» «right_rows» «public_rows») (lentTables left right public)
         (runIn (now (run .entry)))) ⌝ }
     ensures { λ _.
-        ⌜ now (number .exit) ≡ numbersOr (countedNumbers (counted (dimensions n «left_rows» «right_rows» «public_rows»)
+        ⌜ now (number .exit) ≡ numbersOr (countedNumbers (counted (hostDimensions n «left_rows» «right_rows» «public_rows»)
         (lentTables left right public) (runIn (now (run .entry))))) (now (number .entry)) ⌝ }
 {
     let d = codes::dimensions(n, left_rows, right_rows, public_rows);
@@ -69,7 +69,7 @@ pub extern "C" fn forkhemit_unsatisfied(
     }
 }
 
-// One giant step of the run in the lent words, with its number of unsatisfied rows; 1, 2, 4, 3, 12 or 13 where it is turned back: then the
+// One giant step of the run in the lent words, with its number of unsatisfied rows; 1, 2, 4, 3, 12 or 13 where it is refused: then the
 // step's number is the one that was lent.
 #[no_mangle]
 pub extern "C" fn forkhemit_step_indexed(
@@ -85,15 +85,15 @@ pub extern "C" fn forkhemit_step_indexed(
     number: &mut [u64; 1],
 ) -> u8
     ensures { λ r.
-        ⌜ r ≡ codeOf (indexedStepIn (dimensions n «left_rows» «right_rows» «public_rows») (lentTables left right public)
+        ⌜ r ≡ codeOf (indexedStepIn (hostDimensions n «left_rows» «right_rows» «public_rows») (lentTables left right public)
         (now (index .entry)) (now (run .entry)) (now (number .entry)) .outcome) ⌝ }
     ensures { λ _.
-        ⌜ now (run .exit) ≡ storedIf (indexedStepIn (dimensions n «left_rows» «right_rows» «public_rows») (lentTables left right public)
+        ⌜ now (run .exit) ≡ storedIf (indexedStepIn (hostDimensions n «left_rows» «right_rows» «public_rows») (lentTables left right public)
         (now (index .entry)) (now (run .entry)) (now (number .entry)) .outcome)
-        (indexedStepIn (dimensions n «left_rows» «right_rows» «public_rows») (lentTables left right public) (now (index .entry))
+        (indexedStepIn (hostDimensions n «left_rows» «right_rows» «public_rows») (lentTables left right public) (now (index .entry))
         (now (run .entry)) (now (number .entry)) .run) (now (run .entry)) ⌝ }
     ensures { λ _.
-        ⌜ now (number .exit) ≡ indexedStepIn (dimensions n «left_rows» «right_rows» «public_rows») (lentTables left right public)
+        ⌜ now (number .exit) ≡ indexedStepIn (hostDimensions n «left_rows» «right_rows» «public_rows») (lentTables left right public)
         (now (index .entry)) (now (run .entry)) (now (number .entry)) .number ∷ [] ⌝ }
 {
     let d = codes::dimensions(n, left_rows, right_rows, public_rows);
@@ -108,7 +108,7 @@ pub extern "C" fn forkhemit_step_indexed(
 }
 
 // Stores the run that was continued, writes how many steps it took and 1 if it is closed, else 0, and gives 0; the refusal's number where
-// it was turned back, and then nothing is written.
+// it was refused, and then nothing is written.
 pub fn give_continued(done: Continued, run: &mut [u32; 101], continued: &mut [u64; 2]) -> u8
     ensures { λ r. ⌜ r ≡ continuedCode done ⌝ }
     ensures { λ _. ⌜ now (run .exit) ≡ storedIf (done .outcome) (done .run) (now (run .entry)) ⌝ }
@@ -126,8 +126,8 @@ pub fn give_continued(done: Continued, run: &mut [u32; 101], continued: &mut [u6
     0
 }
 
-// Giant steps of the run in the lent words through the one that closes it, at most so many, by the indexed run; the numbers are how many
-// they were, and 1 if the run is closed then, else 0. 1, 2, 4, 3, 12 or 13 where it is turned back, and then nothing is written.
+// Giant steps of the run in the lent words through the one that closes it, at most a given number, by the indexed run; the numbers are how
+// many they were, and 1 if the run is closed then, else 0. 1, 2, 4, 3, 12 or 13 where it is refused, and then nothing is written.
 #[no_mangle]
 pub extern "C" fn forkhemit_continue(
     n: u64,
@@ -142,14 +142,14 @@ pub extern "C" fn forkhemit_continue(
     continued: &mut [u64; 2],
 ) -> u8
     ensures { λ r.
-        ⌜ r ≡ continuedCode (continueIn (dimensions n «left_rows» «right_rows» «public_rows») (lentTables left right public) times
+        ⌜ r ≡ continuedCode (continueIn (hostDimensions n «left_rows» «right_rows» «public_rows») (lentTables left right public) times
         (now (run .entry))) ⌝ }
     ensures { λ _.
-        ⌜ now (run .exit) ≡ storedIf (continueIn (dimensions n «left_rows» «right_rows» «public_rows») (lentTables left right public) times
-        (now (run .entry)) .outcome) (continueIn (dimensions n «left_rows» «right_rows» «public_rows») (lentTables left right public) times
-        (now (run .entry)) .run) (now (run .entry)) ⌝ }
+        ⌜ now (run .exit) ≡ storedIf (continueIn (hostDimensions n «left_rows» «right_rows» «public_rows») (lentTables left right public)
+        times (now (run .entry)) .outcome) (continueIn (hostDimensions n «left_rows» «right_rows» «public_rows»)
+        (lentTables left right public) times (now (run .entry)) .run) (now (run .entry)) ⌝ }
     ensures { λ _.
-        ⌜ now (continued .exit) ≡ numbersOr (continuedNumbers (continueIn (dimensions n «left_rows» «right_rows» «public_rows»)
+        ⌜ now (continued .exit) ≡ numbersOr (continuedNumbers (continueIn (hostDimensions n «left_rows» «right_rows» «public_rows»)
         (lentTables left right public) times (now (run .entry)))) (now (continued .entry)) ⌝ }
 {
     let d = codes::dimensions(n, left_rows, right_rows, public_rows);

@@ -5,4 +5,4 @@ use Rattle.late.specs.declared.Condition.{Condition}
 -- the station, the row's number from 1 over all tables, and the new row's two words
 abbrev pub conditionOf : ℕ → ℕ → ℕ → ℕ → Condition
 conditionOf station number positive negative =
-    record { station = station; number = number; row = record { positive = positive; negative = negative } }
+    record { station = station; replaced = number; row = record { positive = positive; negative = negative } }

@@ -11,7 +11,7 @@ use Rattle.lent.specs.Lent.{front}
 abbrev pub answerFrom : ℕ → ℕ → ℕ → Answer
 answerFrom count k model = record { count = count; verdict = verdictFrom k model }
 
--- the lent bytes after a text about n variables: the text, then what stood there
+-- the lent bytes after a text about n variables: the text, then what was there
 abbrev pub textGiven : ℕ → List ℕ → List ℕ → List ℕ
 textGiven n text lent = given (outcome (variableChecks n)) (front text lent) (λ r. lent)
 

@@ -1,7 +1,7 @@
-// For hosts in C and Rust: the budget line is read, the circuit's lines and the answer are written.
-// Each function is a thin call of a proved entry. A slice passes as a pointer and then a length, an array as a pointer.
-// It returns 0 where the call is taken, else the refusal's number, and then it writes nothing.
-use bristol::Written;
+// For hosts in C and Rust: the budget line is read, the circuit's lines and the answer are written. Each function is a thin call of a
+// proved entry. A slice passes as a pointer and then a length, an array as a pointer. It returns 0 where the call is taken, else the
+// refusal's number, and then it writes nothing.
+use bristol::WrittenLine;
 use bristol::WrittenLines;
 use lines::Budget;
 use refusals::Outcome;
@@ -14,11 +14,10 @@ ghost use Rattle.refusals.specs.Checks.{outcome};
 ghost use Rattle.lines.specs.Numbers.{budgetOf, budgetCode, budgetNumbers};
 ghost use Rattle.refusals.specs.Numbers.{codeOf};
 ghost use Rattle.lent.specs.Lent.{numbersOr};
-ghost use Rattle.dimensions.specs.Sizes.{dimensions};
-ghost use Rattle.codes.specs.Codes.{variableChecks};
+ghost use Rattle.codes.specs.Codes.{asByte, hostDimensions, variableChecks};
 ghost use Rattle.host_lines.specs.Answers.{answerFrom, textGiven, lengthGiven};
 
-// The budget of a line, digits and LF, at most 100 bytes; 8 where it is turned back, and then no number is written.
+// The budget of a line, digits and LF, at most 100 bytes; 8 where it is refused, and then no number is written.
 #[no_mangle]
 pub extern "C" fn forkhemit_read_budget(line: &[u8], budget: &mut [u64; 1]) -> u8
     ensures { λ r. ⌜ r ≡ budgetCode (budgetOf (now (line .entry))) ⌝ }
@@ -33,8 +32,8 @@ pub extern "C" fn forkhemit_read_budget(line: &[u8], budget: &mut [u64; 1]) -> u
     }
 }
 
-// Writes the line of a number, from 0, over the front of the bytes, and its length, 0 past the last line; 1, 2, 9 or 11 where it is turned
-// back.
+// Writes the line of a number, from 0, over the front of the bytes, and its length, 0 past the last line; 1, 2, 9 or 11 where it is
+// refused.
 #[no_mangle]
 pub extern "C" fn forkhemit_write_line(
     n: u64,
@@ -47,31 +46,31 @@ pub extern "C" fn forkhemit_write_line(
     length: &mut [u64; 1],
 ) -> u8
     ensures { λ r.
-        ⌜ r ≡ lineCode (Writing.writtenLine (dimensions n «left_rows» «right_rows» «public_rows»)
-        (now (gates .entry)) line (now (bytes .entry))) ⌝ }
+        ⌜ r ≡ lineCode (Writing.writtenLine (hostDimensions n «left_rows» «right_rows» «public_rows») (now (gates .entry)) line
+        (now (bytes .entry))) ⌝ }
     ensures { λ _.
-        ⌜ now (bytes .exit) ≡ Writing.filledLine (dimensions n «left_rows» «right_rows» «public_rows»)
-        (now (gates .entry)) line (now (bytes .entry)) ⌝ }
+        ⌜ now (bytes .exit) ≡ Writing.filledLine (hostDimensions n «left_rows» «right_rows» «public_rows») (now (gates .entry)) line
+        (now (bytes .entry)) ⌝ }
     ensures { λ _.
-        ⌜ now (length .exit) ≡ numbersOr (lineNumbers (Writing.writtenLine (dimensions n «left_rows» «right_rows» «public_rows»)
+        ⌜ now (length .exit) ≡ numbersOr (lineNumbers (Writing.writtenLine (hostDimensions n «left_rows» «right_rows» «public_rows»)
         (now (gates .entry)) line (now (bytes .entry)))) (now (length .entry)) ⌝ }
 {
     let d = codes::dimensions(n, left_rows, right_rows, public_rows);
     match bristol::write_line(d, gates, line as usize, bytes) {
-        Written::Line(k) => {
+        WrittenLine::Line(k) => {
             *length = [k as u64];
             return 0;
         }
-        Written::Past => {
+        WrittenLine::Past => {
             *length = [0];
             return 0;
         }
-        Written::Refused(refusal) => return refusals::number(refusal),
+        WrittenLine::Refused(refusal) => return refusals::number(refusal),
     }
 }
 
 // Writes the lines from a number on, as many as fit, over the front of the bytes, and how many lines and bytes they are; 1, 2, 9 or 11
-// where it is turned back.
+// where it is refused.
 #[no_mangle]
 pub extern "C" fn forkhemit_write_lines(
     n: u64,
@@ -84,13 +83,13 @@ pub extern "C" fn forkhemit_write_lines(
     written: &mut [u64; 2],
 ) -> u8
     ensures { λ r.
-        ⌜ r ≡ linesCode (Writing.writtenLines (dimensions n «left_rows» «right_rows» «public_rows»)
-        (now (gates .entry)) line (now (bytes .entry))) ⌝ }
+        ⌜ r ≡ linesCode (Writing.writtenLines (hostDimensions n «left_rows» «right_rows» «public_rows») (now (gates .entry)) line
+        (now (bytes .entry))) ⌝ }
     ensures { λ _.
-        ⌜ now (bytes .exit) ≡ Writing.filledLines (dimensions n «left_rows» «right_rows» «public_rows»)
-        (now (gates .entry)) line (now (bytes .entry)) ⌝ }
+        ⌜ now (bytes .exit) ≡ Writing.filledLines (hostDimensions n «left_rows» «right_rows» «public_rows») (now (gates .entry)) line
+        (now (bytes .entry)) ⌝ }
     ensures { λ _.
-        ⌜ now (written .exit) ≡ numbersOr (linesNumbers (Writing.writtenLines (dimensions n «left_rows» «right_rows» «public_rows»)
+        ⌜ now (written .exit) ≡ numbersOr (linesNumbers (Writing.writtenLines (hostDimensions n «left_rows» «right_rows» «public_rows»)
         (now (gates .entry)) line (now (bytes .entry)))) (now (written .entry)) ⌝ }
 {
     let d = codes::dimensions(n, left_rows, right_rows, public_rows);
@@ -103,8 +102,8 @@ pub extern "C" fn forkhemit_write_lines(
     }
 }
 
-// Writes the answer as the pair program prints it over the front of the text, and its length; 1 where it is turned back, and then nothing
-// is written.
+// Writes the answer as the pair program prints it over the front of the text, and its length; 1 where it is refused, and then nothing is
+// written.
 #[no_mangle]
 pub extern "C" fn forkhemit_answer(
     n: u64,
@@ -114,9 +113,11 @@ pub extern "C" fn forkhemit_answer(
     text: &mut [u8; 256],
     length: &mut [u64; 1],
 ) -> u8
-    ensures { λ r. ⌜ r ≡ codeOf (outcome (variableChecks n)) ⌝ }
-    ensures { λ _. ⌜ now (text .exit) ≡ textGiven n (answerText n (answerFrom count verdict model)) (now (text .entry)) ⌝ }
-    ensures { λ _. ⌜ now (length .exit) ≡ lengthGiven n (answerText n (answerFrom count verdict model)) (now (length .entry)) ⌝ }
+    ensures { λ r. ⌜ r ≡ codeOf (outcome (variableChecks (asByte n))) ⌝ }
+    ensures { λ _.
+        ⌜ now (text .exit) ≡ textGiven (asByte n) (answerText (asByte n) (answerFrom count verdict model)) (now (text .entry)) ⌝ }
+    ensures { λ _.
+        ⌜ now (length .exit) ≡ lengthGiven (asByte n) (answerText (asByte n) (answerFrom count verdict model)) (now (length .entry)) ⌝ }
 {
     let k = codes::byte(n);
     match codes::check_variables(k) {

@@ -1,1 +1,1 @@
-pub mod HostNumbers
+pub mod Zero

@@ -3,9 +3,9 @@
 ghost use mathlib.Core.Path.{_≡_};
 ghost use Rattle.refusals.specs.Numbers.{codeOf};
 ghost use Rattle.refusals.specs.Checks.{outcome};
-ghost use Rattle.dimensions.specs.Sizes.{dimensions};
 ghost use Rattle.tables.specs.Tables.{lentTables};
 ghost use Rattle.drat.specs.Text.{proofChecks};
+ghost use Rattle.codes.specs.Codes.{hostDimensions};
 
 // Whether a DRAT text proves that no assignment makes all rows of the three tables true: if not, the tables' 1, 2, 4 or 3, then 18, 19 or
 // 20.
@@ -21,9 +21,9 @@ pub extern "C" fn forkhemit_check_proof(
     text: &[u8],
 ) -> u8
     ensures { λ r.
-        ⌜ r ≡ codeOf (outcome (proofChecks (dimensions n «left_rows» «right_rows» «public_rows») (lentTables left right public)
+        ⌜ r ≡ codeOf (outcome (proofChecks (hostDimensions n «left_rows» «right_rows» «public_rows») (lentTables left right public)
         (now (text .entry)))) ⌝ }
 {
     let d = codes::dimensions(n, left_rows, right_rows, public_rows);
-    codes::code(drat::check(d, left, right, public, text))
+    codes::code(drat::check_proof(d, left, right, public, text))
 }

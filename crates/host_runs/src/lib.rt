@@ -1,6 +1,6 @@
-// For hosts in C and Rust: whether tables are accepted, the judging of rows, the fresh run, the giant step in place, and the model.
-// Each function is a thin call of a proved entry. A slice passes as a pointer and then a length, an array as a pointer.
-// It returns 0 where the call is taken, else the refusal's number, and then it writes nothing.
+// For hosts in C and Rust: whether tables are accepted, the judging of rows, the fresh run, the giant step in place, and the model. Each
+// function is a thin call of a proved entry. A slice passes as a pointer and then a length, an array as a pointer. It returns 0 where the
+// call is taken, else the refusal's number, and then it writes nothing.
 use state::Run;
 use tables::Look;
 use verdicts::Modelled;
@@ -8,7 +8,6 @@ use words::Row;
 ghost use mathlib.Core.Path.{_≡_};
 ghost use lib.ListN.{length};
 ghost use Rattle.refusals.specs.Checks.{outcome};
-ghost use Rattle.dimensions.specs.Sizes.{dimensions};
 ghost use Rattle.tables.specs.Tables.{lentTables};
 ghost use Rattle.tables.specs.Rows.{lookNumber};
 ghost use Rattle.tables.specs.Acceptance.{tableChecks};
@@ -17,7 +16,7 @@ ghost use Rattle.state.specs.State.{fresh, runOf};
 ghost use Rattle.stored.specs.Words.{runIn};
 ghost use Rattle.refusals.specs.Numbers.{codeOf};
 ghost use Rattle.lent.specs.Lent.{numbersOr, storedIf};
-ghost use Rattle.codes.specs.Codes.{variableChecks};
+ghost use Rattle.codes.specs.Codes.{asByte, hostDimensions, variableChecks};
 ghost use Rattle.free_counts.specs.Counts.{countChecks, countsAfter};
 ghost use Rattle.host_runs.specs.Runs.{stepIn, stepStored};
 ghost use Rattle.host_runs.specs.Rows.{judgedRow, judgedNumbers};
@@ -34,7 +33,7 @@ pub extern "C" fn forkhemit_accept(
     public: &[u32],
 ) -> u8
     ensures { λ r.
-        ⌜ r ≡ codeOf (outcome (tableChecks (dimensions n «left_rows» «right_rows» «public_rows») (lentTables left right public))) ⌝ }
+        ⌜ r ≡ codeOf (outcome (tableChecks (hostDimensions n «left_rows» «right_rows» «public_rows») (lentTables left right public))) ⌝ }
 {
     let d = codes::dimensions(n, left_rows, right_rows, public_rows);
     codes::code(tables::accept(d, left, right, public))
@@ -50,8 +49,8 @@ fn look_number(look: Look) -> u64
     }
 }
 
-// A row of two words judged against T and F: whether it is satisfied, how many of its literals are free, its free variables as a word,
-// the variable to look at from 1, or 0.
+// A row of two words judged against T and F: whether it is satisfied, how many of its literals are free, its free variables as a word, the
+// variable to look at from 1, or 0.
 #[no_mangle]
 pub extern "C" fn forkhemit_judge(
     positive: u32,
@@ -74,8 +73,8 @@ pub extern "C" fn forkhemit_judge(
     0
 }
 
-// How many literals of each row are free under the run in the lent words, a byte a row; 1, 2, 4, 3, 10, 12 or 13 where it is turned
-// back, and then no byte changes.
+// How many literals of each row are free under the run in the lent words, a byte a row; 1, 2, 4, 3, 10, 12 or 13 where it is refused, and
+// then no byte changes.
 #[no_mangle]
 pub extern "C" fn forkhemit_count_free(
     n: u64,
@@ -89,10 +88,10 @@ pub extern "C" fn forkhemit_count_free(
     counts: &mut [u8],
 ) -> u8
     ensures { λ r.
-        ⌜ r ≡ codeOf (outcome (countChecks (dimensions n «left_rows» «right_rows» «public_rows») (lentTables left right public)
+        ⌜ r ≡ codeOf (outcome (countChecks (hostDimensions n «left_rows» «right_rows» «public_rows») (lentTables left right public)
         (runIn (now (run .entry))) (length (now (counts .entry))))) ⌝ }
     ensures { λ _.
-        ⌜ now (counts .exit) ≡ countsAfter (dimensions n «left_rows» «right_rows» «public_rows») (lentTables left right public)
+        ⌜ now (counts .exit) ≡ countsAfter (hostDimensions n «left_rows» «right_rows» «public_rows») (lentTables left right public)
         (runIn (now (run .entry))) (now (counts .entry)) ⌝ }
 {
     let d = codes::dimensions(n, left_rows, right_rows, public_rows);
@@ -100,11 +99,11 @@ pub extern "C" fn forkhemit_count_free(
     codes::code(free_counts::count_free(d, left, right, public, run, counts))
 }
 
-// The fresh run of n variables; 1 where it is turned back, and then no word changes.
+// The fresh run of n variables; 1 where it is refused, and then no word changes.
 #[no_mangle]
 pub extern "C" fn forkhemit_fresh(n: u64, run: &mut [u32; 101]) -> u8
-    ensures { λ r. ⌜ r ≡ codeOf (outcome (variableChecks n)) ⌝ }
-    ensures { λ _. ⌜ now (run .exit) ≡ storedIf (outcome (variableChecks n)) (runOf n fresh) (now (run .entry)) ⌝ }
+    ensures { λ r. ⌜ r ≡ codeOf (outcome (variableChecks (asByte n))) ⌝ }
+    ensures { λ _. ⌜ now (run .exit) ≡ storedIf (outcome (variableChecks (asByte n))) (runOf (asByte n) fresh) (now (run .entry)) ⌝ }
 {
     let k = codes::byte(n);
     let outcome = codes::check_variables(k);
@@ -112,8 +111,7 @@ pub extern "C" fn forkhemit_fresh(n: u64, run: &mut [u32; 101]) -> u8
     codes::code(outcome)
 }
 
-// One giant step of the run in the lent words, which is lent to the in-place entry; 1, 2, 4, 3, 12 or 13 where it is turned back, and then
-// no word changes.
+// One giant step of the run in the lent words; 1, 2, 4, 3, 12 or 13 where it is turned back, and then no word changes.
 #[no_mangle]
 pub extern "C" fn forkhemit_step(
     n: u64,
@@ -126,10 +124,10 @@ pub extern "C" fn forkhemit_step(
     run: &mut [u32; 101],
 ) -> u8
     ensures { λ r.
-        ⌜ r ≡ codeOf (stepIn (dimensions n «left_rows» «right_rows» «public_rows») (lentTables left right public) (now (run .entry))
+        ⌜ r ≡ codeOf (stepIn (hostDimensions n «left_rows» «right_rows» «public_rows») (lentTables left right public) (now (run .entry))
         .outcome) ⌝ }
     ensures { λ _.
-        ⌜ now (run .exit) ≡ stepStored (stepIn (dimensions n «left_rows» «right_rows» «public_rows») (lentTables left right public)
+        ⌜ now (run .exit) ≡ stepStored (stepIn (hostDimensions n «left_rows» «right_rows» «public_rows») (lentTables left right public)
         (now (run .entry))) (now (run .entry)) ⌝ }
 {
     let d = codes::dimensions(n, left_rows, right_rows, public_rows);
@@ -140,7 +138,7 @@ pub extern "C" fn forkhemit_step(
     codes::code(outcome)
 }
 
-// The model of a satisfied run, the variables that are true, as a word; 12 or 14 where it is turned back, and then no number is written.
+// The model of a satisfied run, the variables that are true, as a word; 12 or 14 where it is refused, and then no number is written.
 #[no_mangle]
 pub extern "C" fn forkhemit_model(run: &[u32; 101], model: &mut [u64; 1]) -> u8
     ensures { λ r. ⌜ r ≡ modelCode (modelOf (runIn (now (run .entry)))) ⌝ }

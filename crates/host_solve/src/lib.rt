@@ -3,9 +3,9 @@
 // refusal's number, and then it writes nothing.
 use solver::Solved;
 ghost use mathlib.Core.Path.{_≡_};
-ghost use Rattle.dimensions.specs.Sizes.{dimensions};
 ghost use Rattle.tables.specs.Tables.{lentTables};
 ghost use Rattle.solver.specs.Entries.{solved, solvedCode, solvedNumbers};
+ghost use Rattle.codes.specs.Codes.{hostDimensions};
 ghost use Rattle.lent.specs.Lent.{numbersOr};
 
 // Writes the answer's count, verdict and model, and gives 0; the refusal's number where there is no answer.
@@ -27,7 +27,7 @@ pub fn give(result: Solved, answer: &mut [u64; 3]) -> u8
     }
 }
 
-// The answer of a fresh run under a budget: count, verdict, model; 1, 2, 4 or 3 where it is turned back, and then no number is written.
+// The answer of a fresh run under a budget: count, verdict, model; 1, 2, 4 or 3 where it is refused, and then no number is written.
 #[no_mangle]
 pub extern "C" fn forkhemit_solve(
     n: u64,
@@ -40,16 +40,17 @@ pub extern "C" fn forkhemit_solve(
     budget: u64,
     answer: &mut [u64; 3],
 ) -> u8
-    ensures { λ r. ⌜ r ≡ solvedCode (solved (dimensions n «left_rows» «right_rows» «public_rows») (lentTables left right public) budget) ⌝ }
+    ensures { λ r.
+        ⌜ r ≡ solvedCode (solved (hostDimensions n «left_rows» «right_rows» «public_rows») (lentTables left right public) budget) ⌝ }
     ensures { λ _.
-        ⌜ now (answer .exit) ≡ numbersOr (solvedNumbers (solved (dimensions n «left_rows» «right_rows» «public_rows»)
+        ⌜ now (answer .exit) ≡ numbersOr (solvedNumbers (solved (hostDimensions n «left_rows» «right_rows» «public_rows»)
         (lentTables left right public) budget)) (now (answer .entry)) ⌝ }
 {
     let d = codes::dimensions(n, left_rows, right_rows, public_rows);
     give(solver::solve(d, left, right, public, budget), answer)
 }
 
-// The answer of a fresh run under a budget by the indexed run: count, verdict, model; 1, 2, 4 or 3 where it is turned back.
+// The answer of a fresh run under a budget by the indexed run: count, verdict, model; 1, 2, 4 or 3 where it is refused.
 #[no_mangle]
 pub extern "C" fn forkhemit_solve_indexed(
     n: u64,
@@ -62,9 +63,10 @@ pub extern "C" fn forkhemit_solve_indexed(
     budget: u64,
     answer: &mut [u64; 3],
 ) -> u8
-    ensures { λ r. ⌜ r ≡ solvedCode (solved (dimensions n «left_rows» «right_rows» «public_rows») (lentTables left right public) budget) ⌝ }
+    ensures { λ r.
+        ⌜ r ≡ solvedCode (solved (hostDimensions n «left_rows» «right_rows» «public_rows») (lentTables left right public) budget) ⌝ }
     ensures { λ _.
-        ⌜ now (answer .exit) ≡ numbersOr (solvedNumbers (solved (dimensions n «left_rows» «right_rows» «public_rows»)
+        ⌜ now (answer .exit) ≡ numbersOr (solvedNumbers (solved (hostDimensions n «left_rows» «right_rows» «public_rows»)
         (lentTables left right public) budget)) (now (answer .entry)) ⌝ }
 {
     let d = codes::dimensions(n, left_rows, right_rows, public_rows);

@@ -28,7 +28,7 @@ allTexts left right public = record { left = left; right = right; public = publi
 abbrev pub textsOf : List ℕ → List ℕ → List ℕ → Texts
 textsOf left right public = allTexts (tableOf 1 left) (tableOf 1 right) (tableOf 0 public)
 
--- with so many words lent, too few for some table's rows
+-- with a number of words lent, too few for some table's rows
 abbrev pub noRoom : Texts → ℕ → ℕ → ℕ → Bool
 noRoom t left right public = ltb left (2 * t .left .rows) || ltb right (2 * t .right .rows) || ltb public (2 * t .public .rows)
 

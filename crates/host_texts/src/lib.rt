@@ -1,6 +1,5 @@
 // For hosts in C and Rust: three texts are read into tables. The function is a thin call of a proved entry. A slice passes as a pointer and
-// then a length,
-// an array as a pointer. It returns 0 where the call is taken, else the refusal's number, and then it writes nothing.
+// then a length, an array as a pointer. It returns 0 where the call is taken, else the refusal's number, and then it writes nothing.
 use dimacs::Table;
 use refusals::Outcome;
 use refusals::Refusal;
@@ -9,8 +8,8 @@ ghost use Rattle.tables.specs.Tables.{lentTables};
 ghost use Rattle.refusals.specs.Numbers.{codeOf};
 ghost use Rattle.host_texts.specs.Texts.{allTexts, textsOf, lentOutcome, readOutcome, tablesRead, sizesRead};
 
-// What three texts are refused with, left before right before public; then 4 where their rows have no room in so many words; then 6.
-fn judge(
+// What three texts are refused with, left before right before public; then 4 where their rows have no room in the lent words; then 6.
+fn check_texts(
     left: Table,
     right: Table,
     public: Table,
@@ -21,16 +20,19 @@ fn judge(
     ensures { λ r. ⌜ r ≡ lentOutcome (allTexts left right public) «left_words» «right_words» «public_words» ⌝ }
 {
     let left_outcome = left.outcome;
-    if let Outcome::Refused(refusal) = left_outcome {
-        return Outcome::Refused(refusal);
+    match left_outcome {
+        Outcome::Taken => {}
+        Outcome::Refused(refusal) => return Outcome::Refused(refusal),
     }
     let right_outcome = right.outcome;
-    if let Outcome::Refused(refusal) = right_outcome {
-        return Outcome::Refused(refusal);
+    match right_outcome {
+        Outcome::Taken => {}
+        Outcome::Refused(refusal) => return Outcome::Refused(refusal),
     }
     let public_outcome = public.outcome;
-    if let Outcome::Refused(refusal) = public_outcome {
-        return Outcome::Refused(refusal);
+    match public_outcome {
+        Outcome::Taken => {}
+        Outcome::Refused(refusal) => return Outcome::Refused(refusal),
     }
     if (left_words < 2 * (left.rows as usize))
         | (right_words < 2 * (right.rows as usize))
@@ -45,7 +47,7 @@ fn judge(
 }
 
 // Reads three texts into tables, with n and the row counts; the left text's 1, 2 or 5, the right text's, the public one's, then 4 or 6
-// where it is turned back.
+// where it is refused.
 #[no_mangle]
 pub extern "C" fn forkhemit_read_tables(
     left_text: &[u8],
@@ -75,7 +77,7 @@ pub extern "C" fn forkhemit_read_tables(
     let l = dimacs::read(left_text, 1);
     let r = dimacs::read(right_text, 1);
     let p = dimacs::read(public_text, 0);
-    match judge(l, r, p, left.len(), right.len(), public.len()) {
+    match check_texts(l, r, p, left.len(), right.len(), public.len()) {
         Outcome::Taken => {}
         Outcome::Refused(refusal) => return refusals::number(refusal),
     }

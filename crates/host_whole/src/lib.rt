@@ -2,16 +2,15 @@
 // entry. A slice passes as a pointer and then a length, an array as a pointer. It returns 0 where the call is taken, else the refusal's
 // number, and then it writes nothing.
 ghost use mathlib.Core.Path.{_≡_};
-ghost use Rattle.dimensions.specs.Sizes.{dimensions};
 ghost use Rattle.tables.specs.Tables.{lentTables};
 ghost use Rattle.solver.specs.Entries.{solvedCode, solvedNumbers};
 ghost use Rattle.whole_budget.specs.WholeBudget.{solvedWhole, gatesAfterWhole, bytesAfterWhole, wiresAfterWhole};
+ghost use Rattle.codes.specs.Codes.{hostDimensions};
 ghost use Rattle.lent.specs.Lent.{numbersOr};
 
 // The answer of a fresh run by the circuit, which is written over the front of the gate words and applied as many times as the budget says,
 // closed or not: the budget, verdict, model. The bytes and the wires that it used are zeros then, so that no closing wire and no row is
-// left.
-// 1, 2, 4, 3, 7, 23 or 10 where it is turned back, and then nothing is written.
+// left; 1, 2, 4, 3, 7, 23 or 10 where it is turned back, and then nothing is written.
 #[no_mangle]
 pub extern "C" fn forkhemit_solve_whole(
     n: u64,
@@ -28,19 +27,19 @@ pub extern "C" fn forkhemit_solve_whole(
     answer: &mut [u64; 3],
 ) -> u8
     ensures { λ r.
-        ⌜ r ≡ solvedCode (solvedWhole (dimensions n «left_rows» «right_rows» «public_rows») (lentTables left right public) budget
+        ⌜ r ≡ solvedCode (solvedWhole (hostDimensions n «left_rows» «right_rows» «public_rows») (lentTables left right public) budget
         (now (gates .entry)) (now (bytes .entry)) (now (wires .entry))) ⌝ }
     ensures { λ _.
-        ⌜ now (gates .exit) ≡ gatesAfterWhole (dimensions n «left_rows» «right_rows» «public_rows») (lentTables left right public) budget
-        (now (gates .entry)) (now (bytes .entry)) (now (wires .entry)) ⌝ }
+        ⌜ now (gates .exit) ≡ gatesAfterWhole (hostDimensions n «left_rows» «right_rows» «public_rows») (lentTables left right public)
+        budget (now (gates .entry)) (now (bytes .entry)) (now (wires .entry)) ⌝ }
     ensures { λ _.
-        ⌜ now (bytes .exit) ≡ bytesAfterWhole (dimensions n «left_rows» «right_rows» «public_rows») (lentTables left right public) budget
-        (now (gates .entry)) (now (bytes .entry)) (now (wires .entry)) ⌝ }
+        ⌜ now (bytes .exit) ≡ bytesAfterWhole (hostDimensions n «left_rows» «right_rows» «public_rows») (lentTables left right public)
+        budget (now (gates .entry)) (now (bytes .entry)) (now (wires .entry)) ⌝ }
     ensures { λ _.
-        ⌜ now (wires .exit) ≡ wiresAfterWhole (dimensions n «left_rows» «right_rows» «public_rows») (lentTables left right public) budget
-        (now (gates .entry)) (now (bytes .entry)) (now (wires .entry)) ⌝ }
+        ⌜ now (wires .exit) ≡ wiresAfterWhole (hostDimensions n «left_rows» «right_rows» «public_rows») (lentTables left right public)
+        budget (now (gates .entry)) (now (bytes .entry)) (now (wires .entry)) ⌝ }
     ensures { λ _.
-        ⌜ now (answer .exit) ≡ numbersOr (solvedNumbers (solvedWhole (dimensions n «left_rows» «right_rows» «public_rows»)
+        ⌜ now (answer .exit) ≡ numbersOr (solvedNumbers (solvedWhole (hostDimensions n «left_rows» «right_rows» «public_rows»)
         (lentTables left right public) budget (now (gates .entry)) (now (bytes .entry)) (now (wires .entry)))) (now (answer .entry)) ⌝ }
 {
     let d = codes::dimensions(n, left_rows, right_rows, public_rows);

@@ -1,4 +1,4 @@
--- What stands in the buffers that hosts lend.
+-- What a call leaves in the buffers that hosts lend: values over the front, or what was there.
 use Prim.Native.Nat.{ℕ}
 use mathlib.Core.List.{List, [], _∷_}
 use lib.Seq.{sets}
@@ -11,11 +11,11 @@ use Rattle.stored.specs.Words.{runWords}
 abbrev pub front : List ℕ → List ℕ → List ℕ
 front values lent = sets lent 0 values
 
--- the numbers that a call gives, in an array of as many; what stood there where it gives none
+-- the numbers that a call gives, in an array of as many; what was there where it gives none
 abbrev pub numbersOr : List ℕ → List ℕ → List ℕ
 numbersOr [] lent = lent
 numbersOr (x ∷ xs) lent = x ∷ xs
 
--- the run's words where the call is taken; else what stood there
+-- the run's words where the call is taken; else what was there
 abbrev pub storedIf : Outcome → Run → List ℕ → List ℕ
 storedIf o run lent = given o (runWords run) (λ r. lent)

@@ -1,4 +1,4 @@
-// Values written into the buffers that hosts lend.
+// Rows, a text and a run written into the buffers that hosts lend.
 use refusals::Outcome;
 use state::Run;
 use text::Text;

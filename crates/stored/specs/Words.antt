@@ -1,4 +1,5 @@
 -- A run in 32-bit words, for hosts that lend them: n, standing, T, F, depth, then for each of the 32 levels T, F and the chosen variable.
+-- Ask: What do words give that hold no run?
 use Prim.Native.Nat.{ℕ, zero, suc, _-_, _^_, min}
 use mathlib.Core.Bool.{Bool, _&&_, cond}
 use mathlib.Core.List.{List, [], _∷_}

@@ -34,7 +34,7 @@ fn standing_of(number: u32) -> Standing
     }
 }
 
-// The levels behind the first five words.
+// The levels, from the sixth word on.
 fn get_levels(words: RunWords) -> [Level; 32]
     ensures { λ r. ⌜ r ≡ levelsIn 32 (drop 5 words) ⌝ }
 {
@@ -104,7 +104,7 @@ fn depth_word(depth: usize) -> u32
     0xffff_ffff
 }
 
-// The words with the levels behind the first five.
+// The words with these levels from the sixth on.
 fn put_levels(levels: [Level; 32], words: RunWords) -> RunWords
     ensures { λ r. ⌜ r ≡ sets words 5 (levelWords levels) ⌝ }
 {

@@ -1,13 +1,15 @@
--- `forkhemit_sizes` meets its contract: the numbers as bytes give what the numbers give, written where they are within the limits; three
--- times the ceiling is no overflow.
+-- `forkhemit_sizes` meets its contract: the sizes are those of the numbers as bytes, written where these are within the limits; three times the ceiling is no
+-- overflow.
 use mathlib.Core.Path.{sym, ap, _∙_}
 use mathlib.Core.List.{[], _∷_}
 use Prim.Native.Nat.{_*_}
 use native.Mathlib.Omega.{arith}
 use Rattle.refusals.specs.Numbers.{codeOf}
 use Rattle.dimensions.specs.declared.Dimensions.{Dimensions}
+use Rattle.codes.specs.Codes.{hostDimensions}
+use Rattle.host_circuits.specs.Circuits.{sizesGiven}
 use Rattle.dimensions.specs.Sizes.{dimensions}
-use Rattle.host_circuits.proofs.HostNumbers.{size-is, sizes-refused, sizes-taken, sizes-are, ceiling-low}
+use Rattle.host_circuits.proofs.Sizes.{sizes-refused, sizes-taken, ceiling-low}
 use borrow.Author.Needs.{needs}
 use Rattle.host_circuits.proofs.forkhemit_sizes.Statement.{statement}
 use Rattle.host_circuits.proofs.forkhemit_sizes.Tie as tie
@@ -15,10 +17,6 @@ use Rattle.host_circuits.proofs.forkhemit_sizes.Tie as tie
 -- where the code starts, from the first call
 abbrev start : tie.After-dimensions → tie.Start
 start c = c .before
-
--- the dimensions that are asked for
-abbrev asked : tie.Start → Dimensions
-asked s = dimensions (s .args .n) (s .args .left-rows) (s .args .right-rows) (s .args .public-rows)
 
 dimensions-requires : tie.Need-dimensions-requires
 dimensions-requires c κs = search needs
@@ -39,21 +37,20 @@ returns : tie.Need-returns
 returns c =
     let told = c .before .before in
     let check = told .before .before in
-    let dims = check .before in
-    let s = start dims in
-    let is = sym (check .check .ensures .0) ∙ told .refusal .given .1 in (
-      c .number .ensures ∙ ap codeOf (size-is (asked s) _ (dims .dimensions .ensures) _ (sym is)),
-      sizes-are (asked s) _ (dims .dimensions .ensures) (s .args .sizes .now) _ (sizes-refused (dims .dimensions .result) _ is (s .args .sizes .now)),
-    )
+    let sized = check .before in
+    let is = sym (told .refusal .given .1) ∙ rw (sized .dimensions .ensures) at (check .check .ensures .0) in
+    let a = start sized .args in
+    (c .number .ensures ∙ ap codeOf is, sizes-refused (hostDimensions (a .n) (a .left-rows) (a .right-rows) (a .public-rows)) _ (sym is) (a .sizes .now))
 
 ceiling-requires : tie.Need-ceiling-requires
 ceiling-requires c κs = search needs
 
 mul-words : tie.Need-mul-words
 mul-words c =
-    let dims = c .before .before .before .before in
-    let s = start dims in
-    record { fits = omega (arith, ceiling-low (asked s) _ (dims .dimensions .ensures) _ (c .ceiling .ensures)) }
+    let sized = c .before .before .before .before in
+    let a = start sized .args in
+    let k = rw (sized .dimensions .ensures) at (c .ceiling .ensures) in
+    record { fits = omega (arith, k, ceiling-low (a .n) (a .left-rows) (a .right-rows) (a .public-rows)) }
 
 input-wires-requires : tie.Need-input-wires-requires
 input-wires-requires c κs = search needs
@@ -68,13 +65,13 @@ returns-2 c =
     let ceiling = inputs .before in
     let told = ceiling .before in
     let check = told .before .before in
-    let dims = check .before in
-    let s = start dims in
+    let sized = check .before in
+    let lent = start sized .args .sizes .now in
     let k = ceiling .ceiling .ensures in
-    let is = sym (check .check .ensures .0) ∙ told .enum-told .given .1 in (
-      ap codeOf (size-is (asked s) _ (dims .dimensions .ensures) _ (sym is)),
+    let is = sym (told .enum-told .given .1) ∙ check .check .ensures .0 in (
+      ap codeOf (rw (sized .dimensions .ensures) at is),
       (λ i. k i ∷ (3 * k i ∷ (inputs .input-wires .ensures i ∷ (state .state-wires .ensures i ∷ []))))
-          ∙ sizes-are (asked s) _ (dims .dimensions .ensures) (s .args .sizes .now) _ (sizes-taken (dims .dimensions .result) (s .args .sizes .now) is),
+          ∙ sizes-taken (sized .dimensions .result) lent (sym is) ∙ ap (λ (d : Dimensions). sizesGiven d lent) (sized .dimensions .ensures),
     )
 
 pub forkhemit-sizes-spec : {M : Type 1} → statement M

@@ -1,14 +1,11 @@
--- `forkhemit_step_indexed` meets its contract: the step by the numbers as bytes is that by the numbers; it is of the run in the words, which is stored
--- where the step is taken, and its number is written.
+-- `forkhemit_step_indexed` meets its contract: the step is that of the numbers as bytes and of the run in the words, which is stored where the step is
+-- taken, and its number is written.
 use mathlib.Core.Path.{ap, _∙_}
 use mathlib.Core.List.{[], _∷_}
-use Rattle.dimensions.specs.declared.Dimensions.{Dimensions}
 use Rattle.dimensions.specs.Sizes.{dimensions}
-use Rattle.tables.specs.Tables.{Tables, allTables}
 use Rattle.indexed.specs.declared.SteppedIndexed.{SteppedIndexed}
 use Rattle.refusals.specs.Numbers.{codeOf}
 use Rattle.lent.specs.Lent.{storedIf}
-use Rattle.host_indexed.proofs.HostNumbers.{step-is}
 use borrow.Author.Needs.{needs}
 use Rattle.host_indexed.proofs.forkhemit_step_indexed.Statement.{statement}
 use Rattle.host_indexed.proofs.forkhemit_step_indexed.Tie as tie
@@ -16,14 +13,6 @@ use Rattle.host_indexed.proofs.forkhemit_step_indexed.Tie as tie
 -- where the code starts, from the first call
 abbrev start : tie.After-dimensions → tie.Start
 start c = c .before .before .before .before
-
--- the dimensions that are asked for
-abbrev asked : tie.Start → Dimensions
-asked s = dimensions (s .args .n) (s .args .left-rows) (s .args .right-rows) (s .args .public-rows)
-
--- the tables
-abbrev tables : tie.Start → Tables
-tables s = allTables (s .args .left .now) (s .args .right .now) (s .args .public .now)
 
 dimensions-requires : tie.Need-dimensions-requires
 dimensions-requires c κs = search needs
@@ -48,13 +37,11 @@ returns c =
     let store = c .before .before in
     let step = store .before .before .before in
     let load = step .before .before in
-    let dims = load .before .before in
-    let s = start dims in
-    let words = s .args .run .now in
-    let gave = step .step-indexed .ensures .0 in
-    let e = step-is (asked s) _ (dims .dimensions .ensures) (tables s) (s .args .index .now) words (s .args .number .now) _ (load .load .ensures) _ gave in (
-      c .code .ensures ∙ ap (λ (x : SteppedIndexed). codeOf (x .outcome)) e,
-      (store .store-if .ensures ∙ ap (λ (x : SteppedIndexed). storedIf (x .outcome) (x .run) words) e, ap (λ (x : SteppedIndexed). x .number ∷ []) e),
+    let sized = load .before .before in
+    let words = start sized .args .run .now in
+    let gave = rw (load .load .ensures, sized .dimensions .ensures) at (step .step-indexed .ensures .0) in (
+      c .code .ensures ∙ ap (λ (x : SteppedIndexed). codeOf (x .outcome)) gave,
+      (store .store-if .ensures ∙ ap (λ (x : SteppedIndexed). storedIf (x .outcome) (x .run) words) gave, ap (λ (x : SteppedIndexed). x .number ∷ []) gave),
     )
 
 pub forkhemit-step-indexed-spec : {M : Type 1} → statement M

@@ -1,16 +1,13 @@
--- `forkhemit_replace_indexed` meets its contract: what the late condition meets and leaves by the numbers as bytes is what it does by the numbers; it is of
--- the run in the words and of the lent number, in whose place the new one is written.
-use mathlib.Core.Path.{_≡_, _∙_}
+-- `forkhemit_replace_indexed` meets its contract: what the late condition meets and leaves is what it does by the numbers as bytes, by the run in the words and
+-- by the lent number, in whose place the new one is written.
+use mathlib.Core.Path.{ap, _∙_}
 use mathlib.Core.List.{[], _∷_}
 use lib.ListN.{getD}
 use Rattle.refusals.specs.Numbers.{codeOf}
-use Rattle.dimensions.specs.declared.Dimensions.{Dimensions}
 use Rattle.dimensions.specs.Sizes.{dimensions}
 use Rattle.tables.specs.Tables.{Tables, allTables}
-use Rattle.stored.specs.Words.{runIn}
-use Rattle.late.specs.declared.Condition.{Condition}
-use Rattle.host_late.specs.Conditions.{conditionOf}
-use Rattle.host_late.proofs.HostNumbers.{replaceIndexedAll, replace-indexed-is}
+use Rattle.late_indexed.specs.declared.ReplacedIndexed.{ReplacedIndexed}
+use Rattle.late_indexed.specs.Replacement.{tablesThen, indexThen, replacedIndexed}
 use borrow.Author.Needs.{needs}
 use Rattle.host_late.proofs.forkhemit_replace_indexed.Statement.{statement}
 use Rattle.host_late.proofs.forkhemit_replace_indexed.Tie as tie
@@ -30,32 +27,9 @@ loaded c = conditioned c .before .before
 abbrev replaced : tie.After-number → tie.After-replace-indexed
 replaced c = c .before .before .before .before .before
 
--- the dimensions that are asked for
-abbrev asked : tie.Start → Dimensions
-asked s = dimensions (s .args .n) (s .args .left-rows) (s .args .right-rows) (s .args .public-rows)
-
 -- the tables
 abbrev tables : tie.Start → Tables
 tables s = allTables (s .args .left .now) (s .args .right .now) (s .args .public .now)
-
--- the condition
-abbrev condition : tie.Start → Condition
-condition s = conditionOf (s .args .station) (s .args .row) (s .args .positive) (s .args .negative)
-
--- outcome, number, words and index are those of the dimensions asked for, and of the run in the words
-by-numbers : (c : tie.After-replace-indexed) →
-    let s = start (loaded c .before .before) in
-    let after = c .replace-indexed .last .1 in
-    (c .replace-indexed .result, (after .0, (after .1 .0, after .1 .1 .1 .0)))
-    ≡ replaceIndexedAll (asked s) (tables s) (s .args .index .now) (runIn (s .args .run .now)) (getD (s .args .number .now) 0 0) (condition s)
-by-numbers c =
-    let load = loaded c in
-    let dims = load .before .before in
-    let s = start dims in
-    let e = c .replace-indexed .ensures in
-    replace-indexed-is (tables s) (asked s) _ (dims .dimensions .ensures) (s .args .run .now) _ (load .load .ensures)
-    (condition s) _ (conditioned c .condition-of .ensures) (s .args .index .now) (getD (s .args .number .now) 0 0) _
-    (λ i. (e .0 i, (e .1 .0 i, (e .1 .1 .0 i, e .1 .1 .1 .0 i))))
 
 dimensions-requires : tie.Need-dimensions-requires
 dimensions-requires c κs = search needs
@@ -83,9 +57,26 @@ same-length-2 c = search needs
 
 returns : tie.Need-returns
 returns c =
-    let all = by-numbers (replaced (c .before)) in (
-      c .code .ensures ∙ (λ i. codeOf (all i .0 .outcome)),
-      (λ i. all i .1 .0, (λ i. all i .1 .1 .0, (λ i. all i .1 .1 .1, λ i. all i .0 .number ∷ []))),
+    let replace = replaced (c .before) in
+    let load = loaded replace in
+    let sized = load .before .before in
+    let s = start sized in
+    let t = tables s in
+    let index = s .args .index .now in
+    let number = getD (s .args .number .now) 0 0 in
+    let d = sized .dimensions .ensures in
+    let run = load .load .ensures in
+    let wanted = conditioned replace .condition-of .ensures in
+    let gave = replace .replace-indexed .ensures in
+    let done = gave .0 ∙ (λ i. replacedIndexed (d i) t index (run i) number (wanted i)) in (
+      c .code .ensures ∙ ap (λ (x : ReplacedIndexed). codeOf (x .outcome)) done,
+      (
+        gave .1 .0 ∙ (λ i. tablesThen (d i) t index (run i) number (wanted i) .left),
+        (
+          gave .1 .1 .0 ∙ (λ i. tablesThen (d i) t index (run i) number (wanted i) .right),
+          (gave .1 .1 .1 .0 ∙ (λ i. indexThen (d i) t index (run i) number (wanted i)), ap (λ (x : ReplacedIndexed). x .number ∷ []) done),
+        ),
+      ),
     )
 
 pub forkhemit-replace-indexed-spec : {M : Type 1} → statement M

@@ -1,4 +1,4 @@
--- `forkhemit_answer` meets its contract: n as a byte is refused like n or is n itself; the text is the composed answer's.
+-- `forkhemit_answer` meets its contract: the check and the text are those of n as a byte, and the text is the composed answer's.
 use mathlib.Core.Path.{_≡_, sym, ap, _∙_}
 use mathlib.Core.List.{List, [], _∷_}
 use Prim.Native.Nat.{ℕ, min}
@@ -11,7 +11,8 @@ use Rattle.text.specs.declared.Text.{Text}
 use Rattle.text.specs.Texts.{textOf}
 use Rattle.text.proofs.Appending.{text-back}
 use Rattle.answers.specs.Printed.{answerText}
-use Rattle.codes.proofs.AsBytes.{checks-are, taken-low}
+use Rattle.codes.specs.Codes.{asByte}
+use Rattle.codes.proofs.AsBytes.{taken-low}
 use Rattle.lent.specs.Lent.{front}
 use Rattle.host_lines.specs.Answers.{answerFrom}
 use borrow.Author.Needs.{needs}
@@ -38,8 +39,8 @@ returns c =
     let check = c .before .before .before .before in
     let byte = check .before in
     let a = byte .before .args in
-    let text = answerText (a .n) (answerFrom (a .count) (a .verdict) (a .model)) in
-    let is = sym (c .before .before .refusal .given .1) ∙ check .check-variables .ensures .0 ∙ checks-are (a .n) _ (byte .byte .ensures) in (
+    let text = answerText (asByte (a .n)) (answerFrom (a .count) (a .verdict) (a .model)) in
+    let is = sym (c .before .before .refusal .given .1) ∙ rw (byte .byte .ensures) at (check .check-variables .ensures .0) in (
       c .number .ensures ∙ ap codeOf is,
       (
         ap (λ (o : Outcome). given o (front text (a .text .now)) (λ r. a .text .now)) is,
@@ -64,9 +65,9 @@ returns-2 c =
     let check = told .before .before in
     let byte = check .before in
     let a = byte .before .args in
-    let text = answerText (a .n) (answerFrom (a .count) (a .verdict) (a .model)) in
-    let is = sym (told .enum-told .given .1) ∙ check .check-variables .ensures .0 ∙ checks-are (a .n) _ (byte .byte .ensures) in
-    let low : min (byte .byte .result) 32 ≡ a .n = omega (arith, byte .byte .ensures, taken-low (a .n) (sym is)) in
+    let text = answerText (asByte (a .n)) (answerFrom (a .count) (a .verdict) (a .model)) in
+    let is = sym (told .enum-told .given .1) ∙ rw (byte .byte .ensures) at (check .check-variables .ensures .0) in
+    let low : min (byte .byte .result) 32 ≡ asByte (a .n) = omega (arith, byte .byte .ensures, taken-low (asByte (a .n)) (sym is)) in
     let e = print .answer-text .ensures ∙ (λ i. textOf (answerText (low i) (record { count = a .count; verdict = verdict .verdict-from .ensures i }))) in (
       ap codeOf is,
       (

@@ -1,5 +1,5 @@
--- `forkhemit_repeat` meets its contract: the repeats by the numbers as bytes are those by the numbers; they are of the run in the words, and
--- last run, number and mark are written where they are taken.
+-- `forkhemit_repeat` meets its contract: the repeats are those of the numbers as bytes and of the run in the words, and last run, number and mark are written
+-- where they are taken.
 use mathlib.Core.Path.{_≡_, refl, sym, ap, _∙_}
 use mathlib.Core.Bool.{Bool, true, false}
 use mathlib.Core.List.{[], _∷_}
@@ -9,18 +9,17 @@ use Rattle.words.specs.Booleans.{digit}
 use Rattle.refusals.specs.Checks.{given}
 use Rattle.refusals.specs.Numbers.{codeOf}
 use Rattle.refusals.specs.declared.Outcome.{Outcome}
-use Rattle.dimensions.specs.declared.Dimensions.{Dimensions}
 use Rattle.dimensions.specs.Sizes.{dimensions}
 use Rattle.tables.specs.Tables.{Tables, allTables}
-use Rattle.stored.specs.Words.{runIn}
+use Rattle.repeats.specs.declared.Repeated.{Repeated}
+use Rattle.repeats.specs.Repeating.{repeated, gatesAfter, bytesAfter, wiresAfter}
 use Rattle.lent.specs.Lent.{storedIf}
 use Rattle.host_repeats.specs.Repeats.{repeatStored, repeatNumbers}
-use Rattle.host_repeats.proofs.HostNumbers.{repeatAll, repeat-is}
 use borrow.Author.Needs.{needs}
 use Rattle.host_repeats.proofs.forkhemit_repeat.Statement.{statement}
 use Rattle.host_repeats.proofs.forkhemit_repeat.Tie as tie
 
--- ---- the places of the code, each from the one behind it
+-- ---- the places of the code, each from the one after it
 
 abbrev slices : tie.After-shared-slice-known3 → tie.Start
 slices c = c .before .before .before
@@ -37,10 +36,6 @@ bytes-known c = c .before .before .before .before
 abbrev repeat-at : tie.After-last → tie.After-repeat
 repeat-at c = bytes-known c .before .before .before
 
--- the dimensions that are asked for
-abbrev asked : tie.Start → Dimensions
-asked s = dimensions (s .args .n) (s .args .left-rows) (s .args .right-rows) (s .args .public-rows)
-
 -- the tables
 abbrev tables : tie.Start → Tables
 tables s = allTables (s .args .left .now) (s .args .right .now) (s .args .public .now)
@@ -49,21 +44,6 @@ tables s = allTables (s .args .left .now) (s .args .right .now) (s .args .public
 bool-digit : (b : Bool) → boolByte b ≡ digit b
 bool-digit true = refl
 bool-digit false = refl
-
--- what the repeats give, and leave in gate words, bytes and wires, is what they give for those
-by-numbers : (c : tie.After-repeat) →
-    let s = start (loaded c .before .before) in
-    let after = c .repeat .last .1 .1 .1 .1 .1 in
-    (c .repeat .result, (after .0, (after .1 .0, after .1 .1 .0)))
-    ≡ repeatAll (asked s) (tables s) (s .args .times) (s .args .gates .now) (s .args .bytes .now) (s .args .wires .now) (runIn (s .args .run .now))
-by-numbers c =
-    let load = loaded c in
-    let dims = load .before .before in
-    let s = start dims in
-    let e = c .repeat .ensures in
-    repeat-is (tables s) (s .args .times) (s .args .gates .now) (s .args .bytes .now) (s .args .wires .now)
-    (asked s) _ (dims .dimensions .ensures) (s .args .run .now) _ (load .load .ensures) _
-    (λ i. (e .0 i, (e .1 .0 i, (e .1 .1 .0 i, e .1 .1 .1 .0 i))))
 
 dimensions-requires : tie.Need-dimensions-requires
 dimensions-requires c κs = search needs
@@ -96,21 +76,28 @@ returns : tie.Need-returns
 returns c =
     let matched = c .before .before in
     let repeat = repeat-at (matched .before .before) in
-    let s = start (loaded repeat .before .before) in
+    let load = loaded repeat in
+    let sized = load .before .before in
+    let t = tables (start sized) in
+    let a = start sized .args in
     let done = repeat .repeat .result in
-    let all = by-numbers repeat in
+    let d = sized .dimensions .ensures in
+    let run = load .load .ensures in
+    let e = repeat .repeat .ensures in
+    let gave = e .0 ∙ (λ i. repeated (d i) t (a .times) (a .gates .now) (a .bytes .now) (a .wires .now) (run i)) in
     let told = sym (matched .outcome .given .1) in (
-      c .number .ensures ∙ ap codeOf told ∙ (λ i. codeOf (all i .0 .outcome)),
+      c .number .ensures ∙ ap codeOf told ∙ ap (λ (x : Repeated). codeOf (x .outcome)) gave,
       (
-        λ i. all i .1 .0,
+        e .1 .0 ∙ (λ i. gatesAfter (d i) t (a .times) (a .gates .now) (a .bytes .now) (a .wires .now) (run i)),
         (
-          λ i. all i .1 .1 .0,
+          e .1 .1 .0 ∙ (λ i. bytesAfter (d i) t (a .times) (a .gates .now) (a .bytes .now) (a .wires .now) (run i)),
           (
-            λ i. all i .1 .1 .1,
+            e .1 .1 .1 .0 ∙ (λ i. wiresAfter (d i) t (a .times) (a .gates .now) (a .bytes .now) (a .wires .now) (run i)),
             (
-              ap (λ (o : Outcome). storedIf o (done .run) (s .args .run .now)) told ∙ (λ i. repeatStored (all i .0) (s .args .run .now)),
-              ap (λ (o : Outcome). given o (done .repeats ∷ (digit (done .mark) ∷ [])) (λ q. s .args .repeated .now)) told
-                  ∙ (λ i. repeatNumbers (all i .0) (s .args .repeated .now)),
+              ap (λ (o : Outcome). storedIf o (done .run) (a .run .now)) told
+                  ∙ ap (λ (x : Repeated). repeatStored x (a .run .now)) gave,
+              ap (λ (o : Outcome). given o (done .repeats ∷ (digit (done .mark) ∷ [])) (λ q. a .repeated .now)) told
+                  ∙ ap (λ (x : Repeated). repeatNumbers x (a .repeated .now)) gave,
             ),
           ),
         ),
@@ -137,24 +124,29 @@ returns-2 c =
     let words = c .before in
     let matched = words .before .before in
     let repeat = repeat-at (matched .before .before) in
-    let s = start (loaded repeat .before .before) in
+    let load = loaded repeat in
+    let sized = load .before .before in
+    let t = tables (start sized) in
+    let a = start sized .args in
     let done = repeat .repeat .result in
-    let all = by-numbers repeat in
+    let d = sized .dimensions .ensures in
+    let run = load .load .ensures in
+    let e = repeat .repeat .ensures in
+    let gave = e .0 ∙ (λ i. repeated (d i) t (a .times) (a .gates .now) (a .bytes .now) (a .wires .now) (run i)) in
     let told = sym (matched .enum-told .given .1) in (
-      ap codeOf told ∙ (λ i. codeOf (all i .0 .outcome)),
+      ap codeOf told ∙ ap (λ (x : Repeated). codeOf (x .outcome)) gave,
       (
-        λ i. all i .1 .0,
+        e .1 .0 ∙ (λ i. gatesAfter (d i) t (a .times) (a .gates .now) (a .bytes .now) (a .wires .now) (run i)),
         (
-          λ i. all i .1 .1 .0,
+          e .1 .1 .0 ∙ (λ i. bytesAfter (d i) t (a .times) (a .gates .now) (a .bytes .now) (a .wires .now) (run i)),
           (
-            λ i. all i .1 .1 .1,
+            e .1 .1 .1 .0 ∙ (λ i. wiresAfter (d i) t (a .times) (a .gates .now) (a .bytes .now) (a .wires .now) (run i)),
             (
-              words .words .ensures
-                  ∙ ap (λ (o : Outcome). storedIf o (done .run) (s .args .run .now)) told
-                  ∙ (λ i. repeatStored (all i .0) (s .args .run .now)),
+              words .words .ensures ∙ ap (λ (o : Outcome). storedIf o (done .run) (a .run .now)) told
+                  ∙ ap (λ (x : Repeated). repeatStored x (a .run .now)) gave,
               ap (λ (k : ℕ). done .repeats ∷ (k ∷ [])) (bool-digit (done .mark))
-                  ∙ ap (λ (o : Outcome). given o (done .repeats ∷ (digit (done .mark) ∷ [])) (λ q. s .args .repeated .now)) told
-                  ∙ (λ i. repeatNumbers (all i .0) (s .args .repeated .now)),
+                  ∙ ap (λ (o : Outcome). given o (done .repeats ∷ (digit (done .mark) ∷ [])) (λ q. a .repeated .now)) told
+                  ∙ ap (λ (x : Repeated). repeatNumbers x (a .repeated .now)) gave,
             ),
           ),
         ),

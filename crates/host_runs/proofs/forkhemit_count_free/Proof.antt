@@ -1,27 +1,10 @@
--- `forkhemit_count_free` meets its contract: the counts by the numbers as bytes are those by the numbers; they are of the run in the words, with the outcome as
--- a number.
+-- `forkhemit_count_free` meets its contract: the counts are those of the numbers as bytes and of the run in the words, with the outcome as a number.
 use mathlib.Core.Path.{ap, _∙_}
-use lib.ListN.{length}
 use Rattle.refusals.specs.Numbers.{codeOf}
-use Rattle.dimensions.specs.declared.Dimensions.{Dimensions}
 use Rattle.dimensions.specs.Sizes.{dimensions}
-use Rattle.tables.specs.Tables.{Tables, allTables}
-use Rattle.host_runs.proofs.HostNumbers.{check-is, counts-are}
 use borrow.Author.Needs.{needs}
 use Rattle.host_runs.proofs.forkhemit_count_free.Statement.{statement}
 use Rattle.host_runs.proofs.forkhemit_count_free.Tie as tie
-
--- where the code starts, from the first call
-abbrev start : tie.After-dimensions → tie.Start
-start c = c .before .before .before .before .before
-
--- the dimensions that are asked for
-abbrev asked : tie.Start → Dimensions
-asked s = dimensions (s .args .n) (s .args .left-rows) (s .args .right-rows) (s .args .public-rows)
-
--- the tables
-abbrev tables : tie.Start → Tables
-tables s = allTables (s .args .left .now) (s .args .right .now) (s .args .public .now)
 
 dimensions-requires : tie.Need-dimensions-requires
 dimensions-requires c κs = search needs
@@ -42,15 +25,8 @@ returns : tie.Need-returns
 returns c =
     let count = c .before .before .before in
     let load = count .before .before in
-    let dims = load .before .before in
-    let s = start dims in
-    let counts = s .args .counts .now in
-    let held = load .load .ensures in (
-      c .code .ensures
-          ∙ ap codeOf (check-is (asked s) _ (dims .dimensions .ensures) (tables s) (s .args .run .now) _ held (length counts) _
-          (count .count-free .ensures .0)),
-      counts-are (asked s) _ (dims .dimensions .ensures) _ (s .args .run .now) _ held counts _ (count .count-free .ensures .1 .0),
-    )
+    let gave = rw (load .load .ensures, load .before .before .dimensions .ensures) at (count .count-free .ensures) in
+    (c .code .ensures ∙ ap codeOf (gave .0), gave .1 .0)
 
 pub forkhemit-count-free-spec : {M : Type 1} → statement M
 forkhemit-count-free-spec =

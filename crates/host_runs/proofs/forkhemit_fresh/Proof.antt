@@ -1,9 +1,11 @@
--- `forkhemit_fresh` meets its contract: n as a byte is refused like n or is n itself, and the run is stored where it is taken.
+-- `forkhemit_fresh` meets its contract: the check and the run are those of n as a byte, and the run is stored where it is taken.
 use mathlib.Core.Path.{ap, _∙_}
+use Prim.Native.Nat.{ℕ}
+use Rattle.refusals.specs.Checks.{outcome}
 use Rattle.refusals.specs.Numbers.{codeOf}
+use Rattle.state.specs.State.{fresh, runOf}
 use Rattle.lent.specs.Lent.{storedIf}
-use Rattle.codes.proofs.AsBytes.{checks-are}
-use Rattle.host_runs.proofs.HostNumbers.{fresh-is}
+use Rattle.codes.specs.Codes.{variableChecks}
 use borrow.Author.Needs.{needs}
 use Rattle.host_runs.proofs.forkhemit_fresh.Statement.{statement}
 use Rattle.host_runs.proofs.forkhemit_fresh.Tie as tie
@@ -29,10 +31,11 @@ returns c =
     let check = store .before .before .before in
     let byte = check .before in
     let words = byte .before .args .run .now in
-    let k = byte .byte .result in (
-      c .code .ensures ∙ ap codeOf (check .check-variables .ensures .0 ∙ checks-are (byte .before .args .n) k (byte .byte .ensures)),
-      store .store-if .ensures ∙ (λ i. storedIf (check .check-variables .ensures .0 i) (store .before .before .fresh .ensures i) words)
-          ∙ fresh-is (byte .before .args .n) k (byte .byte .ensures) words,
+    let judged = check .check-variables .ensures .0 in
+    let k = byte .byte .ensures in (
+      c .code .ensures ∙ ap codeOf (judged ∙ ap (λ (x : ℕ). outcome (variableChecks x)) k),
+      store .store-if .ensures ∙ (λ i. storedIf (judged i) (store .before .before .fresh .ensures i) words)
+          ∙ ap (λ (x : ℕ). storedIf (outcome (variableChecks x)) (runOf x fresh) words) k,
     )
 
 pub forkhemit-fresh-spec : {M : Type 1} → statement M

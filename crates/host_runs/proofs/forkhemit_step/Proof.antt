@@ -1,11 +1,9 @@
--- `forkhemit_step` meets its contract: the step by the numbers as bytes is that by the numbers; it is of the run in the words, and stored where it is taken.
+-- `forkhemit_step` meets its contract: the step is that of the numbers as bytes and of the run in the words, and stored where it is taken.
 use mathlib.Core.Path.{ap, _∙_}
-use Rattle.dimensions.specs.declared.Dimensions.{Dimensions}
 use Rattle.dimensions.specs.Sizes.{dimensions}
 use Rattle.solver.specs.declared.Stepped.{Stepped}
 use Rattle.refusals.specs.Numbers.{codeOf}
 use Rattle.host_runs.specs.Runs.{stepStored}
-use Rattle.host_runs.proofs.HostNumbers.{step-is}
 use borrow.Author.Needs.{needs}
 use Rattle.host_runs.proofs.forkhemit_step.Statement.{statement}
 use Rattle.host_runs.proofs.forkhemit_step.Tie as tie
@@ -13,10 +11,6 @@ use Rattle.host_runs.proofs.forkhemit_step.Tie as tie
 -- where the code starts, from the first call
 abbrev start : tie.After-dimensions → tie.Start
 start c = c .before .before .before .before
-
--- the dimensions that are asked for
-abbrev asked : tie.Start → Dimensions
-asked s = dimensions (s .args .n) (s .args .left-rows) (s .args .right-rows) (s .args .public-rows)
 
 dimensions-requires : tie.Need-dimensions-requires
 dimensions-requires c κs = search needs
@@ -38,11 +32,10 @@ returns c =
     let store = c .before in
     let step = store .before .before .before in
     let load = step .before in
-    let dims = load .before .before in
-    let s = start dims in
-    let words = s .args .run .now in
-    let e = step-is (asked s) _ (dims .dimensions .ensures) _ words _ (load .load .ensures) _ (step .step-lent .ensures .0) in
-    (c .code .ensures ∙ ap (λ (x : Stepped). codeOf (x .outcome)) e, store .store-if .ensures ∙ ap (λ (x : Stepped). stepStored x words) e)
+    let sized = load .before .before in
+    let words = start sized .args .run .now in
+    let gave = rw (load .load .ensures, sized .dimensions .ensures) at (step .step-lent .ensures .0) in
+    (c .code .ensures ∙ ap (λ (x : Stepped). codeOf (x .outcome)) gave, store .store-if .ensures ∙ ap (λ (x : Stepped). stepStored x words) gave)
 
 pub forkhemit-step-spec : {M : Type 1} → statement M
 forkhemit-step-spec =

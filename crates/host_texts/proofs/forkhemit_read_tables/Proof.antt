@@ -9,7 +9,7 @@ use borrow.Author.Needs.{needs}
 use Rattle.host_texts.proofs.forkhemit_read_tables.Statement.{statement}
 use Rattle.host_texts.proofs.forkhemit_read_tables.Tie as tie
 
--- ---- the places of the code, each from the one behind it
+-- ---- the places of the code, each from the one after it
 
 abbrev slices : tie.After-shared-slice-known3 → tie.Start
 slices c = c .before .before .before
@@ -44,11 +44,11 @@ lent s = allTables (s .args .left .now) (s .args .right .now) (s .args .public .
 read-are : (c : tie.After-read3) → allTexts (left-read c .read .result) (c .before .read2 .result) (c .read3 .result) ≡ texts (start (left-read c))
 read-are c = λ i. allTexts (left-read c .read .ensures .0 i) (c .before .read2 .ensures .0 i) (c .read3 .ensures .0 i)
 
--- and so the judgement is the definition's
-judged : (c : tie.After-judge) → let s = start (left-read (c .before)) in c .judge .result ≡ readOutcome (texts s) (lent s)
+-- and so the outcome of the checks is the definition's
+judged : (c : tie.After-check-texts) → let s = start (left-read (c .before)) in c .check-texts .result ≡ readOutcome (texts s) (lent s)
 judged c =
     let l = lent (start (left-read (c .before))) in
-    c .judge .ensures ∙ ap (λ (t : Texts). readOutcome t l) (read-are (c .before))
+    c .check-texts .ensures ∙ ap (λ (t : Texts). readOutcome t l) (read-are (c .before))
 
 read-requires : tie.Need-read-requires
 read-requires c κs = search needs
@@ -59,8 +59,8 @@ read-requires-2 c κs = search needs
 read-requires-3 : tie.Need-read-requires-3
 read-requires-3 c κs = search needs
 
-judge-requires : tie.Need-judge-requires
-judge-requires c κs = search needs
+check-texts-requires : tie.Need-check-texts-requires
+check-texts-requires c κs = search needs
 
 enum-told : tie.Need-enum-told
 enum-told c = search needs
@@ -74,11 +74,11 @@ number-requires c κs = search needs
 returns : tie.Need-returns
 returns c =
     let refusal = c .before .before in
-    let judge = refusal .before .before in
-    let s = start (left-read (judge .before)) in
+    let check = refusal .before .before in
+    let s = start (left-read (check .before)) in
     let t = texts s in
     let l = lent s in
-    let is = sym (refusal .refusal .given .1) ∙ judged judge in (
+    let is = sym (refusal .refusal .given .1) ∙ judged check in (
       c .number .ensures ∙ ap codeOf is,
       (
         ap (λ (o : Outcome). rowsGiven o (t .left) (l .left)) is,
@@ -128,11 +128,11 @@ returns-2 c =
     let right = right-put public in
     let left = left-put right in
     let at = told left in
-    let judge = at .before .before in
-    let s = start (left-read (judge .before)) in
+    let check = at .before .before in
+    let s = start (left-read (check .before)) in
     let l = lent s in
-    let is = sym (at .enum-told .given .1) ∙ judged judge in
-    let e = read-are (judge .before) in (
+    let is = sym (at .enum-told .given .1) ∙ judged check in
+    let e = read-are (check .before) in (
       ap codeOf is,
       (
         left .put-rows .ensures ∙ (λ i. rowsGiven (is i) (e i .left) (l .left)),
@@ -150,7 +150,7 @@ forkhemit-read-tables-spec =
     read-requires
     read-requires-2
     read-requires-3
-    judge-requires
+    check-texts-requires
     enum-told
     enum-known-refusal
     number-requires

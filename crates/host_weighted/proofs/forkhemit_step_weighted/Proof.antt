@@ -1,13 +1,9 @@
--- `forkhemit_step_weighted` meets its contract: the weighted step by the numbers as bytes is that by the numbers; it is of the run in the words, and stored
--- where it is taken.
+-- `forkhemit_step_weighted` meets its contract: the weighted step is that of the numbers as bytes and of the run in the words, and stored where it is taken.
 use mathlib.Core.Path.{ap, _∙_}
-use Rattle.dimensions.specs.declared.Dimensions.{Dimensions}
 use Rattle.dimensions.specs.Sizes.{dimensions}
 use Rattle.solver.specs.declared.Stepped.{Stepped}
 use Rattle.refusals.specs.Numbers.{codeOf}
-use Rattle.weighted.specs.Weights.{weightedRule}
 use Rattle.host_runs.specs.Runs.{stepStored}
-use Rattle.host_runs.proofs.HostNumbers.{step-is-with}
 use borrow.Author.Needs.{needs}
 use Rattle.host_weighted.proofs.forkhemit_step_weighted.Statement.{statement}
 use Rattle.host_weighted.proofs.forkhemit_step_weighted.Tie as tie
@@ -16,20 +12,15 @@ use Rattle.host_weighted.proofs.forkhemit_step_weighted.Tie as tie
 abbrev start : tie.After-dimensions → tie.Start
 start c = c .before .before .before .before
 
--- the dimensions that are asked for
-abbrev asked : tie.Start → Dimensions
-asked s = dimensions (s .args .n) (s .args .left-rows) (s .args .right-rows) (s .args .public-rows)
-
 returns : tie.Need-returns
 returns c =
     let store = c .before in
     let step = store .before .before .before in
     let load = step .before in
-    let dims = load .before .before in
-    let s = start dims in
-    let words = s .args .run .now in
-    let e = step-is-with (asked s) _ (dims .dimensions .ensures) _ weightedRule words _ (load .load .ensures) _ (step .step-weighted .ensures .0) in
-    (c .code .ensures ∙ ap (λ (x : Stepped). codeOf (x .outcome)) e, store .store-if .ensures ∙ ap (λ (x : Stepped). stepStored x words) e)
+    let sized = load .before .before in
+    let words = start sized .args .run .now in
+    let gave = rw (load .load .ensures, sized .dimensions .ensures) at (step .step-weighted .ensures .0) in
+    (c .code .ensures ∙ ap (λ (x : Stepped). codeOf (x .outcome)) gave, store .store-if .ensures ∙ ap (λ (x : Stepped). stepStored x words) gave)
 
 code-requires : tie.Need-code-requires
 code-requires c κs = search needs
