@@ -72,7 +72,7 @@ module _ (d : Dimensions) where
           subst (Further t) (sym (after-taken d t run c e)) (
             accepted-still d t c acc (w .low),
             subst (Grows (d .n) (rowsOf d t)) (sym (rows-replaced d t c acc (w .owned)))
-                (set-grows (d .n) (accepted d t acc .size .n-most) (rowsOf d t) (c .number - 1) (c .row) (w .padded)),
+                (set-grows (d .n) (accepted d t acc .size .n-most) (rowsOf d t) (c .replaced - 1) (c .row) (w .padded)),
           )
 
   act-further : (h : CountingHost) → Accepts d (h .tables) → (c : HostCall) → Further (h .tables) (actCounting d h c .tables)

@@ -45,7 +45,7 @@ none-occurs = refl
 
 -- row 2, the right station's: (1)
 abbrev late : Condition
-late = record { station = 1; number = 2; row = record { positive = 1; negative = 0 } }
+late = record { station = 1; replaced = 2; row = record { positive = 1; negative = 0 } }
 
 abbrev after : List HostCall → CountingHost
 after calls = playCounting small (startedCounting small none) calls

@@ -1,5 +1,6 @@
 -- How many steps each run takes at most: document 02, "Fewer variables, fewer steps". `mostSteps` is 2 ^ (k + 1) - 1, where k counts the
 -- variables that occur in some row that is no padding, in the tables as they are at the close.
+-- Ask: Which rows count for k, and the tables of which time?
 use Prim.Native.Nat.{ℕ, suc, _-_, _^_, _≤_}
 use mathlib.Core.Path.{_≡_}
 use mathlib.Core.Bool.{true}
@@ -30,9 +31,9 @@ use Rattle.bounds.specs.IndexedHost.{playIndexed, startedIndexed}
 
 -- an answer, by the rows at its close
 pub record Bounded (n : ℕ) (rows : List Row) (budget : ℕ) (answer : Answer) : Type 0 where
-  -- at most so many steps
+  -- at most `mostSteps` steps
   pub most : answer .count ≤ mostSteps n rows
-  -- and a budget that reaches so far closes the run
+  -- and a budget of that size closes the run
   pub enough : mostSteps n rows ≤ budget → answer .verdict ≡ Unknown → ⊥
   -- with k = 0 one step does
   pub one : occurring n rows ≡ 0 → 1 ≤ budget → (answer .count ≡ 1) × (answer .verdict ≡ Unknown → ⊥)
@@ -43,7 +44,7 @@ pub record Bounds (d : Dimensions) (tables : Tables) (budget : ℕ) : Type 0 whe
   pub plain : (answer : Answer) → solved d tables budget ≡ Of answer → Bounded (d .n) (rowsOf d tables) budget answer
   -- `solve_weighted`
   pub weighted : (answer : Answer) → solvedWith weightedRule d tables budget ≡ Of answer → Bounded (d .n) (rowsOf d tables) budget answer
-  -- `solve_whole` goes on through its budget, and is closed by then if that reaches so far
+  -- `solve_whole` goes on through its budget, and is closed by then if that is large enough
   pub whole : (gates bytes wires : List ℕ) (answer : Answer) → solvedWhole d tables budget gates bytes wires ≡ Of answer
       → (answer .count ≡ budget) × (mostSteps (d .n) (rowsOf d tables) ≤ budget → answer .verdict ≡ Unknown → ⊥)
   -- k is at most n, so that the bound by n follows
@@ -57,7 +58,7 @@ mostRepeats d tables conditions budget =
     mostSteps (d .n) (atEnd (rowsAt d tables conditions) (answerFor d (tablesAt d tables conditions) budget))
 
 pub record CircuitBounds (d : Dimensions) (tables : Tables) (conditions : List Dated) (budget : ℕ) (attempts : List Attempt) : Type 0 where
-  -- there are at most so many
+  -- there are at most `mostRepeats`
   pub most : length (historyOf d (tablesAt d tables conditions) budget attempts) ≤ mostRepeats d tables conditions budget
   -- and as many attempts that are long enough end them
   pub enough : mostRepeats d tables conditions budget ≤ longOnes d attempts
@@ -68,8 +69,8 @@ pub record CircuitBounds (d : Dimensions) (tables : Tables) (conditions : List D
 
 -- ---- a host's calls, in any order, late conditions among them
 
--- so many steps asked for and so many counted, by the tables that the host holds: once its run is closed no call changes them, so that they
--- are those at the close
+-- steps asked for and steps counted, by the tables that the host holds: once its run is closed no call changes them, so that they are those
+-- at the close
 pub record HostBounded (d : Dimensions) (asked count : ℕ) (tables : Tables) (run : Run) : Type 0 where
   pub most : count ≤ mostSteps (d .n) (rowsOf d tables)
   pub enough : mostSteps (d .n) (rowsOf d tables) ≤ asked → run .standing ≡ Open → ⊥

@@ -1,5 +1,6 @@
--- What a host does with its tables and its run, in any order: steps, the run continued, the circuit repeated and late conditions. Each
--- call leaves what its contract says; the host adds up the steps. Document 02, "Fewer variables, fewer steps".
+-- What a host does with its tables and its run, in any order: steps, the run continued, the circuit repeated and late conditions. Each call
+-- leaves what its contract says; the host adds up the steps. Document 02, "Fewer variables, fewer steps".
+-- Ask: Does each call leave what its contract cites and add the steps that it says?
 use Prim.Native.Nat.{ℕ, _+_}
 use mathlib.Core.Bool.{cond}
 use mathlib.Core.List.{List, [], _∷_}
@@ -15,8 +16,8 @@ use Rattle.late.specs.Replacement.{tablesAfter}
 use Rattle.repeats.specs.Repeating.{repeated}
 use Rattle.late_runs.specs.Host.{roomFor}
 
--- a call of `step`, of `continue_indexed` so many times, of either with the weighted choice, of `repeat` so many times with the gate words,
--- bytes and wires that the host lends, or of `replace`
+-- a call of `step`, of `continue_indexed` with a number of steps, of either with the weighted choice, of `repeat` with a number of times,
+-- the gate words, bytes and wires that the host lends, or of `replace`
 pub data HostCall : Type 0 where
   StepPlain : HostCall
   StepWeighted : HostCall

@@ -1,5 +1,6 @@
--- What a host does with its tables, its index, its run and its number: calls of `step_indexed` and `replace_indexed` in any order.
--- Document 02, Req 03 and Req 06.
+-- What a host does with its tables, its index, its run and its number: calls of `step_indexed` and `replace_indexed` in any order. Document
+-- 02, Req 03 and Req 06.
+-- Ask: What does a refused call ask for?
 use Prim.Native.Nat.{ℕ, _+_}
 use mathlib.Core.List.{List, [], _∷_}
 use Rattle.dimensions.specs.declared.Dimensions.{Dimensions}

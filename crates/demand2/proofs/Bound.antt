@@ -1,6 +1,5 @@
 -- 2 ^ (k + 1) - 1 steps close a fresh run, k being the number of variables that occur in a row that is no padding, in rows where all that occurred at any step
--- still occur:
--- a run sets and chooses only these, and each step of an open run lowers a potential that starts there.
+-- still occur: a run sets and chooses only these, and each step of an open run lowers a potential that starts there.
 use mathlib.Core.Path.{_≡_, refl}
 use mathlib.Core.Bool.{Bool, true, false, _&&_}
 use mathlib.Core.List.{List, [], _∷_}

@@ -1,6 +1,5 @@
 -- A refuted run leaves no assignment that makes every row true: such an assignment always agrees with T and F or with a level whose variable is still to go to
--- F,
--- and a refuted run has neither.
+-- F, and a refuted run has neither.
 use mathlib.Core.Path.{_≡_, refl}
 use mathlib.Core.Logic.{_⊎_, inl, inr}
 use mathlib.Core.Bool.{Bool, true, false}

@@ -1,5 +1,6 @@
 -- Demand 2, as one statement about the answer of any accepted tables under any budget, whatever rows took the place of padding rows
 -- meanwhile.
+-- Ask: Is each sentence of demand 2 a field?
 use Prim.Native.Nat.{ℕ, suc, _-_, _^_, _≤_, _<_}
 use mathlib.Core.Path.{_≡_}
 use mathlib.Core.Bool.{Bool, true, false}
@@ -26,8 +27,7 @@ stateAtEnd states answer = states (answer .count)
 abbrev pub mostSteps : ℕ → List Row → ℕ
 mostSteps n rows = 2 ^ suc (occurring n rows) - 1
 
--- n variables, the rows as they stand at each step, their words below 2 ^ n, the state after each number of steps, a budget, and the
--- answer
+-- n variables, the rows as they are at each step, their words below 2 ^ n, the state after each number of steps, a budget, and the answer
 pub record Demand2Of (n : ℕ) (rows : ℕ → List Row) (states : ℕ → State) (budget : ℕ) (answer : Answer) : Type 0 where
   -- a model makes every row true
   pub satisfiable : (model : ℕ) → answer .verdict ≡ Satisfiable model → allTrue (bit model) (atEnd rows answer) ≡ true
@@ -41,7 +41,7 @@ pub record Demand2Of (n : ℕ) (rows : ℕ → List Row) (states : ℕ → State
   pub count-closes : (stateAtEnd states answer .standing ≡ Open → answer .count ≡ budget)
   -- the verdict is satisfiable, with T as the model, unsatisfiable or unknown as the standing then is satisfied, refuted or open
   pub by-standing : answer .verdict ≡ verdictOf (stateAtEnd states answer .standing) (stateAtEnd states answer .t)
-  -- the count is at most that of the rows at the end, and so many steps suffice; and k is at most n
+  -- the count is at most that of the rows at the end, and that many steps suffice; and k is at most n
   pub bound-count : answer .count ≤ mostSteps n (atEnd rows answer)
   pub bound : mostSteps n (atEnd rows answer) ≤ budget → answer .verdict ≡ Unknown → ⊥
   pub bound-n : 2 ^ suc n - 1 ≤ budget → answer .verdict ≡ Unknown → ⊥

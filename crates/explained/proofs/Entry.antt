@@ -53,23 +53,21 @@ module _ (d : Dimensions) (tables : Tables) (run : Run) where
     pub passed-checks : s .outcome ≡ checked
     passed-checks = ap (λ (x : Stepped). x .outcome) q ∙ step-outcome
 
-    explained-as : (told : Told) → told ≡ given (s .outcome) tells (λ r. Nothing)
-        → _≡_ {A = Explained} (record { outcome = s .outcome; run = s .run; told = told }) (explained d tables run)
+    explained-as : (o : Outcome) → s .outcome ≡ o
+        → _≡_ {A = Explained} (record { outcome = o; run = s .run; told = given o tells (λ r. Nothing) }) (explained d tables run)
     unfolding explained
-    explained-as told h =
-        ap (λ (x : Told). record { outcome = s .outcome; run = s .run; told = x }) h
+    explained-as o t =
+        ap (λ (x : Outcome). record { outcome = x; run = s .run; told = given x tells (λ r. Nothing) }) (sym t)
         ∙ ap (λ (x : Stepped). record { outcome = x .outcome; run = x .run; told = given (x .outcome) tells (λ r. Nothing) }) q
 
     pub explained-taken : s .outcome ≡ Taken → (told : Told) → told ≡ tells
-        → let e : Explained = record { outcome = s .outcome; run = s .run; told = told } in
+        → let e : Explained = record { outcome = Taken; run = s .run; told = told } in
         (e ≡ explained d tables run) × (explainedSaid e ≡ said checked (toldNumbers tells))
     explained-taken t told h =
-        with-said (record { outcome = s .outcome; run = s .run; told = told })
-        (explained-as told (h ∙ ap (λ (o : Outcome). given o tells (λ r. Nothing)) (sym t)))
+        with-said (record { outcome = Taken; run = s .run; told = told })
+        (ap (λ (x : Told). record { outcome = Taken; run = s .run; told = x }) h ∙ explained-as Taken t)
 
     pub explained-refused : (r : Refusal) → s .outcome ≡ Refused r
-        → let e : Explained = record { outcome = s .outcome; run = s .run; told = Nothing } in
+        → let e : Explained = record { outcome = Refused r; run = s .run; told = Nothing } in
         (e ≡ explained d tables run) × (explainedSaid e ≡ said checked (toldNumbers tells))
-    explained-refused r t =
-        with-said (record { outcome = s .outcome; run = s .run; told = Nothing })
-        (explained-as Nothing (ap (λ (o : Outcome). given o tells (λ r. Nothing)) (sym t)))
+    explained-refused r t = with-said (record { outcome = Refused r; run = s .run; told = Nothing }) (explained-as (Refused r) t)

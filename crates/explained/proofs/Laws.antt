@@ -1,6 +1,5 @@
 -- What is told: nothing exactly if the run was closed; and where a conflict or a forced literal is told, some row shows the rule, so that the row named is the
--- lowest that does.
--- The first by the cases of the rule, the second from what holds where each rule applies.
+-- lowest that does. The first by the cases of the rule, the second from what holds where each rule applies.
 use mathlib.Core.Path.{_≡_, refl, sym, ap, _∙_}
 use mathlib.Core.Bool.{Bool, true, false, _&&_, _||_, false≢true}
 use mathlib.Core.List.{List, [], _∷_}

@@ -1,4 +1,5 @@
 -- The rule behind each step: document 02, Req 07.
+-- Ask: Which row does a step name, and is it the lowest? Does it force the very literal taken, sign included? Is a closed run's rule none?
 use Prim.Native.Nat.{ℕ, suc}
 use mathlib.Core.Bool.{Bool, true, false, _&&_}
 use mathlib.Core.List.{List, [], _∷_}
@@ -21,7 +22,7 @@ use Rattle.explained.specs.declared.Explained.{Explained}
 use Rattle.explained.specs.declared.Told.{Told}
 use Rattle.explained.specs.declared.Told.the-variants.{Nothing, AllSatisfied, ConflictWithLevel, ConflictWithoutLevel, Forced, Chosen}
 
--- ---- the row behind a rule
+-- ---- the row that shows a rule
 
 -- the number of the lowest row that passes, the first one having number i; 0 where none does
 unfoldable pub lowestFrom : ℕ → (Row → Bool) → List Row → ℕ

@@ -1,4 +1,4 @@
--- What the search for the lowest row holds while it goes; only the crate's own functions cite this.
+-- What the search for the lowest row holds while it goes.
 use Prim.Native.Nat.{ℕ}
 use mathlib.Core.Bool.{cond}
 use lib.Dec.{eqb}

@@ -1,4 +1,4 @@
-// The giant step that tells its rule (document 02, Req 07): which rule applied, the row behind it and the literal taken.
+// The giant step that tells its rule (document 02, Req 07): which rule applied, the row that shows it and the literal taken.
 mod lowest;
 
 use dimensions::Dimensions;
@@ -120,7 +120,7 @@ fn explain(d: Dimensions, left: &[u32], right: &[u32], public: &[u32], run: Run)
     )
 }
 
-// The run after one giant step and what the step tells; the run as it was where the call is turned back: 1, 2, 4, 3, 12, 13. The rows are
+// The run after one giant step and what the step tells; the run as it was where the call is refused: 1, 2, 4, 3, 12, 13. The rows are
 // looked at again for what is told, so that the plain step does no more than before.
 pub fn step_explained(
     d: Dimensions,
@@ -138,15 +138,16 @@ pub fn step_explained(
     let outcome = stepped.outcome;
     let next = stepped.run;
     match outcome {
-        Outcome::Taken => Explained {
-            outcome,
-            run: next,
-            told: explain(d, left, right, public, run),
-        },
-        Outcome::Refused(_) => Explained {
-            outcome,
+        Outcome::Taken => {}
+        Outcome::Refused(refusal) => return Explained {
+            outcome: Outcome::Refused(refusal),
             run: next,
             told: Told::Nothing,
         },
+    }
+    Explained {
+        outcome: Outcome::Taken,
+        run: next,
+        told: explain(d, left, right, public, run),
     }
 }

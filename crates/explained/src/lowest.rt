@@ -60,11 +60,8 @@ fn search(earlier: u32, words: &[u32], first: u32, rule: Rule, t: u32, f: u32) -
     let mut found = earlier;
     let mut i = 0;
     while (i < rows) & (found == 0) {
-        let at = 2 * i;
-        let positive = words[at];
-        let negative = words[at + 1];
         let number = first + i as u32;
-        found = number_or(found, Row { positive, negative }, number, rule, t, f);
+        found = number_or(found, tables::row_at(words, i), number, rule, t, f);
         i += 1;
     }
     found

@@ -1,4 +1,4 @@
--- Counts stored row after row: those that are left give what all give. Three tables, one behind the other, give those of all rows, at the width of the tables.
+-- Counts stored row after row: those that are left give what all give. Three tables, one after the other, give those of all rows, at the width of the tables.
 -- By induction on a table's rows.
 use mathlib.Core.Path.{_≡_, refl, sym, ap, ap₂, _∙_}
 use mathlib.Core.List.{List, [], _∷_, _++_, map-append}

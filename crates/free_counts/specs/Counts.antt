@@ -1,4 +1,5 @@
 -- How many literals of each row are free, a byte a row: document 02, "Literals counted in a byte", refusals 1, 2, 4, 3, then 10, 12, 13.
+-- Ask: Are literals of satisfied rows and of padding counted too? Do later bytes stay?
 use Prim.Native.Nat.{ℕ}
 use mathlib.Core.List.{List, _∷_, _++_, map}
 use lib.Dec.{ltb}
@@ -19,11 +20,11 @@ use Rattle.state.specs.WellFormed.{stateChecks}
 abbrev pub freeCounts : ℕ → List Row → ℕ → ℕ → List ℕ
 freeCounts n rows t f = map (λ r. freeLiterals n r t f) rows
 
--- 1, 2, 4, 3, then 10 where so many lent bytes are fewer than the rows, then 12, 13
+-- 1, 2, 4, 3, then 10 where the lent bytes are fewer than the rows, then 12, 13
 abbrev pub countChecks : Dimensions → Tables → Run → ℕ → List Check
 countChecks d tables run room = tableChecks d tables ++ (check (ltb room (rowCount d)) Wires ∷ stateChecks d run)
 
--- the lent bytes afterwards: a count for each row, left, right and public ones, then what stood there; refused, as they were
+-- the lent bytes afterwards: a count for each row, left, right and public ones, then what was there; refused, as they were
 unfoldable pub countsAfter : Dimensions → Tables → Run → List ℕ → List ℕ
 countsAfter d tables run counts =
     given (outcome (countChecks d tables run (length counts)))

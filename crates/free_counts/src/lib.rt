@@ -1,12 +1,11 @@
-// The free literals of each row, a byte a row (document 02, "Literals counted in a byte"). Turned back by 1, 2, 4, 3, 10, 12 and 13.
+// The free literals of each row, a byte a row (document 02, "Literals counted in a byte"). Refusals: 1, 2, 4, 3, 10, 12 and 13.
 use dimensions::Dimensions;
 use refusals::Outcome;
 use refusals::Refusal;
 use state::Run;
-use words::Row;
 ghost use mathlib.Core.Path.{_≡_};
 ghost use mathlib.Core.List.{[], _∷_};
-ghost use Prim.Native.Nat.{_+_, _*_, _≤_};
+ghost use Prim.Native.Nat.{_+_, _≤_};
 ghost use lib.ListN.{length};
 ghost use lib.Seq.{sets};
 ghost use Rattle.refusals.specs.Checks.{outcome};
@@ -15,8 +14,8 @@ ghost use Rattle.tables.specs.Tables.{lentTables};
 ghost use Rattle.tables.specs.Rows.{rowsFrom};
 ghost use Rattle.free_counts.specs.Counts.{freeCounts, countChecks, countsAfter};
 
-// Whether the rows can be counted into so many bytes: 1, 2, 4, 3, 10, 12 or 13 if not.
-fn check(
+// Whether the rows can be counted into the lent bytes: 1, 2, 4, 3, 10, 12 or 13 if not.
+fn check_counts(
     d: Dimensions,
     left: &[u32],
     right: &[u32],
@@ -36,19 +35,15 @@ fn check(
     state::check_state(d, run)
 }
 
-// Counts the free literals of a table's rows into the bytes from a place on; the place behind them.
+// Counts the free literals of a table's rows into the bytes from a place on; the place after them. Words past the end count as 0.
 fn count_rows(words: &[u32], rows: usize, t: u32, f: u32, counts: &mut [u8], at: usize) -> usize
-    requires { ⌜ 2 * rows ≤ length (now words) ⌝ }
     requires { ⌜ at + rows ≤ length (now counts) ⌝ }
     ensures { λ r. ⌜ r ≡ at + rows ⌝ }
     ensures { λ _. ⌜ now (counts .exit) ≡ sets (now (counts .entry)) at (freeCounts 32 (rowsFrom (now (words .entry)) 0 rows) t f) ⌝ }
 {
     let mut i = 0;
     while i < rows {
-        let row = Row {
-            positive: words[2 * i],
-            negative: words[2 * i + 1],
-        };
+        let row = tables::row_at(words, i);
         let judged = tables::judge(row, t, f);
         counts[at + i] = judged.literals;
         i += 1;
@@ -70,7 +65,7 @@ pub fn count_free(
     ensures { λ _. ⌜ now (counts .exit) ≡ countsAfter d (lentTables left right public) run (now (counts .entry)) ⌝ }
     ensures { λ r. ⌜ codeOf r ∷ [] ≡ said (outcome (countChecks d (lentTables left right public) run (length (now (counts .entry))))) [] ⌝ }
 {
-    match check(d, left, right, public, run, counts.len()) {
+    match check_counts(d, left, right, public, run, counts.len()) {
         Outcome::Taken => {}
         Outcome::Refused(refusal) => return Outcome::Refused(refusal),
     }

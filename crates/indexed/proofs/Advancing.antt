@@ -19,18 +19,18 @@ use Rattle.solver.proofs.HeldStep.{fits, open-step, satisfied-stays, refuted-st
 use Rattle.tally.specs.declared.Tally.{Tally}
 use Rattle.tally.specs.Tallies.{tallyOf}
 use Rattle.tally.specs.Ruling.{ruleBy, tallyBy}
-use Rattle.indexed.specs.declared.beside.Held.{Held}
-use Rattle.indexed.specs.Held.{Indexed, Exact, heldOf}
+use Rattle.indexed.specs.declared.tallied.TalliedRun.{TalliedRun}
+use Rattle.indexed.specs.Tallied.{Indexed, Exact, talliedOf}
 use Rattle.indexed.proofs.TallyAfter.{rule-read, tally-is}
 
 -- the run of a state, with exactly the tally of its T and F
 pub held-is : (n : ℕ) (rows : List Row) (s : State) (run : Run) → run ≡ runOf n s → (tally : Tally) → tally ≡ tallyOf rows (run .t) (run .f)
-    → _≡_ {A = Held} (record { run = run; tally = tally }) (heldOf n rows s)
+    → _≡_ {A = TalliedRun} (record { run = run; tally = tally }) (talliedOf n rows s)
 unfolding runOf
 held-is n rows s run e tally q =
     ap₂ (λ (r : Run) (x : Tally). record { run = r; tally = x }) e (q ∙ ap (λ (r : Run). tallyOf rows (r .t) (r .f)) e)
 
-module _ (words : List ℕ) (m : ℕ) (index : List ℕ) (held : Held) (x : Indexed (held .run .n) words m index) (o : Exact (rowsFrom words 0 m) held)
+module _ (words : List ℕ) (m : ℕ) (index : List ℕ) (held : TalliedRun) (x : Indexed (held .run .n) words m index) (o : Exact (rowsFrom words 0 m) held)
     (room : length (held .run .levels) ≡ 32) where
   abbrev rows : List Row
   rows = rowsFrom words 0 m
@@ -48,7 +48,7 @@ module _ (words : List ℕ) (m : ℕ) (index : List ℕ) (held : Held) (x : Inde
   pub open-advance : run .standing ≡ Open → (found : Rule) → found ≡ ruleBy index (run .t) (run .f) (held .tally)
       → (next : Run) → next ≡ followed run found
       → (tally : Tally) → tally ≡ tallyBy words m index (run .t) (run .f) (next .t) (next .f) found (held .tally)
-      → _≡_ {A = Held} (record { run = next; tally = tally }) (heldOf (run .n) rows (step (run .n) rows (stateOf run)))
+      → _≡_ {A = TalliedRun} (record { run = next; tally = tally }) (talliedOf (run .n) rows (step (run .n) rows (stateOf run)))
   unfolding runOf
   open-advance st found e next q tally k =
       let f : found ≡ rule (run .n) rows (run .t) (run .f) = e ∙ found-is in
@@ -58,8 +58,8 @@ module _ (words : List ℕ) (m : ℕ) (index : List ℕ) (held : Held) (x : Inde
       ∙ tally-is (run .n) words m index x (stateOf run) formed (held .tally) (o .exact) found (sym f)
       ∙ sym (ap (λ (r : Run). tallyOf rows (r .t) (r .f)) g))
 
-  pub satisfied-advance : run .standing ≡ Satisfied → held ≡ heldOf (run .n) rows (step (run .n) rows (stateOf run))
+  pub satisfied-advance : run .standing ≡ Satisfied → held ≡ talliedOf (run .n) rows (step (run .n) rows (stateOf run))
   satisfied-advance st = held-is (run .n) rows _ run (satisfied-stays (run .n) rows run refl (o .formed) room st) (held .tally) (o .exact)
 
-  pub refuted-advance : run .standing ≡ Refuted → held ≡ heldOf (run .n) rows (step (run .n) rows (stateOf run))
+  pub refuted-advance : run .standing ≡ Refuted → held ≡ talliedOf (run .n) rows (step (run .n) rows (stateOf run))
   refuted-advance st = held-is (run .n) rows _ run (refuted-stays (run .n) rows run refl (o .formed) room st) (held .tally) (o .exact)

@@ -21,10 +21,10 @@ use Rattle.state.specs.WellFormed.{wellFormed}
 use Rattle.solver.specs.Step.{step}
 use Rattle.tally.specs.declared.Tally.{Tally}
 use Rattle.tally.specs.Tallies.{tallyOf}
-use Rattle.tally.specs.Surveys.{surveyed}
+use Rattle.tally.specs.RowsSeen.{surveyed}
 use Rattle.indexed.specs.declared.SteppedIndexed.{SteppedIndexed}
-use Rattle.indexed.specs.declared.beside.Held.{Held}
-use Rattle.indexed.specs.Held.{Indexed, Exact, heldOf, keptChecks, steppedOver}
+use Rattle.indexed.specs.declared.tallied.TalliedRun.{TalliedRun}
+use Rattle.indexed.specs.Tallied.{Indexed, Exact, talliedOf, keptChecks, steppedOver}
 use Rattle.indexed.specs.Entries.{indexedChecks}
 use Rattle.indexed.proofs.Numbers.{tally-number}
 use Rattle.indexed.proofs.TallyAfter.{survey-exact}
@@ -97,8 +97,8 @@ module _ (n : ℕ) (words : List ℕ) (m : ℕ) (sets : List ℕ) (x : Indexed n
       record { formed = passed .formed; exact = tally-exact },
     )
 
-    pub stepped : (next : Held) → next ≡ heldOf (run .n) rows (step (run .n) rows (stateOf run))
+    pub stepped : (next : TalliedRun) → next ≡ talliedOf (run .n) rows (step (run .n) rows (stateOf run))
         → _≡_ {A = SteppedIndexed} (record { outcome = o; run = next .run; number = next .tally .number }) (steppedOver n rows index run number)
     stepped next h =
         over-taken n rows index run number o judged taken (x .most) (x .low) next
-        (h ∙ ap (λ (k : ℕ). heldOf k rows (step k rows (stateOf run))) (passed .same-n))
+        (h ∙ ap (λ (k : ℕ). talliedOf k rows (step k rows (stateOf run))) (passed .same-n))

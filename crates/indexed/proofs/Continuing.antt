@@ -26,8 +26,8 @@ use Rattle.solver.specs.Step.{Ruling, always}
 use Rattle.solver.specs.Entries.{Ran, runWith, runFrom, answerOf}
 use Rattle.solver.proofs.StepLaws.{fresh-well-formed}
 use Rattle.indexed.specs.declared.Continued.{Continued}
-use Rattle.indexed.specs.declared.beside.Reached.{Reached}
-use Rattle.indexed.specs.Held.{reachedBy}
+use Rattle.indexed.specs.declared.tallied.Reached.{Reached}
+use Rattle.indexed.specs.Tallied.{reachedBy}
 use Rattle.indexed.specs.Continuing.{continuedBy, notContinued, continuedWith, continued, continuedCode, continuedNumbers, ranNumbers}
 
 -- ---- the fresh run

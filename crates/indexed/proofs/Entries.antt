@@ -24,8 +24,8 @@ use Rattle.tally.specs.Tallies.{unsatisfiedRows}
 use Rattle.indexed.specs.declared.Counted.{Counted}
 use Rattle.indexed.specs.declared.Counted.the-variants as counted′
 use Rattle.indexed.specs.declared.SteppedIndexed.{SteppedIndexed}
-use Rattle.indexed.specs.declared.beside.Held.{Held}
-use Rattle.indexed.specs.Held.{heldOf, steppedOver}
+use Rattle.indexed.specs.declared.tallied.TalliedRun.{TalliedRun}
+use Rattle.indexed.specs.Tallied.{talliedOf, steppedOver}
 use Rattle.indexed.specs.Entries.{indexAfter, counted, countedCode, countedNumbers, indexedChecks, numberAfter, steppedBy, steppedIndexed, steppedSaid}
 use Rattle.indexed.specs.Entries.{saidOr}
 use Rattle.indexed.proofs.Numbers.{tally-number}
@@ -81,11 +81,11 @@ module _ (n : ℕ) (rows : List Row) (index : List ℕ) (run : Run) (number : �
   unfolding steppedOver
   over-as = ap (λ (x : Outcome). steppedBy x n rows run number) e
 
-  pub over-taken : o ≡ Taken → n ≤ 32 → allRows (lowRow n) rows ≡ true → (next : Held) → next ≡ heldOf n rows (step n rows (stateOf run))
+  pub over-taken : o ≡ Taken → n ≤ 32 → allRows (lowRow n) rows ≡ true → (next : TalliedRun) → next ≡ talliedOf n rows (step n rows (stateOf run))
       → _≡_ {A = SteppedIndexed} (record { outcome = o; run = next .run; number = next .tally .number }) (steppedOver n rows index run number)
   over-taken t narrow low next q =
       let s = step n rows (stateOf run) in
-      ap₂ (λ (x : Outcome) (h : Held). record { outcome = x; run = h .run; number = h .tally .number }) t q
+      ap₂ (λ (x : Outcome) (h : TalliedRun). record { outcome = x; run = h .run; number = h .tally .number }) t q
       ∙ ap (λ (k : ℕ). record { outcome = Taken; run = runOf n s; number = k }) (tally-number n narrow (s .t) (s .f) rows low)
       ∙ ap (λ (x : Outcome). steppedBy x n rows run number) (sym t) ∙ over-as
 

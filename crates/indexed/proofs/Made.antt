@@ -19,8 +19,8 @@ use Rattle.occurrences.specs.RowWords.{gathered}
 use Rattle.occurrences.proofs.Gathering.{gathered-rows, gathered-index}
 use Rattle.tally.specs.declared.Tally.{Tally}
 use Rattle.tally.specs.Tallies.{unsatisfiedRows}
-use Rattle.tally.specs.Surveys.{surveyed}
-use Rattle.indexed.specs.Held.{Indexed}
+use Rattle.tally.specs.RowsSeen.{surveyed}
+use Rattle.indexed.specs.Tallied.{Indexed}
 use Rattle.indexed.proofs.Numbers.{tally-number}
 use Rattle.indexed.proofs.TallyAfter.{survey-exact}
 

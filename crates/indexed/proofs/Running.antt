@@ -16,29 +16,29 @@ use Rattle.solver.specs.Entries.{Ran, runFrom}
 use Rattle.solver.proofs.BudgetedRun.{Running, running-from, running-on, running-done}
 use Rattle.tally.specs.declared.Tally.{Tally}
 use Rattle.tally.specs.Tallies.{tallyOf}
-use Rattle.indexed.specs.declared.beside.Held.{Held}
-use Rattle.indexed.specs.declared.beside.Reached.{Reached}
-use Rattle.indexed.specs.Held.{Indexed, Exact, heldOf, reachedBy}
+use Rattle.indexed.specs.declared.tallied.TalliedRun.{TalliedRun}
+use Rattle.indexed.specs.declared.tallied.Reached.{Reached}
+use Rattle.indexed.specs.Tallied.{Indexed, Exact, talliedOf, reachedBy}
 
 -- the rows of a run of n
 pub of-run : (n : ℕ) (words : List ℕ) (m : ℕ) (index : List ℕ) → Indexed n words m index → (run : Run) → run .n ≡ n → Indexed (run .n) words m index
 of-run n words m index x run e = subst⁻¹ (λ (k : ℕ). Indexed k words m index) e x
 
 module _ (n : ℕ) (rows : List Row) (times : ℕ) (start : State) where
-  pub record Kept (held : Held) (count : ℕ) : Type 0 where
+  pub record Kept (held : TalliedRun) (count : ℕ) : Type 0 where
     pub running : Running n rows times start (held .run) count
     pub exact : held .tally ≡ tallyOf rows (held .run .t) (held .run .f)
 
-  module _ (held : Held) (count : ℕ) (o : Kept held count) where
+  module _ (held : TalliedRun) (count : ℕ) (o : Kept held count) where
     pub kept-on : ifOpen (held .run .standing) (ltb count times) false ≡ true
-        → (next : Held) → next ≡ heldOf (held .run .n) rows (step (held .run .n) rows (stateOf (held .run))) → Kept next (count + 1)
+        → (next : TalliedRun) → next ≡ talliedOf (held .run .n) rows (step (held .run .n) rows (stateOf (held .run))) → Kept next (count + 1)
     unfolding runOf
     kept-on h next e =
-        let q : next ≡ heldOf n rows (step n rows (stateOf (held .run))) =
-        e ∙ ap (λ (x : ℕ). heldOf x rows (step x rows (stateOf (held .run)))) (o .running .same) in
+        let q : next ≡ talliedOf n rows (step n rows (stateOf (held .run))) =
+        e ∙ ap (λ (x : ℕ). talliedOf x rows (step x rows (stateOf (held .run)))) (o .running .same) in
         record {
-          running = running-on n rows times start (held .run) count (o .running) h (next .run) (ap (λ (x : Held). x .run) q);
-          exact = ap (λ (x : Held). x .tally) q ∙ sym (ap (λ (x : Held). tallyOf rows (x .run .t) (x .run .f)) q);
+          running = running-on n rows times start (held .run) count (o .running) h (next .run) (ap (λ (x : TalliedRun). x .run) q);
+          exact = ap (λ (x : TalliedRun). x .tally) q ∙ sym (ap (λ (x : TalliedRun). tallyOf rows (x .run .t) (x .run .f)) q);
         }
 
     -- where the loop ends, run and count are what the steps reach
@@ -57,7 +57,7 @@ kept-from rows times run formed room tally q = record {
 }
 
 -- what a step asks
-pub kept-ready : (n : ℕ) (words : List ℕ) (m : ℕ) (index : List ℕ) → Indexed n words m index → (times : ℕ) (start : State) (held : Held) (count : ℕ)
+pub kept-ready : (n : ℕ) (words : List ℕ) (m : ℕ) (index : List ℕ) → Indexed n words m index → (times : ℕ) (start : State) (held : TalliedRun) (count : ℕ)
     → Kept n (rowsFrom words 0 m) times start held count → Indexed (held .run .n) words m index × Exact (rowsFrom words 0 m) held
 kept-ready n words m index x times start held count o =
     (of-run n words m index x (held .run) (o .running .same), record { formed = o .running .formed; exact = o .exact })

@@ -20,12 +20,12 @@ use Rattle.solver.proofs.WidthLaws.{rule-width}
 use Rattle.tables.proofs.Numbering.{table-length}
 use Rattle.tally.specs.declared.Tally.{Tally}
 use Rattle.tally.specs.Tallies.{tallyOf}
-use Rattle.tally.specs.Surveys.{surveyed}
+use Rattle.tally.specs.RowsSeen.{surveyed}
 use Rattle.tally.specs.Ruling.{ruleBy, tallyBy}
 use Rattle.tally.proofs.AfterRule.{after-rule}
 use Rattle.tally.proofs.AfterSurvey.{after-survey}
 use Rattle.tally.proofs.AfterSetting.{Ready, after-setting}
-use Rattle.indexed.specs.Held.{Indexed}
+use Rattle.indexed.specs.Tallied.{Indexed}
 use Rattle.indexed.proofs.RuleTests.{unit-calm, choice-calm}
 
 module _ (n : ℕ) (words : List ℕ) (m : ℕ) (index : List ℕ) (x : Indexed n words m index) where

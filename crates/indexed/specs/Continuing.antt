@@ -1,4 +1,5 @@
 -- A run that is continued: document 01's budgeted run from any state that a host holds.
+-- Ask: Are the steps at most those asked for, and none once the run is closed?
 use Prim.Native.Nat.{ℕ, _+_}
 use mathlib.Core.Path.{_≡_}
 use mathlib.Core.Bool.{true, false}
@@ -33,7 +34,7 @@ continuedBy n r = record { outcome = Taken; run = runOf n (r .final); steps = r 
 abbrev pub notContinued : Run → Refusal → Continued
 notContinued run r = record { outcome = Refused r; run = run; steps = 0; closed = false }
 
--- steps by a ruling through the one that closes the run, at most so many: 1, 2, 4, 3, 12, 13
+-- steps by a ruling through the one that closes the run, at most a given number: 1, 2, 4, 3, 12, 13
 unfoldable pub continuedWith : Ruling → Dimensions → Tables → ℕ → Run → Continued
 unfolding runWith runOf
 continuedWith ruling d tables times run =

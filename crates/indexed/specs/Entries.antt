@@ -1,4 +1,5 @@
 -- What each entry of the indexed run gives: document 02, "Which rows does a variable touch".
+-- Ask: Does the run with an index cite the same `step` and `solved`?
 use Prim.Native.Nat.{ℕ}
 use mathlib.Core.Bool.{not}
 use mathlib.Core.List.{List, [], _∷_, _++_}

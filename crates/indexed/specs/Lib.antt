@@ -1,4 +1,4 @@
 pub mod Entries
-pub mod Held
+pub mod Tallied
 pub mod Continuing
 pub mod SameState

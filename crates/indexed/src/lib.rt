@@ -1,15 +1,15 @@
 // The giant step and the budgeted run with an index and a tally beside them (document 02, "Which rows does a variable touch"): the same
 // states as the plain scan gives.
-mod beside;
+mod tallied;
 
-use beside::Held;
-use beside::Reached;
 use dimensions::Dimensions;
 use refusals::Outcome;
 use refusals::Refusal;
 use solver::Answer;
 use solver::Solved;
 use state::Run;
+use tallied::Reached;
+use tallied::TalliedRun;
 ghost use mathlib.Core.Path.{_≡_};
 ghost use mathlib.Core.Bool.{true};
 ghost use mathlib.Core.List.{[], _∷_, _++_};
@@ -31,7 +31,7 @@ ghost use Rattle.tally.specs.Tallies.{unsatisfiedRows};
 ghost use Rattle.indexed.specs.Entries.{indexAfter, counted, countedCode, countedNumbers, indexedChecks, numberAfter, steppedIndexed};
 ghost use Rattle.indexed.specs.Entries.{steppedSaid, saidOr};
 ghost use Rattle.indexed.specs.Continuing.{continued, continuedCode, continuedNumbers, ranNumbers};
-ghost use Rattle.indexed.specs.Held.{Indexed, reachedBy, keptChecks, steppedOver};
+ghost use Rattle.indexed.specs.Tallied.{Indexed, reachedBy, keptChecks, steppedOver};
 
 // How many rows are unsatisfied, or why it is not said.
 pub enum Counted {
@@ -85,19 +85,17 @@ pub fn index(
     ensures { λ _. ⌜ now (index .exit) ≡ indexAfter d (lentTables left right public) (now (index .entry)) ⌝ }
     ensures { λ r. ⌜ codeOf r ∷ [] ≡ said (outcome (tableChecks d (lentTables left right public))) [] ⌝ }
 {
-    let checked = tables::accept(d, left, right, public);
-    match checked {
-        Outcome::Refused(refusal) => Outcome::Refused(refusal),
-        Outcome::Taken => {
-            make_index(d, left, right, public, index);
-            Outcome::Taken
-        }
+    match tables::accept(d, left, right, public) {
+        Outcome::Taken => {}
+        Outcome::Refused(refusal) => return Outcome::Refused(refusal),
     }
+    make_index(d, left, right, public, index);
+    Outcome::Taken
 }
 
 // ---- the run
 
-// The run after steps over accepted tables, through the one that closes it and at most so many: their index is made once.
+// The run after steps over accepted tables, through the one that closes it and at most a given number: their index is made once.
 fn run_accepted(
     d: Dimensions,
     left: &[u32],
@@ -113,11 +111,11 @@ fn run_accepted(
 {
     let mut index = [0u64; 384];
     let words = make_index(d, left, right, public, &mut index);
-    beside::run_to_close(&words, d.rows(), &index, times, run)
+    tallied::run_to_close(&words, d.rows(), &index, times, run)
 }
 
-// The run after steps through the one that closes it, at most so many, how many they were, and whether it is closed then; as it was where
-// the call is turned back: 1, 2, 4, 3, 12, 13.
+// The run after steps through the one that closes it, at most a given number, how many they were, and whether it is closed then; as it was
+// where the call is refused: 1, 2, 4, 3, 12, 13.
 pub fn continue_indexed(
     d: Dimensions,
     left: &[u32],
@@ -131,24 +129,24 @@ pub fn continue_indexed(
         ⌜ continuedCode r ∷ continuedNumbers r ≡ said (outcome (tableChecks d (lentTables left right public) ++ stateChecks d run))
         (ranNumbers (runFrom (d .n) (always (rowsOf d (lentTables left right public))) times (stateOf run))) ⌝ }
 {
-    let outcome = solver::check_all(d, left, right, public, run);
-    match outcome {
-        Outcome::Taken => {
-            let reached = run_accepted(d, left, right, public, times, run);
-            let last = reached.run;
-            Continued {
-                outcome,
-                run: last,
-                steps: reached.steps,
-                closed: verdicts::closed(last),
-            }
+    match solver::check_all(d, left, right, public, run) {
+        Outcome::Taken => {}
+        Outcome::Refused(refusal) => {
+            return Continued {
+                outcome: Outcome::Refused(refusal),
+                run,
+                steps: 0,
+                closed: false,
+            };
         }
-        Outcome::Refused(_) => Continued {
-            outcome,
-            run,
-            steps: 0,
-            closed: false,
-        },
+    }
+    let reached = run_accepted(d, left, right, public, times, run);
+    let last = reached.run;
+    Continued {
+        outcome: Outcome::Taken,
+        run: last,
+        steps: reached.steps,
+        closed: verdicts::closed(last),
     }
 }
 
@@ -178,11 +176,11 @@ pub fn solve_indexed(
         ⌜ solvedCode r ∷ solvedNumbers r ≡ said (outcome (tableChecks d (lentTables left right public)))
         (answerNumbers (answerOf (d .n) (always (rowsOf d (lentTables left right public))) budget)) ⌝ }
 {
-    let checked = tables::accept(d, left, right, public);
-    match checked {
-        Outcome::Refused(refusal) => Solved::Refused(refusal),
-        Outcome::Taken => Solved::Of(run_indexed(d, left, right, public, budget)),
+    match tables::accept(d, left, right, public) {
+        Outcome::Taken => {}
+        Outcome::Refused(refusal) => return Solved::Refused(refusal),
     }
+    Solved::Of(run_indexed(d, left, right, public, budget))
 }
 
 // ---- the number of unsatisfied rows
@@ -205,7 +203,7 @@ fn count_unsatisfied(
     tally.number
 }
 
-// How many rows are unsatisfied under the run's T and F, whatever its standing; 1, 2, 4, 3, 12 or 13 if the call is turned back.
+// How many rows are unsatisfied under the run's T and F, whatever its standing; 1, 2, 4, 3, 12 or 13 if the call is refused.
 pub fn unsatisfied(d: Dimensions, left: &[u32], right: &[u32], public: &[u32], run: Run) -> Counted
     ensures { λ r. ⌜ r ≡ counted d (lentTables left right public) run ⌝ }
     ensures { λ r.
@@ -217,9 +215,10 @@ pub fn unsatisfied(d: Dimensions, left: &[u32], right: &[u32], public: &[u32], r
         Outcome::Refused(refusal) => return Counted::Refused(refusal),
     }
     match state::check_state(d, run) {
-        Outcome::Taken => { Counted::Of(count_unsatisfied(d, left, right, public, run.t, run.f)) }
-        Outcome::Refused(refusal) => Counted::Refused(refusal),
+        Outcome::Taken => {}
+        Outcome::Refused(refusal) => return Counted::Refused(refusal),
     }
+    Counted::Of(count_unsatisfied(d, left, right, public, run.t, run.f))
 }
 
 // ---- index, run and number together
@@ -287,11 +286,11 @@ pub fn check_indexed(
         ⌜ codeOf r ∷ [] ≡ said (outcome (tableChecks d (lentTables left right public) ++ indexedChecks (d .n)
         (rowsOf d (lentTables left right public)) (now (index .entry)) run number)) [] ⌝ }
 {
-    let checked = tables::accept(d, left, right, public);
-    match checked {
-        Outcome::Refused(refusal) => Outcome::Refused(refusal),
-        Outcome::Taken => check_accepted(d, left, right, public, index, run, number),
+    match tables::accept(d, left, right, public) {
+        Outcome::Taken => {}
+        Outcome::Refused(refusal) => return Outcome::Refused(refusal),
     }
+    check_accepted(d, left, right, public, index, run, number)
 }
 
 // ---- the step
@@ -310,23 +309,23 @@ fn step_rows(
     ensures { λ r. ⌜ r ≡ steppedOver n (rowsFrom (now (words .entry)) 0 rows) (now (index .entry)) run number ⌝ }
 {
     let tally = tally::survey(words, sets, rows, run.t, run.f);
-    let outcome = check_kept(n, sets, tally.number, index, run, number);
-    match outcome {
-        Outcome::Taken => {
-            let next = beside::advance(words, rows, index, Held { run, tally });
-            let run = next.run;
-            let tally = next.tally;
-            SteppedIndexed {
-                outcome,
+    match check_kept(n, sets, tally.number, index, run, number) {
+        Outcome::Taken => {}
+        Outcome::Refused(refusal) => {
+            return SteppedIndexed {
+                outcome: Outcome::Refused(refusal),
                 run,
-                number: tally.number as u64,
-            }
+                number,
+            };
         }
-        Outcome::Refused(_) => SteppedIndexed {
-            outcome,
-            run,
-            number,
-        },
+    }
+    let next = tallied::advance(words, rows, index, TalliedRun { run, tally });
+    let run = next.run;
+    let tally = next.tally;
+    SteppedIndexed {
+        outcome: Outcome::Taken,
+        run,
+        number: tally.number as u64,
     }
 }
 
@@ -348,7 +347,7 @@ fn step_accepted(
     step_rows(d.n, &words, d.rows(), &sets, index, run, number)
 }
 
-// The run after one giant step, with its number of unsatisfied rows; both as they were where the call is turned back: 1, 2, 4, 3, 12, 13.
+// The run after one giant step, with its number of unsatisfied rows; both as they were where the call is refused: 1, 2, 4, 3, 12, 13.
 pub fn step_indexed(
     d: Dimensions,
     left: &[u32],
@@ -364,13 +363,15 @@ pub fn step_indexed(
         (rowsOf d (lentTables left right public)) (now (index .entry)) run number))
         (numberAfter (d .n) (rowsOf d (lentTables left right public)) run) number ⌝ }
 {
-    let outcome = tables::accept(d, left, right, public);
-    match outcome {
-        Outcome::Taken => step_accepted(d, left, right, public, index, run, number),
-        Outcome::Refused(_) => SteppedIndexed {
-            outcome,
-            run,
-            number,
-        },
+    match tables::accept(d, left, right, public) {
+        Outcome::Taken => {}
+        Outcome::Refused(refusal) => {
+            return SteppedIndexed {
+                outcome: Outcome::Refused(refusal),
+                run,
+                number,
+            };
+        }
     }
+    step_accepted(d, left, right, public, index, run, number)
 }

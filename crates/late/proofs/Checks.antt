@@ -118,16 +118,16 @@ module _ (d : Dimensions) (tables : Tables) (run : Run) (c : Condition) where
 
     module _ (formed : outcome (stateChecks d run) ≡ Taken) where
       -- the condition's checks by what the code reads
-      decided : (p : Bool) → p ≡ owns d (c .station) (c .number) && readPadding d (tables .left) (tables .right) (c .number)
+      decided : (p : Bool) → p ≡ owns d (c .station) (c .replaced) && readPadding d (tables .left) (tables .right) (c .replaced)
           → outcome (lateChecks d tables run c)
           ≡ outcome (check (not p) NotPadding ∷ check (ifOpen (run .standing) false true) Closed ∷ check (not (lowRow (d .n) (c .row))) RowBit ∷ [])
       decided p e =
           condition-decides (stateChecks d run) formed
           ∙ ap (λ (b : Bool). outcome
           (check (not b) NotPadding ∷ check (ifOpen (run .standing) false true) Closed ∷ check (not (lowRow (d .n) (c .row))) RowBit ∷ []))
-          (sym (e ∙ read-padding d tables acc (c .station) (c .number)))
+          (sym (e ∙ read-padding d tables acc (c .station) (c .replaced)))
 
-      module _ (p : Bool) (read : p ≡ owns d (c .station) (c .number) && readPadding d (tables .left) (tables .right) (c .number)) where
+      module _ (p : Bool) (read : p ≡ owns d (c .station) (c .replaced) && readPadding d (tables .left) (tables .right) (c .replaced)) where
         pub refuse-padding : p ≡ false → Refused NotPadding ≡ outcome (lateChecks d tables run c)
         refuse-padding e = sym (decided p read ∙ rw e)
 
@@ -146,8 +146,8 @@ module _ (d : Dimensions) (tables : Tables) (run : Run) (c : Condition) where
 
 -- a condition that is taken: a padding row of the station's own, an open run, a new row of n variables
 pub record Fitting (d : Dimensions) (tables : Tables) (run : Run) (c : Condition) : Type 0 where
-  pub owned : owns d (c .station) (c .number) ≡ true
-  pub padded : paddingAt d tables (c .number) ≡ true
+  pub owned : owns d (c .station) (c .replaced) ≡ true
+  pub padded : paddingAt d tables (c .replaced) ≡ true
   pub running : run .standing ≡ Open
   pub low : lowRow (d .n) (c .row) ≡ true
 
@@ -166,8 +166,8 @@ module _ (d : Dimensions) (tables : Tables) (run : Run) (c : Condition) where
   -- where a condition passes its own checks, it replaces a padding row of its station's, the run is open, and the new row has no bit at or above n
   pub condition-parts : outcome (conditionChecks d tables run c) ≡ Taken → Fitting d tables run c
   condition-parts e =
-      let own = owns d (c .station) (c .number) in
-      let pad = paddingAt d tables (c .number) in
+      let own = owns d (c .station) (c .replaced) in
+      let pad = paddingAt d tables (c .replaced) in
       let spare = not-false (own && pad) (check-passed (not (own && pad)) NotPadding _ e) in
       let e₁ = checks-taken (not (own && pad)) NotPadding _ e in
       let e₂ = checks-taken (ifOpen (run .standing) false true) Closed _ e₁ in
@@ -198,18 +198,18 @@ module _ (d : Dimensions) (tables : Tables) (run : Run) (c : Condition) where
   after-refused r e = rw e
 
   module _ (e : outcome (lateChecks d tables run c) ≡ Taken) where
-    pub left-replaced : c .number ≤ d .left
-        → (putRow (tables .left) (c .number - 1) (c .row) ≡ tablesAfter d tables run c .left) × (tables .right ≡ tablesAfter d tables run c .right)
+    pub left-replaced : c .replaced ≤ d .left
+        → (putRow (tables .left) (c .replaced - 1) (c .row) ≡ tablesAfter d tables run c .left) × (tables .right ≡ tablesAfter d tables run c .right)
     unfolding replacedIn
     left-replaced h =
         let q = after-taken e in
-        let t = le-leb (c .number) (d .left) h in
+        let t = le-leb (c .replaced) (d .left) h in
         (rw q (rw t), rw q (rw t))
 
-    pub right-replaced : d .left < c .number
-        → (tables .left ≡ tablesAfter d tables run c .left) × (putRow (tables .right) (c .number - 1 - d .left) (c .row) ≡ tablesAfter d tables run c .right)
+    pub right-replaced : d .left < c .replaced
+        → (tables .left ≡ tablesAfter d tables run c .left) × (putRow (tables .right) (c .replaced - 1 - d .left) (c .row) ≡ tablesAfter d tables run c .right)
     unfolding replacedIn
     right-replaced h =
         let q = after-taken e in
-        let t = lt-leb (c .number) (d .left) h in
+        let t = lt-leb (c .replaced) (d .left) h in
         (rw q (rw t), rw q (rw t))

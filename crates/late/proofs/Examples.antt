@@ -31,7 +31,7 @@ run n standing = runOf n (record { standing = standing; t = 0; f = 0; levels = [
 
 -- the station, the row's number, the new row's words
 abbrev late : ℕ → ℕ → ℕ → ℕ → Condition
-late station number positive negative = record { station = station; number = number; row = record { positive = positive; negative = negative } }
+late station number positive negative = record { station = station; replaced = number; row = record { positive = positive; negative = negative } }
 
 code : Tables → Run → Condition → ℕ
 unfolding allBelow runOf wellFormed disjoint padding bit any all

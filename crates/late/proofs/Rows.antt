@@ -1,6 +1,5 @@
 -- A row stored in a table's words is the row of that place and the others stay, so the rows of all tables are those with one replaced; lengths stay, and words
--- stay below
--- 2 ^ n. By induction on the rows and on the words.
+-- stay below 2 ^ n. By induction on the rows and on the words.
 use mathlib.Core.Path.{_≡_, refl, sym, ap, ap₂, _∙_}
 use mathlib.Core.Bool.{Bool, true, false, not, _&&_, _||_}
 use mathlib.Core.List.{List, [], _∷_, _++_}
@@ -105,21 +104,21 @@ module _ (d : Dimensions) (tables : Tables) (c : Condition) where
   rightRows = rowsFrom (tables .right) 0 (d .right)
 
   -- the rows afterwards are those before with one in the place of its number
-  pub rows-replaced : outcome (tableChecks d tables) ≡ Taken → owns d (c .station) (c .number) ≡ true
-      → rowsOf d (replacedIn d tables c) ≡ set (rowsOf d tables) (c .number - 1) (c .row)
+  pub rows-replaced : outcome (tableChecks d tables) ≡ Taken → owns d (c .station) (c .replaced) ≡ true
+      → rowsOf d (replacedIn d tables c) ≡ set (rowsOf d tables) (c .replaced - 1) (c .row)
   unfolding replacedIn
   rows-replaced acc own =
-      let place = owned-place d (c .station) (c .number) own in
+      let place = owned-place d (c .station) (c .replaced) own in
       let a = accepted d tables acc in
-      on (leb (c .number) (d .left))
+      on (leb (c .replaced) (d .left))
       (λ e.
-      let i = c .number - 1 in
+      let i = c .replaced - 1 in
       rw e
       (ap (λ (l : List Row). l ++ (rightRows ++ publicRows d tables)) (table-put (tables .left) (c .row) (d .left) i (place .0 e) (a .left-length))
       ∙ sym (set-append-left leftRows (rightRows ++ publicRows d tables) i (c .row) (omega (arith, place .0 e, table-length (tables .left) 0 (d .left))))))
       (λ e.
-      let i = c .number - 1 - d .left in
-      let k : length leftRows + i ≡ c .number - 1 = omega (arith, table-length (tables .left) 0 (d .left), leb-false (c .number) (d .left) e) in
+      let i = c .replaced - 1 - d .left in
+      let k : length leftRows + i ≡ c .replaced - 1 = omega (arith, table-length (tables .left) 0 (d .left), leb-false (c .replaced) (d .left) e) in
       rw e
       (ap (λ (l : List Row). leftRows ++ (l ++ publicRows d tables)) (table-put (tables .right) (c .row) (d .right) i (place .1 e) (a .right-length))
       ∙ ap (λ (l : List Row). leftRows
@@ -130,7 +129,7 @@ module _ (d : Dimensions) (tables : Tables) (c : Condition) where
   -- the public table stays
   pub public-still : replacedIn d tables c .public ≡ tables .public
   unfolding replacedIn
-  public-still = on (leb (c .number) (d .left)) (λ e. rw e) (λ e. rw e)
+  public-still = on (leb (c .replaced) (d .left)) (λ e. rw e) (λ e. rw e)
 
 -- ---- acceptance
 
@@ -162,9 +161,9 @@ module _ (d : Dimensions) (tables : Tables) (c : Condition) where
       (check-passed (anyHigh d tables) RowBit Taken (checks-taken (anyShort d tables) RowBuffer _ words)) in
       let left = tables .left in
       let right = tables .right in
-      let i = c .number - 1 in
-      let j = c .number - 1 - d .left in
-      on (leb (c .number) (d .left))
+      let i = c .replaced - 1 in
+      let j = c .replaced - 1 - d .left in
+      on (leb (c .replaced) (d .left))
       (λ e. rw e (same
       (ap (λ (b : Bool). b || short (d .right) right || short (d .public) (tables .public)) (still-long (d .n) (d .left) left i (c .row)))
       (ap (λ (b : Bool). b || high (d .n) (d .right) right || high (d .n) (d .public) (tables .public))

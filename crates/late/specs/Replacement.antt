@@ -1,4 +1,5 @@
 -- A late condition: document 02, Req 06. While its run is open, a station puts a row in the place of one of its own padding rows.
+-- Ask: Whose row is it, is it padding now, is the run open, and which two words change? Are 15 and 16 after 13 and before the new row's 3?
 use Prim.Native.Nat.{ℕ, _+_, _-_, _*_}
 use mathlib.Core.Bool.{Bool, true, false, not, _&&_, cond}
 use mathlib.Core.List.{List, [], _∷_, _++_}
@@ -24,14 +25,14 @@ owns d station number =
     cond (eqb station 0) (ltb 0 number && leb number (d .left))
     (eqb station 1 && (ltb (d .left) number && leb number (d .left + d .right)))
 
--- the row of a number, as it stands
+-- the row of a number, as it is
 abbrev pub paddingAt : Dimensions → Tables → ℕ → Bool
 paddingAt d tables number = padding (d .n) (getD (rowsOf d tables) (number - 1) empty)
 
 -- 15: no padding row of that station; 16: the run is closed; 3: the new row has a bit at or above n
 abbrev pub conditionChecks : Dimensions → Tables → Run → Condition → List Check
 conditionChecks d tables run c =
-    check (not (owns d (c .station) (c .number) && paddingAt d tables (c .number))) NotPadding
+    check (not (owns d (c .station) (c .replaced) && paddingAt d tables (c .replaced))) NotPadding
     ∷ check (ifOpen (run .standing) false true) Closed
     ∷ check (not (lowRow (d .n) (c .row))) RowBit
     ∷ []
@@ -49,9 +50,9 @@ putRow words i r = set (set words (2 * i) (r .positive)) (2 * i + 1) (r .negativ
 -- the tables with the row in its place: a number says which table it is in
 unfoldable pub replacedIn : Dimensions → Tables → Condition → Tables
 replacedIn d tables c =
-    cond (leb (c .number) (d .left))
-    (record { left = putRow (tables .left) (c .number - 1) (c .row); right = tables .right; public = tables .public })
-    (record { left = tables .left; right = putRow (tables .right) (c .number - 1 - d .left) (c .row); public = tables .public })
+    cond (leb (c .replaced) (d .left))
+    (record { left = putRow (tables .left) (c .replaced - 1) (c .row); right = tables .right; public = tables .public })
+    (record { left = tables .left; right = putRow (tables .right) (c .replaced - 1 - d .left) (c .row); public = tables .public })
 
 -- what is refused leaves them as they were
 unfoldable pub tablesAfter : Dimensions → Tables → Run → Condition → Tables

@@ -7,7 +7,7 @@ use words::Row;
 ghost use mathlib.Core.Path.{_≡_};
 ghost use mathlib.Core.List.{[], _∷_};
 ghost use mathlib.Core.Bool.{_&&_, cond};
-ghost use Prim.Native.Nat.{_+_, _-_, _*_, _≤_, _<_};
+ghost use Prim.Native.Nat.{_+_, _-_, _*_, _<_};
 ghost use lib.Dec.{leb};
 ghost use lib.ListN.{length};
 ghost use Rattle.refusals.specs.Checks.{outcome};
@@ -18,10 +18,11 @@ ghost use Rattle.tables.specs.Acceptance.{lowRow};
 ghost use Rattle.late.specs.Replacement as Replacement;
 ghost use Rattle.late.specs.Replacement.{lateChecks, putRow, tablesAfter};
 
-// Who replaces which row by what: station 0 is the left one, 1 the right one; rows are numbered from 1 over all tables.
+// Who replaces which row by what: station 0 is the left one, 1 the right one; `replaced` is the old row's number, from 1 over all tables;
+// `row` is the new row.
 pub struct Condition {
     pub station: u64,
-    pub number: u64,
+    pub replaced: u64,
     pub row: Row,
 }
 
@@ -39,18 +40,16 @@ fn owns(d: Dimensions, station: u64, number: u64) -> bool
     false
 }
 
-// Whether row i from 0 of a table's words is padding.
+// Whether row i from 0 of a table's words is padding. Words past the end count as 0.
 fn is_padding(words: &[u32], i: usize) -> bool
-    requires { ⌜ 2 * i + 1 < length (now words) ⌝ }
     ensures { λ r. ⌜ r ≡ padding 32 (rowAt (now (words .entry)) i) ⌝ }
 {
-    words[2 * i] & words[2 * i + 1] != 0
+    let row = tables::row_at(words, i);
+    row.positive & row.negative != 0
 }
 
 // Whether the row of that number is a padding row of the station.
 fn replaceable(d: Dimensions, left: &[u32], right: &[u32], station: u64, number: u64) -> bool
-    requires { ⌜ 2 * d .left ≤ length (now left) ⌝ }
-    requires { ⌜ 2 * d .right ≤ length (now right) ⌝ }
     ensures { λ r.
         ⌜ r ≡ Replacement.owns d station number && cond (leb number (d .left)) (padding 32 (rowAt (now (left .entry)) (number - 1)))
         (padding 32 (rowAt (now (right .entry)) (number - 1 - d .left))) ⌝ }
@@ -73,7 +72,7 @@ fn low(row: Row, n: u32) -> bool
 }
 
 // Whether the row may be replaced: 1, 2, 4, 3, 12, 13, 15, 16, or 3 for the new row, if not.
-fn check(
+fn check_condition(
     d: Dimensions,
     left: &[u32],
     right: &[u32],
@@ -91,7 +90,7 @@ fn check(
         Outcome::Taken => {}
         Outcome::Refused(refusal) => return Outcome::Refused(refusal),
     }
-    if !replaceable(d, left, right, condition.station, condition.number) {
+    if !replaceable(d, left, right, condition.station, condition.replaced) {
         return Outcome::Refused(Refusal::NotPadding);
     }
     if verdicts::closed(run) {
@@ -127,11 +126,11 @@ pub fn replace(
     ensures { λ _. ⌜ now (right .exit) ≡ tablesAfter d (lentTables left right public) run condition .right ⌝ }
     ensures { λ r. ⌜ codeOf r ∷ [] ≡ said (outcome (lateChecks d (lentTables left right public) run condition)) [] ⌝ }
 {
-    match check(d, left, right, public, run, condition) {
+    match check_condition(d, left, right, public, run, condition) {
         Outcome::Taken => {}
         Outcome::Refused(refusal) => return Outcome::Refused(refusal),
     }
-    let number = condition.number;
+    let number = condition.replaced;
     let left_rows = d.left as u64;
     if number <= left_rows {
         put(left, (number - 1) as usize, condition.row);

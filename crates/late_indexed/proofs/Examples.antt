@@ -22,7 +22,7 @@ use Rattle.state.specs.State.{runOf}
 use Rattle.state.specs.WellFormed.{disjoint, wellFormed}
 use Rattle.occurrences.specs.Index.{at, indexOf}
 use Rattle.tally.specs.Tallies.{countRows, unsatisfiedRows}
-use Rattle.indexed.specs.Held.{keptChecks}
+use Rattle.indexed.specs.Tallied.{keptChecks}
 use Rattle.indexed.specs.Entries.{steppedIndexed}
 use Rattle.late.specs.declared.Condition.{Condition}
 use Rattle.late.specs.Replacement.{conditionChecks, replacedIn}
@@ -49,7 +49,7 @@ run t = runOf 2 (record { standing = Open; t = t; f = 0; levels = [] })
 
 -- the station, the row's number, the new row's words
 abbrev late : ℕ → ℕ → ℕ → ℕ → Condition
-late station number positive negative = record { station = station; number = number; row = record { positive = positive; negative = negative } }
+late station number positive negative = record { station = station; replaced = number; row = record { positive = positive; negative = negative } }
 
 -- ---- the index before and after, computed once
 

@@ -1,6 +1,5 @@
--- Index and number from the old and the new row: exactly those of the rows as they stand then, since the old row was padding and so satisfied. By induction on
--- the rows, and by
--- the checks in order.
+-- Index and number from the old and the new row: exactly those of the rows as they are then, since the old row was padding and so satisfied. By induction on
+-- the rows, and by the checks in order.
 use mathlib.Core.Path.{_≡_, sym, ap, ap₂, _∙_}
 use mathlib.Core.Bool.{Bool, true, false, not, _&&_}
 use mathlib.Core.List.{List, [], _∷_, _++_, append-assoc}
@@ -170,22 +169,23 @@ module _ (d : Dimensions) (tables : Tables) (index : List ℕ) (run : Run) (numb
       fitting : Fitting d tables run c
       fitting = condition-parts d tables run c (sym (condition-decides d tables run c tables-taken (stateChecks d run) state-taken) ∙ taken)
 
-      pub row-number : (0 < c .number) × (c .number ≤ d .left + d .right)
-      row-number = owned-number d (c .station) (c .number) (fitting .owned)
+      pub row-number : (0 < c .replaced) × (c .replaced ≤ d .left + d .right)
+      row-number = owned-number d (c .station) (c .replaced) (fitting .owned)
 
-      place : c .number - 1 < length rows
+      place : c .replaced - 1 < length rows
       place = omega (arith, row-number .0, row-number .1, tables-length d tables)
 
-      rows-then : set rows (c .number - 1) (c .row) ≡ rowsOf d (replacedIn d tables c)
+      rows-then : set rows (c .replaced - 1) (c .row) ≡ rowsOf d (replacedIn d tables c)
       rows-then = sym (rows-replaced d tables c tables-taken (fitting .owned))
 
       -- the sets from both rows
-      pub index-then : (old : Row) → old ≡ oldRow d (tables .left) (tables .right) (c .number)
-          → replacedSets index (c .number - 1) old (c .row) ≡ indexThen d tables index run number c
+      pub index-then : (old : Row) → old ≡ oldRow d (tables .left) (tables .right) (c .replaced)
+          → replacedSets index (c .replaced - 1) old (c .row) ≡ indexThen d tables index run number c
       unfolding indexThen
       index-then old q =
-          ap₂ (λ (x : List ℕ) (r : Row). replacedSets x (c .number - 1) r (c .row)) index-is (q ∙ old-is d tables (c .number) (row-number .0) (row-number .1))
-          ∙ replaced-index rows (c .number - 1) (c .row) place
+          ap₂ (λ (x : List ℕ) (r : Row). replacedSets x (c .replaced - 1) r (c .row)) index-is
+          (q ∙ old-is d tables (c .replaced) (row-number .0) (row-number .1))
+          ∙ replaced-index rows (c .replaced - 1) (c .row) place
           ∙ ap indexOf rows-then ∙ rw (sym decided-alike ∙ taken)
 
       -- the number from the new one
@@ -196,7 +196,7 @@ module _ (d : Dimensions) (tables : Tables) (index : List ℕ) (run : Run) (numb
           ap₂ (λ (k : ℕ) (b : Bool). k + digit (not b)) number-is
           (satisfied-width n 32 (c .row) (run .t) (run .f) (accepted d tables tables-taken .size .n-most) (low-positive n (c .row) (fitting .low))
           (low-negative n (c .row) (fitting .low)))
-          ∙ sym (number-set n rows (c .number - 1) (c .row) (run .t) (run .f) place (fitting .padded))
+          ∙ sym (number-set n rows (c .replaced - 1) (c .row) (run .t) (run .f) place (fitting .padded))
           ∙ ap (λ (rs : List Row). unsatisfiedRows n rs (run .t) (run .f)) rows-then ∙ rw (sym decided-alike ∙ taken)
 
       pub answer-then : (o : Outcome) (k : ℕ) → o ≡ outcome (lateChecks d tables run c) → k ≡ number + digit (unmet 32 (run .t) (run .f) (c .row))

@@ -1,4 +1,4 @@
--- The row that is replaced, as code reads it before. No entry's contract rests on this file.
+-- The row that is replaced, as code reads it before.
 use Prim.Native.Nat.{ℕ, _+_, _-_}
 use mathlib.Core.Bool.{_&&_, cond}
 use mathlib.Core.List.{List}

@@ -1,5 +1,5 @@
 -- A late condition with an index and a number of unsatisfied rows beside the run (document 02, Req 06): both are those of the tables as
--- they stand afterwards.
+-- they are afterwards.
 use Prim.Native.Nat.{ℕ}
 use mathlib.Core.List.{List, _++_}
 use Rattle.refusals.specs.Checks.{Check, outcome, given}
@@ -24,7 +24,7 @@ replaceChecks d tables index run number c =
 unfoldable pub tablesThen : Dimensions → Tables → List ℕ → Run → ℕ → Condition → Tables
 tablesThen d tables index run number c = given (outcome (replaceChecks d tables index run number c)) (replacedIn d tables c) (λ r. tables)
 
--- the sets of rows of the tables as they stand then; refused, the index as it was
+-- the sets of rows of the tables as they are then; refused, the index as it was
 unfoldable pub indexThen : Dimensions → Tables → List ℕ → Run → ℕ → Condition → List ℕ
 indexThen d tables index run number c =
     given (outcome (replaceChecks d tables index run number c)) (indexOf (rowsOf d (replacedIn d tables c))) (λ r. index)

@@ -9,11 +9,9 @@ ghost use mathlib.Core.Path.{_≡_};
 ghost use mathlib.Core.List.{[], _∷_};
 ghost use Rattle.refusals.specs.Checks.{outcome};
 ghost use Rattle.refusals.specs.Numbers.{codeOf, said};
-ghost use Prim.Native.Nat.{_+_, _*_, _≤_, _<_};
-ghost use lib.ListN.{length};
+ghost use Prim.Native.Nat.{_+_, _≤_};
 ghost use Rattle.words.specs.Booleans.{digit};
 ghost use Rattle.tables.specs.Tables.{lentTables};
-ghost use Rattle.tables.specs.Rows.{rowAt};
 ghost use Rattle.tally.specs.Tallies.{unmet};
 ghost use Rattle.late_indexed.specs.OldRow.{oldRow};
 ghost use Rattle.late_indexed.specs.Replacement.{replaceChecks, tablesThen, indexThen, replacedIndexed};
@@ -26,30 +24,17 @@ pub struct ReplacedIndexed {
 
 // ---- the old row
 
-// Row i from 0 of a table's words.
-fn row_at(words: &[u32], i: usize) -> Row
-    requires { ⌜ 2 * i + 1 < length (now words) ⌝ }
-    ensures { λ r. ⌜ r ≡ rowAt (now (words .entry)) i ⌝ }
-{
-    Row {
-        positive: words[2 * i],
-        negative: words[2 * i + 1],
-    }
-}
-
 // The row of a number from 1 in the left table or in the right one; an empty one for any other number.
 fn old_row(d: Dimensions, left: &[u32], right: &[u32], number: u64) -> Row
-    requires { ⌜ 2 * d .left ≤ length (now left) ⌝ }
-    requires { ⌜ 2 * d .right ≤ length (now right) ⌝ }
     ensures { λ r. ⌜ r ≡ oldRow d (now (left .entry)) (now (right .entry)) number ⌝ }
 {
     let left_rows = d.left as u64;
     let right_rows = d.right as u64;
     if (0 < number) & (number <= left_rows) {
-        return row_at(left, (number - 1) as usize);
+        return tables::row_at(left, (number - 1) as usize);
     }
     if (left_rows < number) & (number <= left_rows + right_rows) {
-        return row_at(right, (number - 1 - left_rows) as usize);
+        return tables::row_at(right, (number - 1 - left_rows) as usize);
     }
     Row {
         positive: 0,
@@ -72,8 +57,7 @@ fn count_row(number: u64, row: Row, t: u32, f: u32) -> u64
 }
 
 // Puts a row in the place of a padding row of the station, and brings index and number up to date. Padding is satisfied, so the new row
-// alone can raise the number.
-// Refused, by 1, 2, 4, 3, 12, 13, 15, 16, or 3 for the new row, it changes nothing.
+// alone can raise the number. Refused, by 1, 2, 4, 3, 12, 13, 15, 16, or 3 for the new row, it changes nothing.
 pub fn replace_indexed(
     d: Dimensions,
     left: &mut [u32],
@@ -92,8 +76,7 @@ pub fn replace_indexed(
         ⌜ codeOf (r .outcome) ∷ [] ≡ said (outcome (replaceChecks d (lentTables left right public) (now (index .entry)) run number
         condition)) [] ⌝ }
 {
-    let checked = indexed::check_indexed(d, left, right, public, index, run, number);
-    match checked {
+    match indexed::check_indexed(d, left, right, public, index, run, number) {
         Outcome::Taken => {}
         Outcome::Refused(refusal) => {
             return ReplacedIndexed {
@@ -102,16 +85,19 @@ pub fn replace_indexed(
             };
         }
     }
-    let old = old_row(d, left, right, condition.number);
-    let outcome = late::replace(d, left, right, public, run, condition);
-    match outcome {
-        Outcome::Taken => {
-            occurrences::replace_row(index, (condition.number - 1) as usize, old, condition.row);
-            ReplacedIndexed {
-                outcome,
-                number: count_row(number, condition.row, run.t, run.f),
-            }
+    let old = old_row(d, left, right, condition.replaced);
+    match late::replace(d, left, right, public, run, condition) {
+        Outcome::Taken => {}
+        Outcome::Refused(refusal) => {
+            return ReplacedIndexed {
+                outcome: Outcome::Refused(refusal),
+                number,
+            };
         }
-        Outcome::Refused(_) => ReplacedIndexed { outcome, number },
+    }
+    occurrences::replace_row(index, (condition.replaced - 1) as usize, old, condition.row);
+    ReplacedIndexed {
+        outcome: Outcome::Taken,
+        number: count_row(number, condition.row, run.t, run.f),
     }
 }

@@ -1,6 +1,5 @@
 -- A host that mixes attempts with late conditions has the repeats of demand 3 over the tables as the conditions leave them, each after as many repeats: an
--- attempt that is turned
--- back goes on with the run and the tables that it met. By induction on the turns.
+-- attempt that is refused goes on with the run and the tables that it met. By induction on the turns.
 use mathlib.Core.Path.{_≡_, refl, sym, ap, ap₂, _∙_, fun-ext, subst}
 use mathlib.Core.Bool.{Bool, true, false, cond}
 use mathlib.Core.List.{List, [], _∷_, _++_}

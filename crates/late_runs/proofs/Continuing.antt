@@ -1,4 +1,4 @@
--- A run continued is so many steps of its host: where a host continues its run between late conditions, all that is said of its calls holds of each call as
+-- A run continued is that many steps of its host: where a host continues its run between late conditions, all that is said of its calls holds of each call as
 -- its steps. By induction on the steps.
 use mathlib.Core.Path.{_≡_, refl, sym, ap, _∙_}
 use mathlib.Core.Bool.{true}

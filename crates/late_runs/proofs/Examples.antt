@@ -1,6 +1,6 @@
 -- One variable, the left row (1) and a padding row on the right: (−1) in its place after one step makes the run unsatisfiable, after the close it changes
--- nothing, and rows that are
--- no padding row of the station stay. Computed; then two pairs that are seen alike though only one of them was changed, from what secrecy says.
+-- nothing, and rows that are no padding row of the station stay. Computed; then two pairs that are seen alike though only one of them was changed, from what
+-- secrecy says.
 use mathlib.Core.Path.{_≡_, refl, sym, ap, _∙_}
 use mathlib.Core.Bool.{Bool, true, false}
 use mathlib.Core.List.{List, [], _∷_}
@@ -48,7 +48,7 @@ replaced = allTables (1 ∷ 0 ∷ []) (0 ∷ 1 ∷ []) []
 
 -- (−1) in the place of a row
 abbrev ill : ℕ → ℕ → Condition
-ill station number = record { station = station; number = number; row = record { positive = 0; negative = 1 } }
+ill station number = record { station = station; replaced = number; row = record { positive = 0; negative = 1 } }
 
 abbrev answer : ℕ → Verdict → Answer
 answer steps verdict = record { count = steps; verdict = verdict }
@@ -88,7 +88,7 @@ unfolding tablesAt padding bit any
 other-row-stays = refl
 
 pub once-there-stays : tablesAt small tables
-    (dated 1 (ill 1 2) ∷ dated 1 (record { station = 1; number = 2; row = record { positive = 1; negative = 0 } }) ∷ []) 1 ≡ replaced
+    (dated 1 (ill 1 2) ∷ dated 1 (record { station = 1; replaced = 2; row = record { positive = 1; negative = 0 } }) ∷ []) 1 ≡ replaced
 unfolding tablesAt padding bit any
 once-there-stays = refl
 
@@ -139,7 +139,7 @@ abbrev other : Tables
 other = allTables (1 ∷ 1 ∷ []) (0 ∷ 1 ∷ []) []
 
 abbrev well : Condition
-well = record { station = 0; number = 1; row = record { positive = 1; negative = 0 } }
+well = record { station = 0; replaced = 1; row = record { positive = 1; negative = 0 } }
 
 accepted″ : Accepts small other
 unfolding allBelow

@@ -1,6 +1,5 @@
 -- A host's run is the run over its late conditions: while the run is open each call of `replace` leaves the tables with its condition, and once it is closed
--- neither tables nor
--- run change. By induction on the calls.
+-- neither tables nor run change. By induction on the calls.
 use mathlib.Core.Path.{_≡_, refl, sym, ap, ap₂, _∙_, fun-ext}
 use mathlib.Core.Bool.{Bool, true, false, not, _&&_, cond, true≢false}
 use mathlib.Core.List.{List, [], _∷_, _++_}
@@ -85,7 +84,7 @@ module _ (d : Dimensions) (tables : Tables) (acc : Accepts d tables) (s : State)
     at-closed false low = refl
 
     abbrev padded : Bool
-    padded = owns d (c .station) (c .number) && paddingAt d tables (c .number)
+    padded = owns d (c .station) (c .replaced) && paddingAt d tables (c .replaced)
 
     -- an open run's tables get the condition
     pub open-replaces : closed s ≡ false → tablesAfter d tables run c ≡ tablesWith d tables c

@@ -53,13 +53,13 @@ module _ (d : Dimensions) where
 
   replaced-next : (tables : Tables) → Accepts d tables → (c : Condition) → legal d tables c ≡ true → Next tables (replacedIn d tables c)
   replaced-next tables acc c e =
-      let own = owns d (c .station) (c .number) in
-      let both = and-l (own && paddingAt d tables (c .number)) _ e in
+      let own = owns d (c .station) (c .replaced) in
+      let both = and-l (own && paddingAt d tables (c .replaced)) _ e in
       record {
-        taken = accepted-still d tables c acc (and-r (own && paddingAt d tables (c .number)) _ e);
+        taken = accepted-still d tables c acc (and-r (own && paddingAt d tables (c .replaced)) _ e);
         same = ap (λ (words : List ℕ). rowsFrom words 0 (d .public)) (public-still d tables c);
         grown = subst (Grows (d .n) (rowsOf d tables)) (sym (rows-replaced d tables c acc (and-l own _ both)))
-            (set-grows (d .n) (accepted d tables acc .size .n-most) (rowsOf d tables) (c .number - 1) (c .row) (and-r own _ both));
+            (set-grows (d .n) (accepted d tables acc .size .n-most) (rowsOf d tables) (c .replaced - 1) (c .row) (and-r own _ both));
       }
 
   with-next : (tables : Tables) → Accepts d tables → (c : Condition) → Next tables (tablesWith d tables c)

@@ -1,4 +1,5 @@
 -- What a host does with its tables and its run: calls in any order. Document 02, Req 06, and document 01, "Circuit".
+-- Ask: From which state are steps counted?
 use Prim.Native.Nat.{ℕ, zero, suc, _+_, _-_, _*_, min}
 use mathlib.Core.Bool.{Bool, _&&_, cond}
 use mathlib.Core.List.{List, [], _∷_, _++_}
@@ -17,7 +18,7 @@ use Rattle.repeats.specs.Repeats.{Attempt, Repeat, attempted, comesOf, longEnou
 use Rattle.repeats.specs.Repeating.{whole, made, allowed, repeated}
 use Rattle.late_runs.specs.Schedule.{Dated}
 
--- a late condition after so many steps
+-- a late condition after a number of steps
 abbrev pub dated : ℕ → Condition → Dated
 dated k c = record { steps = k; condition = c }
 
@@ -63,8 +64,8 @@ conditionsOf k (Replace c ∷ more) = dated k c ∷ conditionsOf k more
 
 -- ---- attempts, calls of `repeat` and late conditions
 
--- an attempt to apply the circuit; a call of `repeat`, so many times, with the gate words, bytes and wires that the host lends; or one of
--- `replace`
+-- an attempt to apply the circuit; a call of `repeat`, a number of times, with the gate words, bytes and wires that the host lends; or one
+-- of `replace`
 pub data Turn : Type 0 where
   Try : Attempt → Turn
   Call : (times : ℕ) (gates bytes wires : List ℕ) → Turn
@@ -75,8 +76,8 @@ abbrev pub madeBy : Dimensions → Tables → ℕ → List ℕ → List ℕ → 
 madeBy d tables times gates bytes wires run =
     given (allowed d tables times gates bytes wires run) (made d tables times bytes wires run) (λ refusal. [])
 
--- the repeats that the turns come to, with so many left, each over the tables as they stand; a call asks for no more than are left, its
--- run and its number of repeats are what it gives, and its mark that is 1 is the last
+-- the repeats that the turns come to, with a number of repeats left, each over the tables as they are; a call asks for no more than are
+-- left, its run and its number of repeats are what it gives, and its mark that is 1 is the last
 unfoldable pub repeatsBy : Dimensions → Tables → ℕ → Run → List Turn → List Repeat
 unfolding tablesAfter repeated
 repeatsBy d tables budget run [] = []
@@ -109,7 +110,7 @@ countBy d tables (suc rest) run (Try a ∷ more) =
 abbrev pub roomFor : Dimensions → List ℕ → List ℕ → List ℕ → Bool
 roomFor d gates bytes wires = leb (3 * ceiling d) (length gates) && longEnough d (whole d bytes wires)
 
--- the attempts among the turns: a call is so many of them, a refused one none
+-- the attempts among the turns: a call is `times` of them, a refused one none
 unfoldable pub attemptsIn : Dimensions → List Turn → List Attempt
 attemptsIn d [] = []
 attemptsIn d (Renew c ∷ more) = attemptsIn d more
@@ -117,7 +118,7 @@ attemptsIn d (Call times gates bytes wires ∷ more) =
     cond (roomFor d gates bytes wires) (replicate times (whole d bytes wires)) [] ++ attemptsIn d more
 attemptsIn d (Try a ∷ more) = a ∷ attemptsIn d more
 
--- the late conditions, each with the number of repeats before it: what is turned back is none
+-- the late conditions, each with the number of repeats before it: what is refused is none
 unfoldable pub conditionsIn : Dimensions → ℕ → List Turn → List Dated
 conditionsIn d k [] = []
 conditionsIn d k (Renew c ∷ more) = dated k c ∷ conditionsIn d k more

@@ -1,4 +1,5 @@
--- Tables that change while a run is open: late conditions in order, each after so many steps. Document 02, Req 06.
+-- Tables that change while a run is open: late conditions in order, each after a number of steps. Document 02, Req 06.
+-- Ask: Which tables does a step read?
 use Prim.Native.Nat.{ℕ}
 use mathlib.Core.Bool.{Bool, _&&_, cond}
 use mathlib.Core.List.{List, [], _∷_}
@@ -18,7 +19,7 @@ pub record Dated : Type 0 where
 
 -- a padding row of that station, and no bit of the new row at or above n: neither 15 nor 3
 abbrev pub legal : Dimensions → Tables → Condition → Bool
-legal d tables c = owns d (c .station) (c .number) && paddingAt d tables (c .number) && lowRow (d .n) (c .row)
+legal d tables c = owns d (c .station) (c .replaced) && paddingAt d tables (c .replaced) && lowRow (d .n) (c .row)
 
 -- the tables with the condition; what is not legal leaves them as they were
 unfoldable pub tablesWith : Dimensions → Tables → Condition → Tables
@@ -29,7 +30,7 @@ tablesWith d tables c = cond (legal d tables c) (replacedIn d tables c) tables
 abbrev pub due : ℕ → Dated → Bool
 due k c = leb (c .steps) k
 
--- the tables as they stand when step k + 1 begins: the conditions in order, up to the first that comes after more than k steps
+-- the tables as they are when step k + 1 begins: the conditions in order, up to the first that comes after more than k steps
 unfoldable pub tablesAt : Dimensions → Tables → List Dated → ℕ → Tables
 unfolding tablesWith
 tablesAt d tables [] k = tables

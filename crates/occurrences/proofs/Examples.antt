@@ -1,4 +1,4 @@
--- Words of the index of small tables, computed: where each row stands in its literals' sets, and the words of all rows in one array.
+-- Words of the index of small tables, computed: where each row is in its literals' sets, and the words of all rows in one array.
 use mathlib.Core.Path.{_≡_, refl}
 use mathlib.Core.Bool.{true}
 use mathlib.Core.List.{List, [], _∷_, _++_}

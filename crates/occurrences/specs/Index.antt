@@ -1,4 +1,5 @@
 -- Rows by literal: document 02, "Which rows does a variable touch".
+-- Ask: Is an index these sets and no other?
 use Prim.Native.Nat.{ℕ, zero, suc, _+_, _*_}
 use mathlib.Core.Bool.{Bool, true, false}
 use mathlib.Core.List.{List, [], _∷_, _++_}

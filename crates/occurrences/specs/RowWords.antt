@@ -1,4 +1,5 @@
--- Rows as words: what code makes of the tables and of a row. No entry's contract rests on this file.
+-- Rows as words: what code makes of the tables and of a row. They hold the rows of all tables (`gathered-rows`,
+-- `occurrences/proofs/Gathering`).
 use Prim.Native.Nat.{ℕ, suc, _*_, _/_, _%_, _^_}
 use mathlib.Core.Bool.{Bool, _&&_, cond}
 use mathlib.Core.List.{List, [], _∷_, _++_}
@@ -17,12 +18,12 @@ use Rattle.occurrences.specs.Index.{holdsLiteral}
 abbrev pub tableWords : ℕ → List ℕ → List ℕ
 tableWords rows words = take (2 * rows) words
 
--- those of the left rows, the right and the public ones, one behind the other
+-- those of the left rows, the right and the public ones, one after the other
 abbrev pub allWords : Dimensions → Tables → List ℕ
 allWords d tables = tableWords (d .left) (tables .left)
     ++ (tableWords (d .right) (tables .right) ++ tableWords (d .public) (tables .public))
 
--- the same among 768 words, with zeros behind them; what has no place is left out
+-- the same among 768 words, with zeros after them; what has no place is left out
 unfoldable pub gathered : Dimensions → Tables → List ℕ
 gathered d tables = sets (replicate 768 0) 0 (allWords d tables)
 

@@ -1,6 +1,5 @@
 // For each literal the set of rows that hold it: an index of 384 words, six of 64 rows for each of 64 literals (document 02, "Which rows
-// does a variable
-// touch"). Nothing here is turned back: each public function is total.
+// does a variable touch"). Nothing here is refused: each public function is total.
 use dimensions::Dimensions;
 use words::Row;
 ghost use mathlib.Core.Path.{_≡_};
@@ -28,7 +27,7 @@ fn count(words: &[u32], rows: u8) -> usize
     words.len()
 }
 
-// Stores the words of a table's rows from a place on, as many as there is room for; the place behind them.
+// Stores the words of a table's rows from a place on, as many as there is room for; the place after them.
 fn store(words: &[u32], rows: u8, at: usize, all: &mut [u32]) -> usize
     requires { ⌜ at ≤ 1024 ⌝ }
     ensures { λ r. ⌜ r ≤ at + 510 ⌝ }
@@ -44,7 +43,7 @@ fn store(words: &[u32], rows: u8, at: usize, all: &mut [u32]) -> usize
     at + end
 }
 
-// The words of the left rows, the right and the public ones, one behind the other, and zeros.
+// The words of the left rows, the right and the public ones, one after the other, and zeros.
 pub fn row_words(d: Dimensions, left: &[u32], right: &[u32], public: &[u32]) -> [u32; 768]
     ensures { λ r. ⌜ r ≡ gathered d (lentTables left right public) ⌝ }
 {
@@ -84,10 +83,7 @@ fn add_row(words: &[u32; 768], r: usize, index: &mut [u64; 384])
     requires { ⌜ now index ≡ indexOf (rowsFrom (now words) 0 r) ⌝ }
     ensures { λ _. ⌜ now (index .exit) ≡ indexOf (rowsFrom (now (words .entry)) 0 (r + 1)) ⌝ }
 {
-    let row = Row {
-        positive: words[2 * r],
-        negative: words[2 * r + 1],
-    };
+    let row = tables::row_at(words, r);
     turn_row(index, r, literals(row));
 }
 
@@ -100,7 +96,7 @@ pub fn replace_row(index: &mut [u64; 384], row: usize, old: Row, new: Row)
     }
 }
 
-// Makes the index of so many rows of the words, of 384 at most: three literals a row are three stores.
+// Makes the index of the first `rows` rows of the words, 384 at most: three literals a row are three stores.
 pub fn fill(words: &[u32; 768], rows: usize, index: &mut [u64; 384])
     ensures { λ _. ⌜ now (index .exit) ≡ indexOf (rowsFrom (now (words .entry)) 0 (min rows 384)) ⌝ }
 {

@@ -1,5 +1,7 @@
 -- When a clause follows from rows: its negation is assumed, literals are forced, and a conflict is reached (document 02, "Proofs from other
 -- solvers"). Conflict and forced literal are those of rules 2 and 3 of the giant step. A row's word has 32 bits.
+-- Ask: Have document 02's paragraph on proofs beside you. Is the negation of an added clause assumed, and is a conflict one of rule 2, a
+-- forced literal one of rule 3?
 use Prim.Native.Nat.{ℕ, zero, suc}
 use mathlib.Core.Bool.{Bool, true, false, _||_}
 use mathlib.Core.List.{List}

@@ -16,7 +16,7 @@ struct Propagated {
     f: u32,
 }
 
-// T and F behind a row: its one free literal is made true.
+// T and F after a row: its one free literal is made true.
 fn force_row(row: Row, t: u32, f: u32) -> Propagated
     ensures { λ r. ⌜ r ≡ afterRow row t f ⌝ }
 {
@@ -56,7 +56,7 @@ fn force_row(row: Row, t: u32, f: u32) -> Propagated
     }
 }
 
-// T and F behind rows, each of which is read with the literals that those before it forced; up to the first row in conflict.
+// T and F after rows, each of which is read with the literals that those before it forced; up to the first row in conflict.
 fn force_rows(words: &[u32], count: usize, t: u32, f: u32) -> Propagated
     requires { ⌜ 2 * count ≤ length (now words) ⌝ }
     ensures { λ r. ⌜ r ≡ afterRows (rowsFrom (now (words .entry)) 0 count) t f ⌝ }

@@ -1,4 +1,4 @@
--- No two refusals have one number: a number has the refusal back that it stands for. By computation, refusal by refusal.
+-- No two refusals have one number: from a number its refusal is found again. By computation, refusal by refusal.
 use mathlib.Core.Path.{_≡_, refl, sym, ap, _∙_}
 use mathlib.Core.List.{List, [], _∷_}
 use Prim.Native.Nat.{ℕ, _<_}

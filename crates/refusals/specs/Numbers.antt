@@ -1,5 +1,6 @@
 -- The numbers of documents 01 and 02: what a refusal is called outside; document 01, "Turned back because of the input" and "because of the
 -- state".
+-- Ask: Are these the numbers of documents 01 and 02?
 use Prim.Native.Nat.{ℕ}
 use mathlib.Core.List.{List, [], _∷_}
 use Rattle.refusals.specs.declared.Refusal.{Refusal}

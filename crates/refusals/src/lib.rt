@@ -2,9 +2,9 @@
 ghost use mathlib.Core.Path.{_≡_};
 ghost use Rattle.refusals.specs.Numbers.{numberOf};
 
-// Why a call is turned back: 1 to 11 because of the input, 12 to 14 because of the state, 15 and 16 because of a late condition, 17 because
-// of texts that are not the tables', 18 to 20 because of a proof from another solver, 21 and 22 because of a game's variables, 23 because
-// of a budget too large to be gone through whole, 24 because of planes, 25 to 27 because of a watch page.
+// Why a call is refused: 1 to 11 because of the input, 12 to 14 because of the state, 15 and 16 because of a late condition, 17 because of
+// texts that are not the tables', 18 to 20 because of a proof from another solver, 21 and 22 because of a game's variables, 23 because of a
+// budget too large to be gone through whole, 24 because of planes, 25 to 27 because of a watch page.
 pub enum Refusal {
     // 1: n outside 1 to 32.
     Variables,

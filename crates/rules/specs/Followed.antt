@@ -1,5 +1,5 @@
--- What a rule makes of a run, field by field: how the code goes. That of a well-formed run this is the run of the state after the rule is a
--- law of `solver`.
+-- What a rule makes of a run, field by field: how the code goes. Of a well-formed run it is the run of the state after the rule (`held`,
+-- `solver/proofs/HeldRules`).
 use Prim.Native.Nat.{ℕ, _+_, _-_}
 use mathlib.Core.Bool.{true, false, cond}
 use lib.Dec.{eqb, ltb, leb}
@@ -43,7 +43,7 @@ stored run v = record {
   levels = set (run .levels) (run .depth) (record { t = run .t; f = run .f; chosen = v });
 }
 
--- the run after the rule; the run as it was where the last level is past the 32 that a run holds, or all 32 are used and one more is wanted
+-- the run after the rule; the run as it was where the last level is past the 32 that a run holds, or all 32 are used and one more is needed
 abbrev pub followed : Run → Rule → Run
 followed run AllSatisfied = keeping run Satisfied (run .t) (run .f)
 followed run Conflict =

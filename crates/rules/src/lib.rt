@@ -1,5 +1,4 @@
-// What a rule of the giant step makes of a run (document 01, "Giant step"), by value: one function a rule. Nothing here is turned back:
-// each
+// What a rule of the giant step makes of a run (document 01, "Giant step"), by value: one function a rule. Nothing here is refused: each
 // function is total, and gives back the run as it is where its depth leaves no level to remove or to store. Each has one exit, since a
 // second one makes the compiled code copy the levels once more.
 use scan::Rule;

@@ -1,4 +1,6 @@
 -- The budgeted run's answer, and what each entry gives: document 01, "Giant step" and "Turned back".
+-- Ask: Does the count include the closing step? Names that end in With take the rule that applies as a parameter: is the name without it
+-- that of `rule`?
 use Prim.Native.Nat.{ℕ, zero, suc}
 use mathlib.Core.List.{List, [], _∷_, _++_}
 use Rattle.refusals.specs.Numbers.{numberOf}
@@ -29,7 +31,7 @@ pub record Ran : Type 0 where
   pub steps : ℕ
   pub final : State
 
--- steps through the one that closes the run, at most the budget, each over the rows as they stand when it begins
+-- steps through the one that closes the run, at most the budget, each over the rows as they are when it begins
 unfoldable pub runWith : Ruling → ℕ → (ℕ → List Row) → ℕ → State → Ran
 unfolding stepWith
 runWith ruling n rows zero s = record { steps = 0; final = s }

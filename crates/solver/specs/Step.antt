@@ -1,4 +1,5 @@
 -- The giant step, and what some number of steps gives: document 01, "Giant step".
+-- Ask: What does `follow` change, and what does it leave? Does `step` leave closed states alone?
 use Prim.Native.Nat.{ℕ, zero, suc}
 use mathlib.Core.Bool.{Bool, true, false}
 use mathlib.Core.List.{List, [], _∷_}
@@ -54,7 +55,7 @@ always rows = λ i. rows
 abbrev pub later : (ℕ → List Row) → ℕ → List Row
 later rows = λ i. rows (suc i)
 
--- the state after k steps, each over the rows as they stand when it begins: rows i for the step that i others precede
+-- the state after k steps, each over the rows as they are when it begins: rows i for the step that i others precede
 unfoldable pub afterWith : Ruling → ℕ → (ℕ → List Row) → ℕ → State → State
 unfolding stepWith
 afterWith ruling n rows zero s = s

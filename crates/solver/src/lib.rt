@@ -41,25 +41,28 @@ pub fn check_all(d: Dimensions, left: &[u32], right: &[u32], public: &[u32], run
     ensures { λ r. ⌜ r ≡ outcome (tableChecks d (lentTables left right public) ++ stateChecks d run) ⌝ }
     ensures { λ r. ⌜ codeOf r ∷ [] ≡ said (outcome (tableChecks d (lentTables left right public) ++ stateChecks d run)) [] ⌝ }
 {
-    let checked = tables::accept(d, left, right, public);
-    match checked {
-        Outcome::Refused(refusal) => Outcome::Refused(refusal),
-        Outcome::Taken => state::check_state(d, run),
+    match tables::accept(d, left, right, public) {
+        Outcome::Taken => {}
+        Outcome::Refused(refusal) => return Outcome::Refused(refusal),
     }
+    state::check_state(d, run)
 }
 
-// The run after one giant step; as it was where the call is turned back.
+// The run after one giant step; as it was where the call is refused.
 pub fn step(d: Dimensions, left: &[u32], right: &[u32], public: &[u32], run: Run) -> Stepped
     ensures { λ r. ⌜ r ≡ stepped d (lentTables left right public) run ⌝ }
     ensures { λ r. ⌜ codeOf (r .outcome) ∷ [] ≡ said (outcome (tableChecks d (lentTables left right public) ++ stateChecks d run)) [] ⌝ }
 {
-    let outcome = check_all(d, left, right, public, run);
-    match outcome {
-        Outcome::Taken => Stepped {
-            outcome,
-            run: giant::giant_step(d, left, right, public, run),
+    match check_all(d, left, right, public, run) {
+        Outcome::Taken => {}
+        Outcome::Refused(refusal) => return Stepped {
+            outcome: Outcome::Refused(refusal),
+            run,
         },
-        Outcome::Refused(_) => Stepped { outcome, run },
+    }
+    Stepped {
+        outcome: Outcome::Taken,
+        run: giant::giant_step(d, left, right, public, run),
     }
 }
 
@@ -115,9 +118,9 @@ pub fn solve(d: Dimensions, left: &[u32], right: &[u32], public: &[u32], budget:
         ⌜ solvedCode r ∷ solvedNumbers r ≡ said (outcome (tableChecks d (lentTables left right public)))
         (answerNumbers (answerOf (d .n) (always (rowsOf d (lentTables left right public))) budget)) ⌝ }
 {
-    let checked = tables::accept(d, left, right, public);
-    match checked {
-        Outcome::Refused(refusal) => Solved::Refused(refusal),
-        Outcome::Taken => Solved::Of(run_to_close(d, left, right, public, budget)),
+    match tables::accept(d, left, right, public) {
+        Outcome::Taken => {}
+        Outcome::Refused(refusal) => return Solved::Refused(refusal),
     }
+    Solved::Of(run_to_close(d, left, right, public, budget))
 }

@@ -1,4 +1,5 @@
 -- When a state is well-formed: document 01, "Giant step".
+-- Ask: Is each clause of "well-formed" there, and none more?
 use Prim.Native.Nat.{ℕ, _^_}
 use mathlib.Core.Bool.{Bool, true, not, _&&_}
 use mathlib.Core.List.{List, [], _∷_}

@@ -13,7 +13,7 @@ ghost use Rattle.state.specs.State.{runOf, levelsOf};
 ghost use Rattle.state.specs.WellFormed as WellFormed;
 ghost use Rattle.state.specs.WellFormed.{stateChecks};
 
-// Where a run stands. Satisfied and refuted runs are closed.
+// Whether a run is open or how it ended. Satisfied and refuted runs are closed.
 pub enum Standing {
     Open,
     Satisfied,
@@ -70,7 +70,7 @@ fn sets(n: u32, t: u32, f: u32) -> bool
     t & f == 0
 }
 
-// Whether the level stands well before T and F.
+// Whether the level may come before T and F: its own are among them, and its chosen variable is in T.
 fn precedes(n: u32, level: Level, t: u32, f: u32) -> bool
     ensures { λ r. ⌜ r ≡ WellFormed.precedes n level t f ⌝ }
 {
@@ -125,7 +125,7 @@ fn unused(levels: [Level; 32], depth: usize) -> bool
     true
 }
 
-// Whether the run is a well-formed state of its own n.
+// Whether the run is a well-formed state of its n.
 pub fn well_formed(run: Run) -> bool
     ensures { λ r. ⌜ r ≡ WellFormed.wellFormed run ⌝ }
 {

@@ -19,8 +19,8 @@ pub enum Look {
     None,
 }
 
-// What T and F make of a row: whether it is satisfied, how many of its at most 64 literals are free, the set of its free variables, and
-// the variable to look at.
+// What T and F make of a row: whether it is satisfied, how many of its at most 64 literals are free, the set of its free variables, and the
+// variable to look at.
 pub struct Judged {
     pub satisfied: bool,
     pub literals: u8,

@@ -2,12 +2,12 @@
 use mathlib.Core.Path.{_≡_, refl, sym, ap, ap₂, _∙_, fun-ext}
 use mathlib.Core.Bool.{Bool, true, false, not, _&&_, _||_}
 use mathlib.Core.List.{List}
-use Prim.Native.Nat.{ℕ, _+_, _-_, _*_, _%_, _^_, _≤_, _<_}
+use Prim.Native.Nat.{ℕ, _+_, _-_, _*_, _^_, _≤_, _<_}
 use native.Mathlib.Omega.{arith}
 use lib.Dec.{eqb}
 use lib.Bits.{bitAnd, bitOr, or-lt}
 use lib.ListN.{getD}
-use borrow.Author.Tests.{not-true}
+use borrow.Author.Tests.{not-true, lt-ltb}
 use Rattle.words.specs.declared.Row.{Row}
 use Rattle.words.specs.Sets.{bit, put}
 use Rattle.words.proofs.Truth.{taut3, agree, agree-eq}
@@ -118,13 +118,8 @@ module _ (words : List ℕ) (m : ℕ) (index : List ℕ) (t f v : ℕ) (tally : 
         ∙ gathered-exact words m (o .few) t′ f′ unset unset-bit read (λ s. bitAnd (forcedWord s rows t f) unset) _ _ still
         (ap (λ (x : List ℕ). rowsHolding x (indexOf rows) (place (not sign) v)) still ∙ holding-is rows (not sign) v (o .low) (unmet 32 t′ f′)) none one
 
-  -- as `set_literal` has the variable
-  pub after-setting : (positive : Bool) → tallyAfter words index t f (v % 32) positive tally ≡ tallyOf rows (setT positive t v) (setF positive f v)
+  -- the tally after a free variable is set is that of the run then
+  pub after-setting : (positive : Bool) → tallyAfter words index t f v positive tally ≡ tallyOf rows (setT positive t v) (setF positive f v)
   unfolding tallyAfter
-  after-setting positive =
-      let e : v % 32 ≡ v = omega (arith, o .low) in
-      ap (λ (x : ℕ). tallyAfter words index t f x positive tally) e ∙ by positive
-    where
-      by : (s : Bool) → tallyAfter words index t f v s tally ≡ tallyOf rows (setT s t v) (setF s f v)
-      by true = all-is true
-      by false = all-is false
+  after-setting true = rw (lt-ltb v 32 (o .low)) (all-is true)
+  after-setting false = rw (lt-ltb v 32 (o .low)) (all-is false)

@@ -1,21 +1,20 @@
 -- The law of `survey`: from the rows and their index, exactly their tally at T and F. Row by row.
-use mathlib.Core.Path.{_≡_, refl, sym, ap, _∙_}
+use mathlib.Core.Path.{_≡_, refl, sym, ap, ap₂, _∙_}
 use mathlib.Core.Bool.{Bool, true, false, not, _&&_, _||_, and-false, and-true}
 use mathlib.Core.List.{List}
 use Prim.Native.Nat.{ℕ, _+_, _-_, _*_, _^_, _≤_, _<_}
 use native.Mathlib.Omega.{arith}
 use lib.Dec.{eqb, leb, ltb}
-use lib.Bits.{bitAnd, bitOr}
+use lib.Bits.{bitOr}
 use lib.ListN.{getD}
 use borrow.Author.Tests.{eqb-true, ltb-true, ltb-false, lt-leb}
 use Rattle.words.specs.declared.Row.{Row}
-use Rattle.words.specs.Sets.{bit, any, count, wordOf}
+use Rattle.words.specs.Sets.{bit, any, count}
 use Rattle.words.proofs.Truth.{on, taut4, agree, agree-eq}
 use Rattle.words.proofs.Upto.{count-cong}
 use Rattle.words.proofs.Last.{any-cong}
 use Rattle.words.proofs.Bits.{bit-zero}
-use Rattle.words.proofs.Operations.{and-lt-left}
-use Rattle.words.proofs.WordOf.{bit-wordOf, wordOf-lt}
+use Rattle.words.proofs.WordOf.{wordOf-cong}
 use Rattle.tables.specs.Rows.{rowAt, rowsFrom, satisfied, satisfies, freeIn}
 use Rattle.tables.proofs.Rows.{satisfied-any}
 use Rattle.scan.specs.Rules.{anyRow, unsatisfiedWith}
@@ -25,8 +24,9 @@ use Rattle.occurrences.proofs.IndexLaws.{set-at, positive-at, negative-at}
 use Rattle.tables.proofs.Numbering.{table-length}
 use Rattle.occurrences.proofs.SetLaws.{at-past, at-words, word-bit}
 use Rattle.tally.specs.Tallies.{unmet, forcing, tallyOf}
-use Rattle.tally.specs.Surveys.{metBy, freeBy, seenIn, allSeen, unmetBy, fewBy, surveyed}
-use Rattle.tally.proofs.WordLaws.{word-is, bit-without, six-cong, unset-bit}
+use Rattle.tally.specs.Words.{sixWords}
+use Rattle.tally.specs.RowsSeen.{metBy, freeBy, unmetBy, fewBy, leftIn, surveyed}
+use Rattle.tally.proofs.WordLaws.{six-cong, unset-bit}
 use Rattle.tally.proofs.SettingRows.{freeAre, onlyFree, with-variables}
 use Rattle.tally.proofs.ExactTally.{gathered-exact}
 
@@ -64,45 +64,29 @@ module _ (words : List ℕ) (m t f : ℕ) where
       negative-bit : (v : ℕ) → v < 32 → bit (getD index (6 * (32 + v) + w) 0) j ≡ bit (r .negative) v
       negative-bit v b = ap (λ (x : ℕ). bit x j) (negative-at rows v w b h) ∙ word-bit (holdsLiteral false v) rows w j c ∙ here (holdsLiteral false v)
 
-      met-is : bit (seenIn index t f 32 w .met) j ≡ satisfied 32 r t f
+      met-is : any (metBy index t f w j) 32 ≡ satisfied 32 r t f
       met-is =
-          bit-wordOf (λ j. any (metBy index t f w j) 32) 64 j c
-          ∙ any-cong (metBy index t f w j) (λ v. satisfies r t f v) 32 (λ v b. rw (positive-bit v b, negative-bit v b)) ∙ sym (satisfied-any 32 r t f)
+          any-cong (metBy index t f w j) (λ v. satisfies r t f v) 32 (λ v b. rw (positive-bit v b, negative-bit v b)) ∙ sym (satisfied-any 32 r t f)
 
-      two-is : bit (seenIn index t f 32 w .two) j ≡ leb 2 (count (λ v. freeIn r t f v) 32)
-      two-is =
-          bit-wordOf (λ j. leb 2 (count (freeBy index t f w j) 32)) 64 j c
-          ∙ ap (leb 2) (count-cong (freeBy index t f w j) (λ v. freeIn r t f v) 32 (λ v b. rw (positive-bit v b, negative-bit v b)))
+      two-is : leb 2 (count (freeBy index t f w j) 32) ≡ leb 2 (count (λ v. freeIn r t f v) 32)
+      two-is = ap (leb 2) (count-cong (freeBy index t f w j) (λ v. freeIn r t f v) 32 (λ v b. rw (positive-bit v b, negative-bit v b)))
 
-    unmet-bit : ltb i m && not (bit (seenIn index t f 32 w .met) j) ≡ at (unmet 32 t f) rows i
+    unmet-bit : unmetBy index m t f w j ≡ at (unmet 32 t f) rows i
     unmet-bit = on (ltb i m) (λ e. rw e (ap not (met-is e) ∙ sym (here e (unmet 32 t f)))) (λ e. rw e (sym (past e (unmet 32 t f))))
 
-    few-bit : bit (getD (rowSet (unmet 32 t f) rows) w 0) j && not (bit (seenIn index t f 32 w .two) j) ≡ at few rows i
+    few-bit : fewBy index m t f w j ≡ at few rows i
     few-bit =
-        ap (λ (x : Bool). x && not (bit (seenIn index t f 32 w .two) j))
-        (ap (λ (x : ℕ). bit x j) (set-at rows (unmet 32 t f) w h) ∙ word-bit (unmet 32 t f) rows w j c)
-        ∙ on (ltb i m)
-        (λ e. rw (here e (unmet 32 t f), here e few) (ap (λ (x : Bool). unmet 32 t f r && not x) (two-is e)))
-        (λ e. rw (past e (unmet 32 t f), past e few))
+        on (ltb i m)
+        (λ e. rw e (ap₂ (λ (x y : Bool). not x && not y) (met-is e) (two-is e) ∙ sym (here e few)))
+        (λ e. rw e (sym (past e few)))
 
   -- ---- all rows
 
-  low : (p : ℕ → Bool) → wordOf p 64 < 2 ^ 64
-  low p = wordOf-lt p 64
+  unmet-set : sixWords (λ w. leftIn index m t f w .unsatisfied) ≡ rowSet (unmet 32 t f) rows
+  unmet-set = six-cong (λ w. leftIn index m t f w .unsatisfied) (wordAt (unmet 32 t f) rows) (λ w h. wordOf-cong _ _ 64 (λ j c. unmet-bit w j h c))
 
-  unmet-set : unmetBy m (allSeen index t f 32) ≡ rowSet (unmet 32 t f) rows
-  unmet-set =
-      six-cong (λ w. bitAnd (wordOf (λ j. ltb (64 * w + j) m) 64) (18446744073709551615 - seenIn index t f 32 w .met)) (wordAt (unmet 32 t f) rows)
-      (λ w h. word-is _ _ (and-lt-left 64 _ _ (low _))
-      (λ j c. bit-without _ _ j (low _) c
-      ∙ ap (λ (x : Bool). x && not (bit (seenIn index t f 32 w .met) j)) (bit-wordOf (λ j. ltb (64 * w + j) m) 64 j c) ∙ unmet-bit w j h c))
-
-  few-set : fewBy (rowSet (unmet 32 t f) rows) (allSeen index t f 32) ≡ rowSet few rows
-  few-set =
-      six-cong (λ w. bitAnd (getD (rowSet (unmet 32 t f) rows) w 0) (18446744073709551615 - seenIn index t f 32 w .two)) (wordAt few rows)
-      (λ w h. word-is _ _
-      (and-lt-left 64 (getD (rowSet (unmet 32 t f) rows) w 0) _ (rw (set-at rows (unmet 32 t f) w h) (low (λ j. at (unmet 32 t f) rows (64 * w + j)))))
-      (λ j c. bit-without _ _ j (low _) c ∙ few-bit w j h c))
+  few-set : sixWords (λ w. leftIn index m t f w .few) ≡ rowSet few rows
+  few-set = six-cong (λ w. leftIn index m t f w .few) (wordAt few rows) (λ w h. wordOf-cong _ _ 64 (λ j c. few-bit w j h c))
 
   -- none or one is at most one
   few-are : (k : ℕ) → k < 2 → (r : Row) → few r && freeAre k 32 t f r ≡ unsatisfiedWith k 32 t f r
@@ -130,5 +114,5 @@ unfolding surveyed
 after-survey words m index t f less e ht hf =
     ap (λ (x : List ℕ). surveyed words x m t f) e
     ∙ gathered-exact words m less t f (4294967295 - bitOr t f) (unset-bit t f ht hf) (few words m t f) (λ s. 0) _ _ (unmet-set words m t f)
-    (ap (λ (x : List ℕ). fewBy x (allSeen (indexOf (rowsFrom words 0 m)) t f 32)) (unmet-set words m t f) ∙ few-set words m t f)
+    (few-set words m t f)
     (any-row-cong _ _ (rowsFrom words 0 m) (λ r i. few-are words m t f 0 (omega arith) r)) (one words m t f)

@@ -2,12 +2,11 @@
 use mathlib.Core.Path.{_≡_, ap, ap₂, _∙_}
 use mathlib.Core.Bool.{Bool, true, false, _&&_, _||_, cond}
 use mathlib.Core.List.{List}
-use Prim.Native.Nat.{ℕ, zero, suc, _+_, _-_, _*_, _%_}
-use native.Mathlib.Omega.{arith}
+use Prim.Native.Nat.{ℕ, zero, suc, _+_, _-_, _*_, _≤_, _<_}
 use lib.Dec.{ltb}
 use lib.Bits.{bitAnd, bitOr}
 use lib.ListN.{getD}
-use borrow.Author.Tests.{lt-ltb}
+use borrow.Author.Tests.{lt-ltb, le-ltb}
 use Rattle.words.specs.Sets.{bit, put, any, count, wordOf}
 use Rattle.words.proofs.WordOf.{bit-wordOf, wordOf-cong}
 use Rattle.tally.specs.declared.Tally.{Tally}
@@ -83,14 +82,19 @@ after-is words index own other unset tally still look r e q h =
     h ∙ ap₂ (gathered words unset (bitAnd (tally .positive) unset) (bitAnd (tally .negative) unset)) e (q ∙ ap (λ (x : List ℕ). rowsHolding x index other) e)
 
 -- by the literal's sign
-module _ (words index : List ℕ) (t f v : ℕ) (tally : Tally) (sign : Bool) (x : ℕ) (e : x ≡ cond (ltb (v % 32) 32) (put (bitOr t f) (v % 32)) (bitOr t f)) where
-  put-is : x ≡ put (bitOr t f) (v % 32)
-  put-is = e ∙ rw (lt-ltb (v % 32) 32 (omega arith))
-
-  pub sign-true : sign ≡ true → allAfter words index (v % 32) (32 + v % 32) (4294967295 - x) tally ≡ tallyAfter words index t f (v % 32) sign tally
+module _ (words index : List ℕ) (t f v : ℕ) (tally : Tally) (sign : Bool) where
+  pub no-variable : 32 ≤ v → tally ≡ tallyAfter words index t f v sign tally
   unfolding tallyAfter
-  sign-true q = ap (λ (y : ℕ). allAfter words index (v % 32) (32 + v % 32) (4294967295 - y) tally) put-is ∙ rw q
+  no-variable h = rw (le-ltb v 32 h)
 
-  pub sign-false : sign ≡ false → allAfter words index (32 + v % 32) (v % 32) (4294967295 - x) tally ≡ tallyAfter words index t f (v % 32) sign tally
-  unfolding tallyAfter
-  sign-false q = ap (λ (y : ℕ). allAfter words index (32 + v % 32) (v % 32) (4294967295 - y) tally) put-is ∙ rw q
+  module _ (low : v < 32) (x : ℕ) (e : x ≡ cond (ltb v 32) (put (bitOr t f) v) (bitOr t f)) where
+    put-is : x ≡ put (bitOr t f) v
+    put-is = e ∙ rw (lt-ltb v 32 low)
+
+    pub sign-true : sign ≡ true → allAfter words index v (32 + v) (4294967295 - x) tally ≡ tallyAfter words index t f v sign tally
+    unfolding tallyAfter
+    sign-true q = ap (λ (y : ℕ). allAfter words index v (32 + v) (4294967295 - y) tally) put-is ∙ rw (lt-ltb v 32 low, q)
+
+    pub sign-false : sign ≡ false → allAfter words index (32 + v) v (4294967295 - x) tally ≡ tallyAfter words index t f v sign tally
+    unfolding tallyAfter
+    sign-false q = ap (λ (y : ℕ). allAfter words index (32 + v) v (4294967295 - y) tally) put-is ∙ rw (lt-ltb v 32 low, q)

@@ -1,4 +1,4 @@
 pub mod Tallies
 pub mod Words
-pub mod Surveys
+pub mod RowsSeen
 pub mod Ruling

@@ -1,4 +1,5 @@
 -- What is kept beside a run: document 02, "Which rows does a variable touch".
+-- Ask: Is the number that of the unsatisfied rows, whatever the run's standing?
 use Prim.Native.Nat.{ℕ, _+_}
 use mathlib.Core.Bool.{Bool, true, false, not, _&&_}
 use mathlib.Core.List.{List, [], _∷_}

@@ -1,8 +1,9 @@
--- Sets of rows as words of 64, and what code makes of them. No entry's contract rests on this file.
+-- Sets of rows as words of 64, and what code makes of them. They are the sets after a variable is set (`after-setting`,
+-- `tally/proofs/AfterSetting`).
 use Prim.Native.Nat.{ℕ, _+_, _-_, _*_}
 use mathlib.Core.Bool.{Bool, true, false, _&&_, _||_, cond}
 use mathlib.Core.List.{List, [], _∷_}
-use lib.Dec.{eqb}
+use lib.Dec.{eqb, ltb}
 use lib.Bits.{bitAnd, bitOr}
 use lib.ListN.{getD}
 use Rattle.words.specs.Sets.{bit, put, any, count, wordOf}
@@ -109,9 +110,9 @@ allAfter words index own other unset tally =
     let still = rowsWithout (tally .unsatisfied) index own in
     gathered words unset (bitAnd (tally .positive) unset) (bitAnd (tally .negative) unset) still (rowsHolding still index other)
 
--- T and F as they were before
+-- T and F as they were before; no variable is 32 or more, and with such a v the tally stays as it is
 unfoldable pub tallyAfter : List ℕ → List ℕ → ℕ → ℕ → ℕ → Bool → Tally → Tally
 unfolding allAfter
 tallyAfter words index t f v positive tally =
     let unset = 4294967295 - put (bitOr t f) v in
-    cond positive (allAfter words index v (32 + v) unset tally) (allAfter words index (32 + v) v unset tally)
+    cond (ltb v 32) (cond positive (allAfter words index v (32 + v) unset tally) (allAfter words index (32 + v) v unset tally)) tally

@@ -7,9 +7,8 @@ mod surveying;
 
 use scan::Rule;
 ghost use mathlib.Core.Path.{_≡_};
-ghost use Prim.Native.Nat.{_%_};
 ghost use Rattle.tally.specs.Words.{tallyAfter};
-ghost use Rattle.tally.specs.Surveys.{surveyed};
+ghost use Rattle.tally.specs.RowsSeen.{surveyed};
 ghost use Rattle.tally.specs.Ruling.{ruleBy, tallyBy};
 
 // How many rows are unsatisfied, whether one of them has no free literal, the set of them, and the variables of the forced literals,
@@ -23,7 +22,7 @@ pub struct Tally {
 }
 
 // The tally after a free variable is set, from T and F as they were: only the variable's own rows are read. `words` are the rows, two words
-// each.
+// each. No variable is 32 or more: with such a v the tally stays as it is.
 pub fn set_literal(
     words: &[u32; 768],
     index: &[u64; 384],
@@ -33,24 +32,38 @@ pub fn set_literal(
     positive: bool,
     tally: Tally,
 ) -> Tally
-    ensures { λ r. ⌜ r ≡ tallyAfter (now (words .entry)) (now (index .entry)) t f (v % 32) positive tally ⌝ }
+    ensures { λ r. ⌜ r ≡ tallyAfter (now (words .entry)) (now (index .entry)) t f v positive tally ⌝ }
 {
-    let variable = v % 32;
-    let unset = !words::put(t | f, variable);
-    let i = variable as usize;
+    if 32 <= v {
+        return tally;
+    }
+    let unset = !words::put(t | f, v);
+    let i = v as usize;
     if positive {
         return setting::after(words, index, i, 32 + i, unset, tally);
     }
     setting::after(words, index, 32 + i, i, unset, tally)
 }
 
-// The tally of a number of rows at T and F: the sets from the index alone, and then only the rows with at most one free literal are read.
+// The tally of a number of rows at T and F: the sets from the index alone, and then only the rows with at most one free variable are read.
 pub fn survey(words: &[u32; 768], index: &[u64; 384], rows: usize, t: u32, f: u32) -> Tally
     ensures { λ r. ⌜ r ≡ surveyed (now (words .entry)) (now (index .entry)) rows t f ⌝ }
 {
-    let seen = surveying::look(index, t, f);
-    let unsatisfied = surveying::unsatisfied(rows, seen);
-    let few = surveying::few(unsatisfied, seen);
+    let w0 = surveying::rows_left(index, rows, 0, t, f);
+    let w1 = surveying::rows_left(index, rows, 1, t, f);
+    let w2 = surveying::rows_left(index, rows, 2, t, f);
+    let w3 = surveying::rows_left(index, rows, 3, t, f);
+    let w4 = surveying::rows_left(index, rows, 4, t, f);
+    let w5 = surveying::rows_left(index, rows, 5, t, f);
+    let unsatisfied = [
+        w0.unsatisfied,
+        w1.unsatisfied,
+        w2.unsatisfied,
+        w3.unsatisfied,
+        w4.unsatisfied,
+        w5.unsatisfied,
+    ];
+    let few = [w0.few, w1.few, w2.few, w3.few, w4.few, w5.few];
     rows::gather(words, !(t | f), 0, 0, unsatisfied, few)
 }
 

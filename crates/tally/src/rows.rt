@@ -1,4 +1,4 @@
-// Sets of rows as six words, bit j of word w standing for row 64 w + j, and what their rows show.
+// Sets of rows as six words, bit j of word w for row 64 w + j, and what their rows show.
 use crate::Tally;
 ghost use mathlib.Core.Path.{_≡_};
 ghost use Prim.Native.Nat.{_≤_};

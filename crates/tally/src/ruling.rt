@@ -5,7 +5,7 @@ ghost use Prim.Native.Nat.{_<_};
 ghost use Rattle.words.specs.Sets as Sets;
 ghost use Rattle.tally.specs.Ruling.{touches, standsIn, chosenBy};
 
-// Whether variable v stands in a row of this part of a set, rows 64 w to 64 w + 63.
+// Whether variable v occurs in a row of this part of a set, rows 64 w to 64 w + 63.
 fn touched(index: &[u64; 384], v: usize, w: usize, part: u64) -> bool
     requires { ⌜ (v < 32) × (w < 6) ⌝ }
     ensures { λ r. ⌜ r ≡ touches (now (index .entry)) v w part ⌝ }
@@ -13,7 +13,7 @@ fn touched(index: &[u64; 384], v: usize, w: usize, part: u64) -> bool
     part & (index[6 * v + w] | index[6 * (32 + v) + w]) != 0
 }
 
-// Whether the variable stands in a row of the set.
+// Whether the variable occurs in a row of the set.
 fn stands_in(index: &[u64; 384], v: usize, set: [u64; 6]) -> bool
     requires { ⌜ v < 32 ⌝ }
     ensures { λ r. ⌜ r ≡ standsIn (now (index .entry)) v set ⌝ }
@@ -26,7 +26,7 @@ fn stands_in(index: &[u64; 384], v: usize, set: [u64; 6]) -> bool
         | touched(index, v, 5, set[5])
 }
 
-// Whether variable v is one of these and stands in a row of the set.
+// Whether variable v is one of these and occurs in a row of the set.
 fn passes(index: &[u64; 384], unset: u32, v: u32, set: [u64; 6]) -> bool
     requires { ⌜ v < 32 ⌝ }
     ensures { λ r. ⌜ r ≡ Sets.bit unset v && standsIn (now (index .entry)) v set ⌝ }
@@ -37,7 +37,7 @@ fn passes(index: &[u64; 384], unset: u32, v: u32, set: [u64; 6]) -> bool
     false
 }
 
-// Rule 4: the lowest of the free variables that stands in a row of the set; 32 if none does.
+// Rule 4: the lowest of the free variables that occurs in a row of the set; 32 if none does.
 pub(crate) fn chosen(index: &[u64; 384], unset: u32, set: [u64; 6]) -> u32
     ensures { λ r. ⌜ r ≡ chosenBy (now (index .entry)) unset set ⌝ }
 {

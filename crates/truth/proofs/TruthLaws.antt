@@ -1,4 +1,4 @@
--- Rows whose words are below 2 ^ n are true by a variable below n, if at all: no other stands in them.
+-- Rows whose words are below 2 ^ n are true by a variable below n, if at all: no other occurs in them.
 use mathlib.Core.Path.{_≡_}
 use mathlib.Core.Bool.{Bool, true, not, _&&_, _||_}
 use mathlib.Core.List.{List}

@@ -1,4 +1,5 @@
 -- When an assignment makes rows true, and which variables occur: what demand 2 speaks of.
+-- Ask: Is truth over all assignments, without a word of runs?
 use Prim.Native.Nat.{ℕ}
 use mathlib.Core.Bool.{Bool, not, _&&_, _||_}
 use mathlib.Core.List.{List}

@@ -1,4 +1,4 @@
--- Weights, choices and runs, computed: four rows of two literals in which variable 2 stands four times, so that it is chosen before variable 1 and the run
+-- Weights, choices and runs, computed: four rows of two literals in which variable 2 occurs four times, so that it is chosen before variable 1 and the run
 -- takes five steps instead of seven; ties; rows that add nothing; floats by their bits.
 use mathlib.Core.Path.{_≡_, refl}
 use mathlib.Core.Bool.{true}

@@ -38,7 +38,7 @@ use Rattle.tally.specs.Tallies.{tallyOf}
 use Rattle.tally.specs.Ruling.{ruleBy, tallyBy}
 use Rattle.tally.proofs.AfterSetting.{after-setting}
 use Rattle.indexed.specs.declared.Continued.{Continued}
-use Rattle.indexed.specs.Held.{Indexed}
+use Rattle.indexed.specs.Tallied.{Indexed}
 use Rattle.indexed.specs.Continuing.{continuedBy}
 use Rattle.indexed.proofs.RuleTests.{choice-calm}
 use Rattle.indexed.proofs.TallyAfter.{wide, ready, rule-read, tally-is}

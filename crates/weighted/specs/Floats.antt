@@ -1,4 +1,4 @@
--- Weights as 64-bit floats, each exactly a whole number over 2 ^ 32; only the crate's own functions cite this.
+-- Weights as 64-bit floats, each exactly a whole number over 2 ^ 32.
 use Prim.Native.Nat.{ℕ, zero, suc, _+_, _-_, _^_, _<_}
 use mathlib.Core.Path.{_≡_}
 use mathlib.Core.Bool.{false, cond}

@@ -12,7 +12,7 @@ use Rattle.solver.specs.Entries.{answerWith, answerOf}
 use Rattle.demand2.specs.Demand2.{Demand2With}
 use Rattle.weighted.specs.Weights.{weightedRule}
 
--- the answer of the weighted run over the rows as they stand at each step
+-- the answer of the weighted run over the rows as they are at each step
 abbrev pub weightedAnswer : ℕ → (ℕ → List Row) → ℕ → Answer
 weightedAnswer n rows budget = answerWith weightedRule n rows budget
 

@@ -1,5 +1,6 @@
--- The two-sided Jeroslow-Wang choice, and the giant step's rule with it: document 02, Req 10. A weight is a whole number, how many times
--- 2 ^ -32 it is: an unsatisfied row is no padding, so it has at most n, that is 32, free literals.
+-- The two-sided Jeroslow-Wang choice, and the giant step's rule with it: document 02, Req 10. A weight is a whole number, how many times 2
+-- ^ -32 it is: an unsatisfied row is no padding, so it has at most n, that is 32, free literals.
+-- Ask: Which rows add to a variable, and how much? Who wins among equals? Do rules 1 to 3 stay as they are?
 use Prim.Native.Nat.{ℕ, zero, suc, _+_, _-_, _^_}
 use mathlib.Core.Bool.{Bool, not, _&&_, cond}
 use mathlib.Core.List.{List, [], _∷_}

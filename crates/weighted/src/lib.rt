@@ -1,6 +1,6 @@
 // The giant step and the budgeted run with the two-sided Jeroslow-Wang choice in the place of rule 4's (document 02, "Weighing the short
 // rows"): other steps, the same verdicts.
-mod beside;
+mod tallied;
 mod weights;
 
 use dimensions::Dimensions;
@@ -53,7 +53,7 @@ fn advance(d: Dimensions, left: &[u32], right: &[u32], public: &[u32], run: Run)
     rules::follow(run, rule)
 }
 
-// The run after one step with the weighted choice; as it was where the call is turned back: 1, 2, 4, 3, 12, 13.
+// The run after one step with the weighted choice; as it was where the call is refused: 1, 2, 4, 3, 12, 13.
 pub fn step_weighted(
     d: Dimensions,
     left: &[u32],
@@ -64,18 +64,20 @@ pub fn step_weighted(
     ensures { λ r. ⌜ r ≡ steppedWith weightedRule d (lentTables left right public) run ⌝ }
     ensures { λ r. ⌜ codeOf (r .outcome) ∷ [] ≡ said (outcome (tableChecks d (lentTables left right public) ++ stateChecks d run)) [] ⌝ }
 {
-    let outcome = solver::check_all(d, left, right, public, run);
-    match outcome {
+    match solver::check_all(d, left, right, public, run) {
         Outcome::Taken => {}
-        Outcome::Refused(_) => return Stepped { outcome, run },
+        Outcome::Refused(refusal) => return Stepped {
+            outcome: Outcome::Refused(refusal),
+            run,
+        },
     }
     Stepped {
-        outcome,
+        outcome: Outcome::Taken,
         run: advance(d, left, right, public, run),
     }
 }
 
-// The run after weighted steps over accepted tables, through the one that closes it and at most so many: their index is made once.
+// The run after weighted steps over accepted tables, through the one that closes it and at most a given number: their index is made once.
 fn run_accepted(
     d: Dimensions,
     left: &[u32],
@@ -93,11 +95,11 @@ fn run_accepted(
     let words = occurrences::row_words(d, left, right, public);
     let mut index = [0u64; 384];
     occurrences::fill(&words, d.rows(), &mut index);
-    beside::run_to_close(&words, d.rows(), &index, times, run)
+    tallied::run_to_close(&words, d.rows(), &index, times, run)
 }
 
-// The run after weighted steps through the one that closes it, at most so many, how many they were, and whether it is closed then; as it
-// was where the call is turned back: 1, 2, 4, 3, 12, 13.
+// The run after weighted steps through the one that closes it, at most a given number, how many they were, and whether it is closed then;
+// as it was where the call is refused: 1, 2, 4, 3, 12, 13.
 pub fn continue_weighted(
     d: Dimensions,
     left: &[u32],
@@ -111,16 +113,16 @@ pub fn continue_weighted(
         ⌜ continuedCode r ∷ continuedNumbers r ≡ said (outcome (tableChecks d (lentTables left right public) ++ stateChecks d run))
         (ranNumbers (runWith weightedRule (d .n) (always (rowsOf d (lentTables left right public))) times (stateOf run))) ⌝ }
 {
-    let outcome = solver::check_all(d, left, right, public, run);
-    match outcome {
-        Outcome::Taken => run_accepted(d, left, right, public, times, run),
-        Outcome::Refused(_) => Continued {
-            outcome,
+    match solver::check_all(d, left, right, public, run) {
+        Outcome::Taken => {}
+        Outcome::Refused(refusal) => return Continued {
+            outcome: Outcome::Refused(refusal),
             run,
             steps: 0,
             closed: false,
         },
     }
+    run_accepted(d, left, right, public, times, run)
 }
 
 // The answer of a fresh run over accepted tables.
@@ -149,9 +151,9 @@ pub fn solve_weighted(
         ⌜ solvedCode r ∷ solvedNumbers r ≡ said (outcome (tableChecks d (lentTables left right public)))
         (answerNumbers (answerWith weightedRule (d .n) (always (rowsOf d (lentTables left right public))) budget)) ⌝ }
 {
-    let checked = tables::accept(d, left, right, public);
-    match checked {
-        Outcome::Refused(refusal) => Solved::Refused(refusal),
-        Outcome::Taken => Solved::Of(run_fresh(d, left, right, public, budget)),
+    match tables::accept(d, left, right, public) {
+        Outcome::Taken => {}
+        Outcome::Refused(refusal) => return Solved::Refused(refusal),
     }
+    Solved::Of(run_fresh(d, left, right, public, budget))
 }

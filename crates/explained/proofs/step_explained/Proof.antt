@@ -20,6 +20,15 @@ step-requires c κs = search needs
 enum-told : tie.Need-enum-told
 enum-told c = search needs
 
+enum-known-outcome : tie.Need-enum-known-outcome
+enum-known-outcome c = search needs
+
+returns : tie.Need-returns
+returns c =
+    let stepped = c .before .before .before .before in
+    let s = start stepped in
+    explained-refused (s .args .d) (tables s) (s .args .run) (stepped .step .result) (stepped .step .ensures .0) _ (c .before .outcome .given .1)
+
 explain-requires : tie.Need-explain-requires
 explain-requires c κs =
     let stepped = c .before .before .before in
@@ -28,23 +37,13 @@ explain-requires c κs =
     (stepped .step .ensures .0)) (c .enum-told .given .1) in
     (p .taken, p .formed)
 
-enum-told-2 : tie.Need-enum-told-2
-enum-told-2 c = search needs
-
-returns : tie.Need-returns
-returns c =
+returns-2 : tie.Need-returns-2
+returns-2 c =
     let stepped = c .before .before .before .before in
     let s = start stepped in
     explained-taken (s .args .d) (tables s) (s .args .run) (stepped .step .result) (stepped .step .ensures .0) (c .before .enum-told .given .1)
     (c .explain .result) (c .explain .ensures)
 
-returns-2 : tie.Need-returns-2
-returns-2 c =
-    let stepped = c .before .before .before in
-    let s = start stepped in
-    explained-refused (s .args .d) (tables s) (s .args .run) (stepped .step .result) (stepped .step .ensures .0)
-    (c .enum-told2 .given .0 .0) (c .enum-told2 .given .1)
-
 pub step-explained-spec : {M : Type 1} → statement M
 step-explained-spec =
-    tie.close (tie.spec step-requires enum-told explain-requires enum-told-2 returns returns-2)
+    tie.close (tie.spec step-requires enum-told enum-known-outcome returns explain-requires returns-2)

@@ -1,4 +1,4 @@
--- `count_free` meets its contract: the checks decide, and then the counts of the left rows, the right and the public ones are stored one behind the other.
+-- `count_free` meets its contract: the checks decide, and then the counts of the left rows, the right and the public ones are stored one after the other.
 use mathlib.Core.Path.{_≡_, sym, _∙_}
 use Prim.Native.Nat.{_≤_}
 use native.Mathlib.Omega.{arith}
@@ -22,7 +22,7 @@ tables s = allTables (s .args .left .now) (s .args .right .now) (s .args .public
 
 -- ---- the places of the code, each from the one behind it
 
-abbrev start : tie.After-check → tie.Start
+abbrev start : tie.After-check-counts → tie.Start
 start c = c .before .before .before .before .before
 
 abbrev told : tie.After-count-rows → tie.After-enum-told
@@ -39,13 +39,13 @@ started c = start (c .before .before)
 
 -- the checks that are passed where rows are counted, and what they give
 passes : (c : tie.After-enum-told) → let s = started c in outcome (countChecks (s .args .d) (tables s) (s .args .run) (length (s .args .counts .now))) ≡ Taken
-passes c = sym (c .before .before .check .ensures) ∙ c .enum-told .given .1
+passes c = sym (c .before .before .check-counts .ensures) ∙ c .enum-told .given .1
 
 allowed : (c : tie.After-enum-told) → let s = started c in Accepted (s .args .d) (tables s) × (rowCount (s .args .d) ≤ length (s .args .counts .now))
 allowed c = let s = started c in passed (s .args .d) (tables s) (s .args .run) (length (s .args .counts .now)) (passes c)
 
-check-requires : tie.Need-check-requires
-check-requires c κs = search needs
+check-counts-requires : tie.Need-check-counts-requires
+check-counts-requires c κs = search needs
 
 enum-told : tie.Need-enum-told
 enum-told c = search needs
@@ -57,7 +57,7 @@ returns : tie.Need-returns
 returns c =
     let at-check = c .before .before .before in
     let s = start at-check in
-    let e = sym (at-check .check .ensures) ∙ c .before .refusal .given .1 in
+    let e = sym (at-check .check-counts .ensures) ∙ c .before .refusal .given .1 in
     also-said (sym e, count-refused (s .args .d) (tables s) (s .args .run) (s .args .counts .now) _ e)
 
 cast-count-rows : tie.Need-cast-count-rows
@@ -66,7 +66,7 @@ cast-count-rows c = search needs
 count-rows-requires : tie.Need-count-rows-requires
 count-rows-requires c κs =
     let g = allowed (c .before .before) in
-    (g .0 .left-length, omega (arith, g .1))
+    omega (arith, g .1)
 
 cast-count-rows-2 : tie.Need-cast-count-rows-2
 cast-count-rows-2 c = search needs
@@ -78,7 +78,7 @@ count-rows-requires-2 c κs =
     let g = allowed (told left) in
     let p = left .count-rows in
     let k : length (p .last .1 .1 .1 .1 .0) ≡ length (s .args .counts .now) = p .kept .1 .1 .1 .1 .0 in
-    (g .0 .right-length, omega (arith, p .ensures .0, g .1))
+    omega (arith, p .ensures .0, g .1)
 
 cast-count-rows-3 : tie.Need-cast-count-rows-3
 cast-count-rows-3 c = search needs
@@ -93,7 +93,7 @@ count-rows-requires-3 c κs =
     let q = right .count-rows2 in
     let k : length (p .last .1 .1 .1 .1 .0) ≡ length (s .args .counts .now) = p .kept .1 .1 .1 .1 .0 in
     let l : length (q .last .1 .1 .1 .1 .0) ≡ length (p .last .1 .1 .1 .1 .0) = q .kept .1 .1 .1 .1 .0 in
-    (g .0 .public-length, omega (arith, p .ensures .0, q .ensures .0, g .1))
+    omega (arith, p .ensures .0, q .ensures .0, g .1)
 
 same-length : tie.Need-same-length
 same-length c = search needs
@@ -115,7 +115,7 @@ pub count-free-spec : {M : Type 1} → statement M
 count-free-spec =
     tie.close
     (tie.spec
-    check-requires
+    check-counts-requires
     enum-told
     enum-known-refusal
     returns

@@ -1,8 +1,10 @@
 -- `count_rows` meets its contract. The loop's invariant: the rows that are left give what all give. The measure is how many those are.
-use mathlib.Core.Path.{refl, ap}
+use mathlib.Core.Path.{refl, ap, _∙_}
 use Prim.Native.Nat.{_-_}
 use borrow.Author.Needs.{needs}
+use Rattle.words.specs.declared.Row.{Row}
 use Rattle.tables.specs.declared.Judged.{Judged}
+use Rattle.tables.specs.Rows.{freeLiterals}
 use Rattle.free_counts.proofs.Counting.{Counted, counted-none, counted-more, counted-all}
 use Rattle.free_counts.proofs.count_rows.Statement.{statement}
 use Rattle.free_counts.proofs.count_rows.Tie as tie
@@ -16,26 +18,8 @@ abbrev μ-loop : tie.MeasureT-loop
 loop-holds : tie.Need-loop-holds Inv-loop μ-loop
 loop-holds c = counted-none _ _ _ _ _ _
 
-mul-t11 : tie.Need-mul-t11 Inv-loop μ-loop
-mul-t11 c = search needs
-
-mul-t12 : tie.Need-mul-t12 Inv-loop μ-loop
-mul-t12 c = search needs
-
-shared-slice-read-t14 : tie.Need-shared-slice-read-t14 Inv-loop μ-loop
-shared-slice-read-t14 c = search needs
-
-mul-t15 : tie.Need-mul-t15 Inv-loop μ-loop
-mul-t15 c = search needs
-
-add-t16 : tie.Need-add-t16 Inv-loop μ-loop
-add-t16 c = search needs
-
-mul-t17 : tie.Need-mul-t17 Inv-loop μ-loop
-mul-t17 c = search needs
-
-shared-slice-read-t19 : tie.Need-shared-slice-read-t19 Inv-loop μ-loop
-shared-slice-read-t19 c = search needs
+row-at-requires : tie.Need-row-at-requires Inv-loop μ-loop
+row-at-requires c κs = search needs
 
 judge-requires : tie.Need-judge-requires Inv-loop μ-loop
 judge-requires c κs = search needs
@@ -54,8 +38,12 @@ loop-less c = search needs
 
 loop-again : tie.Need-loop-again Inv-loop μ-loop
 loop-again c =
-    let at-loop = c .before .before .before .before in
-    counted-more _ _ _ _ _ _ _ _ (at-loop .loop .inv) (c .before .before .before .loop-test .taken) _ (ap (λ (j : Judged). j .literals) (c .judge .ensures))
+    let at-row = c .before in
+    let at-test = at-row .before in
+    let at-loop = at-test .before in
+    let s = at-loop .before .before .before in
+    counted-more _ _ _ _ _ _ _ _ (at-loop .loop .inv) (at-test .loop-test .taken) _
+    (ap (λ (j : Judged). j .literals) (c .judge .ensures) ∙ ap (λ (r : Row). freeLiterals 32 r (s .args .t) (s .args .f)) (at-row .row-at .ensures))
 
 add-result : tie.Need-add-result Inv-loop μ-loop
 add-result c = search needs
@@ -73,13 +61,7 @@ count-rows-spec =
     Inv-loop
     μ-loop
     loop-holds
-    mul-t11
-    mul-t12
-    shared-slice-read-t14
-    mul-t15
-    add-t16
-    mul-t17
-    shared-slice-read-t19
+    row-at-requires
     judge-requires
     add-counts
     slice-write-counts

@@ -28,21 +28,21 @@ then s = indexedChecks (s .args .d .n) (rowsOf (s .args .d) (tables s)) (s .args
 accept-requires : tie.Need-accept-requires
 accept-requires c κs = search needs
 
-enum-known-checked : tie.Need-enum-known-checked
-enum-known-checked c = search needs
-
 enum-told : tie.Need-enum-told
 enum-told c = search needs
 
-check-accepted-requires : tie.Need-check-accepted-requires
-check-accepted-requires c κs = sym (c .before .before .accept .ensures .0) ∙ c .enum-told .given .1
+enum-known-refusal : tie.Need-enum-known-refusal
+enum-known-refusal c = search needs
 
 returns : tie.Need-returns
 returns c =
     let at-accept = c .before .before .before in
     let s = start at-accept in
     outcome-said
-    (sym (outcome-refused (firstly s) (then s) (c .before .checked .given .0 .0) (sym (at-accept .accept .ensures .0) ∙ c .before .checked .given .1)))
+    (sym (outcome-refused (firstly s) (then s) (c .before .refusal .given .0 .0) (sym (at-accept .accept .ensures .0) ∙ c .before .refusal .given .1)))
+
+check-accepted-requires : tie.Need-check-accepted-requires
+check-accepted-requires c κs = sym (c .before .before .accept .ensures .0) ∙ c .enum-told .given .1
 
 returns-2 : tie.Need-returns-2
 returns-2 c =
@@ -54,4 +54,4 @@ returns-2 c =
 pub check-indexed-spec : {M : Type 1} → statement M
 check-indexed-spec =
     tie.close
-    (tie.spec accept-requires enum-known-checked enum-told check-accepted-requires returns returns-2)
+    (tie.spec accept-requires enum-told enum-known-refusal returns check-accepted-requires returns-2)

@@ -1,4 +1,5 @@
 -- `continue_indexed` meets its contract: the outcome of the checks decides, and a run that passes them goes on by the index.
+use mathlib.Core.Path.{refl, sym, _∙_}
 use Rattle.tables.specs.Tables.{Tables, allTables}
 use Rattle.solver.proofs.Entries.{passed}
 use Rattle.indexed.proofs.Continuing.{continue-taken, continue-refused}
@@ -24,6 +25,16 @@ check-all-requires c κs = search needs
 enum-told : tie.Need-enum-told
 enum-told c = search needs
 
+enum-known-refusal : tie.Need-enum-known-refusal
+enum-known-refusal c = search needs
+
+returns : tie.Need-returns
+returns c =
+    let checked = c .before .before .before in
+    let s = start checked in
+    continue-refused (s .args .d) (tables s) (s .args .times) (s .args .run) _ (sym (c .before .refusal .given .1) ∙ checked .check-all .ensures .0)
+    (c .before .refusal .given .0 .0) refl
+
 run-accepted-requires : tie.Need-run-accepted-requires
 run-accepted-requires c κs =
     let checked = judged c in
@@ -34,24 +45,14 @@ run-accepted-requires c κs =
 closed-requires : tie.Need-closed-requires
 closed-requires c κs = search needs
 
-enum-told-2 : tie.Need-enum-told-2
-enum-told-2 c = search needs
-
-returns : tie.Need-returns
-returns c =
+returns-2 : tie.Need-returns-2
+returns-2 c =
     let ran = c .before .before in
     let told = ran .before in
     let checked = judged told in
     let s = start checked in
-    continue-taken (s .args .d) (tables s) (s .args .times) (s .args .run) _ (checked .check-all .ensures .0) (told .enum-told .given .1)
+    continue-taken (s .args .d) (tables s) (s .args .times) (s .args .run) _ (sym (told .enum-told .given .1) ∙ checked .check-all .ensures .0) refl
     _ (ran .run-accepted .ensures) _ (c .closed .ensures)
-
-returns-2 : tie.Need-returns-2
-returns-2 c =
-    let checked = c .before .before in
-    let s = start checked in
-    continue-refused (s .args .d) (tables s) (s .args .times) (s .args .run) _ (checked .check-all .ensures .0) (c .enum-told2 .given .0 .0)
-    (c .enum-told2 .given .1)
 
 pub continue-indexed-spec : {M : Type 1} → statement M
 continue-indexed-spec =
@@ -59,8 +60,8 @@ continue-indexed-spec =
     (tie.spec
     check-all-requires
     enum-told
+    enum-known-refusal
+    returns
     run-accepted-requires
     closed-requires
-    enum-told-2
-    returns
     returns-2)

@@ -13,21 +13,21 @@ start c = c .before .before .before .before
 accept-requires : tie.Need-accept-requires
 accept-requires c κs = search needs
 
-enum-known-checked : tie.Need-enum-known-checked
-enum-known-checked c = search needs
-
 enum-told : tie.Need-enum-told
 enum-told c = search needs
 
-make-index-requires : tie.Need-make-index-requires
-make-index-requires c κs = let told = c .before in sym (told .before .before .accept .ensures .0) ∙ told .enum-told .given .1
+enum-known-refusal : tie.Need-enum-known-refusal
+enum-known-refusal c = search needs
 
 returns : tie.Need-returns
 returns c =
     let at-accept = c .before .before .before in
     let s = start at-accept in
-    let e = sym (c .before .checked .given .1) ∙ at-accept .accept .ensures .0 in
-    also-said (e, index-refused (s .args .d) _ _ (c .before .checked .given .0 .0) e)
+    let e = sym (c .before .refusal .given .1) ∙ at-accept .accept .ensures .0 in
+    also-said (e, index-refused (s .args .d) _ _ (c .before .refusal .given .0 .0) e)
+
+make-index-requires : tie.Need-make-index-requires
+make-index-requires c κs = let told = c .before in sym (told .before .before .accept .ensures .0) ∙ told .enum-told .given .1
 
 returns-2 : tie.Need-returns-2
 returns-2 c =
@@ -40,4 +40,4 @@ returns-2 c =
 pub index-spec : {M : Type 1} → statement M
 index-spec =
     tie.close
-    (tie.spec accept-requires enum-known-checked enum-told make-index-requires returns returns-2)
+    (tie.spec accept-requires enum-told enum-known-refusal returns make-index-requires returns-2)

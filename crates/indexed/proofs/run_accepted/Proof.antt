@@ -7,7 +7,7 @@ use Rattle.tables.specs.Tables.{Tables, allTables}
 use Rattle.solver.specs.Step.{always}
 use Rattle.solver.specs.Entries.{runFrom}
 use Rattle.state.specs.State.{stateOf}
-use Rattle.indexed.specs.Held.{reachedBy}
+use Rattle.indexed.specs.Tallied.{reachedBy}
 use Rattle.indexed.proofs.Made.{made-rows, made}
 use Rattle.indexed.proofs.Running.{of-run}
 use borrow.Author.Needs.{needs}

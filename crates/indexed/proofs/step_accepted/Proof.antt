@@ -3,7 +3,7 @@ use mathlib.Core.Path.{ap, _∙_}
 use mathlib.Core.List.{List}
 use Rattle.words.specs.declared.Row.{Row}
 use Rattle.tables.specs.Tables.{Tables, allTables}
-use Rattle.indexed.specs.Held.{steppedOver}
+use Rattle.indexed.specs.Tallied.{steppedOver}
 use Rattle.indexed.proofs.Made.{made-rows, made}
 use borrow.Author.Needs.{needs}
 use Rattle.indexed.proofs.step_accepted.Statement.{statement}

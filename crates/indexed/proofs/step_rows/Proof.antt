@@ -1,4 +1,5 @@
 -- `step_rows` meets its contract: index and number are judged by the rows' own sets and tally.
+use mathlib.Core.Path.{refl, sym, _∙_}
 use Rattle.indexed.proofs.Entries.{over-refused}
 use Rattle.indexed.proofs.Checks.{judged, step-ready, stepped}
 use Prim.Native.Nat.{_^_, _<_}
@@ -33,6 +34,19 @@ check-kept-requires c κs = search needs
 enum-told : tie.Need-enum-told
 enum-told c = search needs
 
+enum-known-refusal : tie.Need-enum-known-refusal
+enum-known-refusal c = search needs
+
+returns : tie.Need-returns
+returns c =
+    let at-check = c .before .before .before in
+    let at-survey = surveyed-at at-check in
+    let s = start at-survey in
+    over-refused _ _ _ (s .args .run) (s .args .number) _
+    (judged _ _ _ _ (s .pre) _ (s .args .run) (s .args .number) (t-low s) (f-low s) _ (at-survey .survey .ensures) _
+    (sym (c .before .refusal .given .1) ∙ at-check .check-kept .ensures))
+    (c .before .refusal .given .0 .0) refl
+
 advance-requires : tie.Need-advance-requires
 advance-requires c κs =
     let at-check = c .before .before in
@@ -41,30 +55,18 @@ advance-requires c κs =
     step-ready _ _ _ _ (s .pre) _ (s .args .run) (s .args .number) (t-low s) (f-low s) _ (at-survey .survey .ensures) _
     (at-check .check-kept .ensures) (c .enum-told .given .1)
 
-cast-t15 : tie.Need-cast-t15
-cast-t15 c = search needs
+cast-t17 : tie.Need-cast-t17
+cast-t17 c = search needs
 
-enum-told-2 : tie.Need-enum-told-2
-enum-told-2 c = search needs
-
-returns : tie.Need-returns
-returns c =
+returns-2 : tie.Need-returns-2
+returns-2 c =
     let advanced = c .before .before .before in
     let told = advanced .before in
     let at-check = told .before .before in
     let at-survey = surveyed-at at-check in
     let s = start at-survey in
-    stepped _ _ _ _ (s .pre) _ (s .args .run) (s .args .number) (t-low s) (f-low s) _ (at-survey .survey .ensures) _ (at-check .check-kept .ensures)
-    (told .enum-told .given .1) _ (advanced .advance .ensures)
-
-returns-2 : tie.Need-returns-2
-returns-2 c =
-    let at-check = c .before .before in
-    let at-survey = surveyed-at at-check in
-    let s = start at-survey in
-    over-refused _ _ _ (s .args .run) (s .args .number) _
-    (judged _ _ _ _ (s .pre) _ (s .args .run) (s .args .number) (t-low s) (f-low s) _ (at-survey .survey .ensures) _ (at-check .check-kept .ensures))
-    (c .enum-told2 .given .0 .0) (c .enum-told2 .given .1)
+    stepped _ _ _ _ (s .pre) _ (s .args .run) (s .args .number) (t-low s) (f-low s) _ (at-survey .survey .ensures) _
+    (sym (told .enum-told .given .1) ∙ at-check .check-kept .ensures) refl _ (advanced .advance .ensures)
 
 pub step-rows-spec : {M : Type 1} → statement M
 step-rows-spec =
@@ -73,8 +75,8 @@ step-rows-spec =
     survey-requires
     check-kept-requires
     enum-told
-    advance-requires
-    cast-t15
-    enum-told-2
+    enum-known-refusal
     returns
+    advance-requires
+    cast-t17
     returns-2)

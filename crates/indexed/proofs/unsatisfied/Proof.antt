@@ -38,11 +38,6 @@ check-state-requires c κs = search needs
 enum-told-2 : tie.Need-enum-told-2
 enum-told-2 c = search needs
 
-count-unsatisfied-requires : tie.Need-count-unsatisfied-requires
-count-unsatisfied-requires c κs =
-    let told = c .before .before .before in
-    sym (told .before .before .accept .ensures .0) ∙ told .enum-told .given .1
-
 enum-known-refusal-2 : tie.Need-enum-known-refusal-2
 enum-known-refusal-2 c = search needs
 
@@ -52,10 +47,14 @@ returns-2 c =
     let told = at-state .before in
     let at-accept = told .before .before in
     let s = start at-accept in
-    count-taken (s .args .d) (tables s) (s .args .run)
-    (sym (c .before .enum-told2 .given .1) ∙ at-state .check-state .ensures .0
+    count-refused (s .args .d) (tables s) (s .args .run) (c .before .refusal2 .given .0 .0)
+    (sym (c .before .refusal2 .given .1) ∙ at-state .check-state .ensures .0
     ∙ state-decides (s .args .d) (tables s) (s .args .run) (sym (told .enum-told .given .1) ∙ at-accept .accept .ensures .0))
-    _ (c .count-unsatisfied .ensures)
+
+count-unsatisfied-requires : tie.Need-count-unsatisfied-requires
+count-unsatisfied-requires c κs =
+    let told = c .before .before .before in
+    sym (told .before .before .accept .ensures .0) ∙ told .enum-told .given .1
 
 returns-3 : tie.Need-returns-3
 returns-3 c =
@@ -63,9 +62,10 @@ returns-3 c =
     let told = at-state .before in
     let at-accept = told .before .before in
     let s = start at-accept in
-    count-refused (s .args .d) (tables s) (s .args .run) (c .before .refusal2 .given .0 .0)
-    (sym (c .before .refusal2 .given .1) ∙ at-state .check-state .ensures .0
+    count-taken (s .args .d) (tables s) (s .args .run)
+    (sym (c .before .enum-told2 .given .1) ∙ at-state .check-state .ensures .0
     ∙ state-decides (s .args .d) (tables s) (s .args .run) (sym (told .enum-told .given .1) ∙ at-accept .accept .ensures .0))
+    _ (c .count-unsatisfied .ensures)
 
 pub unsatisfied-spec : {M : Type 1} → statement M
 unsatisfied-spec =
@@ -77,7 +77,7 @@ unsatisfied-spec =
     returns
     check-state-requires
     enum-told-2
-    count-unsatisfied-requires
     enum-known-refusal-2
     returns-2
+    count-unsatisfied-requires
     returns-3)

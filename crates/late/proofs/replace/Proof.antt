@@ -19,10 +19,10 @@ tables s = allTables (s .args .left .now) (s .args .right .now) (s .args .public
 
 -- ---- the places of the code, each from the one behind it
 
-abbrev lent : tie.After-check → tie.After-shared-slice-known
+abbrev lent : tie.After-check-condition → tie.After-shared-slice-known
 lent c = c .before .before .before
 
-abbrev start : tie.After-check → tie.Start
+abbrev start : tie.After-check-condition → tie.Start
 start c = lent c .before .before .before
 
 abbrev started : tie.After-enum-told → tie.Start
@@ -31,13 +31,13 @@ started c = start (c .before .before)
 -- ---- what is known there
 
 passes : (c : tie.After-enum-told) → let s = started c in outcome (lateChecks (s .args .d) (tables s) (s .args .run) (s .args .condition)) ≡ Taken
-passes c = sym (c .before .before .check .ensures) ∙ c .enum-told .given .1
+passes c = sym (c .before .before .check-condition .ensures) ∙ c .enum-told .given .1
 
 allowed : (c : tie.After-enum-told) → let s = started c in Allowed (s .args .d) (tables s) (s .args .run) (s .args .condition)
 allowed c = let s = started c in late-parts (s .args .d) (tables s) (s .args .run) (s .args .condition) (passes c)
 
-check-requires : tie.Need-check-requires
-check-requires c κs = search needs
+check-condition-requires : tie.Need-check-condition-requires
+check-condition-requires c κs = search needs
 
 enum-told : tie.Need-enum-told
 enum-told c = search needs
@@ -55,7 +55,7 @@ returns : tie.Need-returns
 returns c =
     let at-check = c .before .before .before in
     let s = start at-check in
-    let e = sym (at-check .check .ensures) ∙ c .before .refusal .given .1 in
+    let e = sym (at-check .check-condition .ensures) ∙ c .before .refusal .given .1 in
     let q = after-refused (s .args .d) (tables s) (s .args .run) (s .args .condition) _ e in
     (sym e, (sym (ap (λ (t : Tables). t .left) q), (sym (ap (λ (t : Tables). t .right) q), outcome-said (sym e) .1)))
 
@@ -66,14 +66,14 @@ sub-put : tie.Need-sub-put
 sub-put c =
     let t = c .before .before .before in
     let s = started t in
-    omega (arith, owned-number (s .args .d) (s .args .condition .station) (s .args .condition .number) (allowed t .fitting .owned) .0)
+    omega (arith, owned-number (s .args .d) (s .args .condition .station) (s .args .condition .replaced) (allowed t .fitting .owned) .0)
 
 put-requires : tie.Need-put-requires
 put-requires c κs =
     let t = c .before .before .before in
     let s = started t in
     let a = allowed t in
-    let o = owned-number (s .args .d) (s .args .condition .station) (s .args .condition .number) (a .fitting .owned) in
+    let o = owned-number (s .args .d) (s .args .condition .station) (s .args .condition .replaced) (a .fitting .owned) in
     let l = accepted (s .args .d) (tables s) (a .tables-taken) .left-length in
     omega (arith, o .0, l)
 
@@ -103,7 +103,7 @@ put-requires-2 c κs =
     let t = c .before .before .before in
     let s = started t in
     let a = allowed t in
-    let o = owned-number (s .args .d) (s .args .condition .station) (s .args .condition .number) (a .fitting .owned) in
+    let o = owned-number (s .args .d) (s .args .condition .station) (s .args .condition .replaced) (a .fitting .owned) in
     let l = accepted (s .args .d) (tables s) (a .tables-taken) .right-length in
     omega (arith, o .1, l)
 
@@ -126,7 +126,7 @@ pub replace-spec : {M : Type 1} → statement M
 replace-spec =
     tie.close
     (tie.spec
-    check-requires
+    check-condition-requires
     enum-told
     enum-known-refusal
     same-length

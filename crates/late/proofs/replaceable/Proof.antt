@@ -40,9 +40,7 @@ sub-is-padding c =
     omega (arith, owned-number (s .args .d) (s .args .station) (s .args .number) (own (c .before .before)) .0)
 
 is-padding-requires : tie.Need-is-padding-requires
-is-padding-requires c κs =
-    let s = started (c .before .before) in
-    omega (arith, owned-number (s .args .d) (s .args .station) (s .args .number) (own (c .before .before)) .0)
+is-padding-requires c κs = search needs
 
 returns-2 : tie.Need-returns-2
 returns-2 c =
@@ -58,10 +56,7 @@ sub-is-padding-3 : tie.Need-sub-is-padding-3
 sub-is-padding-3 c = search needs
 
 is-padding-requires-2 : tie.Need-is-padding-requires-2
-is-padding-requires-2 c κs =
-    let e = c .before .before in
-    let s = started e in
-    omega (arith, owned-number (s .args .d) (s .args .station) (s .args .number) (own e) .1)
+is-padding-requires-2 c κs = search needs
 
 returns-3 : tie.Need-returns-3
 returns-3 c =

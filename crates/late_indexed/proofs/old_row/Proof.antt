@@ -1,10 +1,10 @@
--- `old_row` meets its contract: each test leads to its case, and the row lies within its table's words.
+-- `old_row` meets its contract: each test leads to its case.
 use mathlib.Core.Path.{_∙_}
 use native.Mathlib.Omega.{arith}
 use lib.Dec.{ltb, leb}
-use borrow.Author.Tests.{ltb-true, leb-true}
-use Rattle.words.proofs.Truth.{and-l, and-r}
-use Prim.Native.Nat.{_+_, _≤_, _<_}
+use borrow.Author.Tests.{ltb-true}
+use Rattle.words.proofs.Truth.{and-l}
+use Prim.Native.Nat.{_+_, _<_}
 use Rattle.late_indexed.proofs.Replacing.{old-left, old-right, old-none}
 use borrow.Author.Needs.{needs}
 use Rattle.late_indexed.proofs.old_row.Statement.{statement}
@@ -21,22 +21,16 @@ at-left c = start (c .before)
 abbrev at-right : tie.Then2 → tie.Start
 at-right c = start (c .before .before)
 
--- a left row's number, and a right row's
-left-number : (c : tie.Then1) → let s = at-left c .args in (0 < s .number) × (s .number ≤ s .d .left)
+-- a row's number is above 0, and a right row's above those of the left ones
+left-number : (c : tie.Then1) → 0 < at-left c .args .number
 left-number c =
     let s = at-left c .args in
-    let e = c .if1 .taken in
-    let past = ltb 0 (s .number) in
-    let within = leb (s .number) (s .d .left) in
-    (ltb-true 0 (s .number) (and-l past within e), leb-true (s .number) (s .d .left) (and-r past within e))
+    ltb-true 0 (s .number) (and-l (ltb 0 (s .number)) (leb (s .number) (s .d .left)) (c .if1 .taken))
 
-right-number : (c : tie.Then2) → let s = at-right c .args in (s .d .left < s .number) × (s .number ≤ s .d .left + s .d .right)
+right-number : (c : tie.Then2) → at-right c .args .d .left < at-right c .args .number
 right-number c =
     let s = at-right c .args in
-    let e = c .if2 .taken in
-    let past = ltb (s .d .left) (s .number) in
-    let within = leb (s .number) (s .d .left + s .d .right) in
-    (ltb-true (s .d .left) (s .number) (and-l past within e), leb-true (s .number) (s .d .left + s .d .right) (and-r past within e))
+    ltb-true (s .d .left) (s .number) (and-l (ltb (s .d .left) (s .number)) (leb (s .number) (s .d .left + s .d .right)) (c .if2 .taken))
 
 -- ---- needs
 
@@ -47,10 +41,10 @@ cast-right-rows : tie.Need-cast-right-rows
 cast-right-rows c = search needs
 
 sub-row-at : tie.Need-sub-row-at
-sub-row-at c = omega (arith, left-number c .0)
+sub-row-at c = omega (arith, left-number c)
 
 row-at-requires : tie.Need-row-at-requires
-row-at-requires c κs = omega (arith, left-number c .0, left-number c .1)
+row-at-requires c κs = search needs
 
 returns : tie.Need-returns
 returns c =
@@ -61,13 +55,13 @@ add-if2 : tie.Need-add-if2
 add-if2 c = search needs
 
 sub-row-at-2 : tie.Need-sub-row-at-2
-sub-row-at-2 c = omega (arith, right-number c .0)
+sub-row-at-2 c = omega (arith, right-number c)
 
 sub-row-at-3 : tie.Need-sub-row-at-3
-sub-row-at-3 c = omega (arith, right-number c .0)
+sub-row-at-3 c = omega (arith, right-number c)
 
 row-at-requires-2 : tie.Need-row-at-requires-2
-row-at-requires-2 c κs = omega (arith, right-number c .0, right-number c .1)
+row-at-requires-2 c κs = search needs
 
 returns-2 : tie.Need-returns-2
 returns-2 c =

@@ -68,8 +68,8 @@ check-indexed-requires c κs = search needs
 enum-told : tie.Need-enum-told
 enum-told c = search needs
 
-enum-known-checked : tie.Need-enum-known-checked
-enum-known-checked c = search needs
+enum-known-refusal : tie.Need-enum-known-refusal
+enum-known-refusal c = search needs
 
 same-length : tie.Need-same-length
 same-length c = search needs
@@ -81,25 +81,46 @@ returns : tie.Need-returns
 returns c =
     let at-check = c .before .before .before in
     let s = start at-check in
-    let r = c .before .checked .given .0 .0 in
-    let refused = sym (c .before .checked .given .1) ∙ at-check .check-indexed .ensures .0 in
+    let r = c .before .refusal .given .0 .0 in
+    let refused = sym (c .before .refusal .given .1) ∙ at-check .check-indexed .ensures .0 in
     let e = first-refused (s .args .d) (tables s) (s .args .index .now) (s .args .run) (s .args .number) (s .args .condition) r refused in
     let k = all-kept (s .args .d) (tables s) (s .args .index .now) (s .args .run) (s .args .number) (s .args .condition) (Refused r) r e refl in
     (k .0, (ap (λ (t : Tables). t .left) (k .1), (ap (λ (t : Tables). t .right) (k .1), (k .2, held-said (λ (x : ReplacedIndexed). x .outcome) (k .0) .1))))
 
 old-row-requires : tie.Need-old-row-requires
-old-row-requires c κs =
-    let t = c .before .before in
-    let s = started t in
-    let known = tables-taken (s .args .d) (tables s) (s .args .index .now) (s .args .run) (s .args .number) (s .args .condition) (passed t) in
-    let a = accepted (s .args .d) (tables s) known in
-    (a .left-length, a .right-length)
+old-row-requires c κs = search needs
 
 replace-requires : tie.Need-replace-requires
 replace-requires c κs = search needs
 
 enum-told-2 : tie.Need-enum-told-2
 enum-told-2 c = search needs
+
+enum-known-refusal-2 : tie.Need-enum-known-refusal-2
+enum-known-refusal-2 c = search needs
+
+same-length-3 : tie.Need-same-length-3
+same-length-3 c = search needs
+
+same-length-4 : tie.Need-same-length-4
+same-length-4 c = search needs
+
+returns-2 : tie.Need-returns-2
+returns-2 c =
+    let at-replace = replaced (c .before .before .before) in
+    let p = passed-at at-replace in
+    let s = started p in
+    let decided = decided-alike (s .args .d) (tables s) (s .args .index .now) (s .args .run) (s .args .number) (s .args .condition) (passed p) in
+    let told = c .before .refusal2 .given in
+    let e = sym (told .1) ∙ at-replace .replace .ensures .0 ∙ decided in
+    let k = all-kept (s .args .d) (tables s) (s .args .index .now) (s .args .run) (s .args .number) (s .args .condition) _ (told .0 .0) e refl in
+    let alike = tables-alike (s .args .d) (tables s) (s .args .index .now) (s .args .run) (s .args .number) (s .args .condition) (passed p) in (
+      k .0,
+      (
+        at-replace .replace .ensures .1 .0 ∙ ap (λ (x : Tables). x .left) alike,
+        (at-replace .replace .ensures .1 .1 .0 ∙ ap (λ (x : Tables). x .right) alike, (k .2, held-said (λ (x : ReplacedIndexed). x .outcome) (k .0) .1)),
+      ),
+    )
 
 sub-replace-row : tie.Need-sub-replace-row
 sub-replace-row c =
@@ -117,17 +138,14 @@ count-row-requires c κs =
     let s = started p in
     number-few (s .args .d) (tables s) (s .args .index .now) (s .args .run) (s .args .number) (s .args .condition) (passed p)
 
-enum-told-3 : tie.Need-enum-told-3
-enum-told-3 c = search needs
+same-length-5 : tie.Need-same-length-5
+same-length-5 c = search needs
 
-same-length-3 : tie.Need-same-length-3
-same-length-3 c = search needs
+same-length-6 : tie.Need-same-length-6
+same-length-6 c = search needs
 
-same-length-4 : tie.Need-same-length-4
-same-length-4 c = search needs
-
-returns-2 : tie.Need-returns-2
-returns-2 c =
+returns-3 : tie.Need-returns-3
+returns-3 c =
     let at-index = c .before in
     let t = at-index .before .before .before in
     let at-replace = taken-at t in
@@ -136,7 +154,7 @@ returns-2 c =
     let alike = tables-alike (s .args .d) (tables s) (s .args .index .now) (s .args .run) (s .args .number) (s .args .condition) (passed p) in
     let e =
     answer-then (s .args .d) (tables s) (s .args .index .now) (s .args .run) (s .args .number) (s .args .condition) (passed p) (taken t) _ _
-    (at-replace .replace .ensures .0) (c .count-row .ensures) in (
+    (sym (taken t)) (c .count-row .ensures) in (
       e,
       (
         at-replace .replace .ensures .1 .0 ∙ ap (λ (x : Tables). x .left) alike,
@@ -152,49 +170,26 @@ returns-2 c =
       ),
     )
 
-same-length-5 : tie.Need-same-length-5
-same-length-5 c = search needs
-
-same-length-6 : tie.Need-same-length-6
-same-length-6 c = search needs
-
-returns-3 : tie.Need-returns-3
-returns-3 c =
-    let at-replace = replaced (c .before .before) in
-    let p = passed-at at-replace in
-    let s = started p in
-    let decided = decided-alike (s .args .d) (tables s) (s .args .index .now) (s .args .run) (s .args .number) (s .args .condition) (passed p) in
-    let e = at-replace .replace .ensures .0 ∙ decided in
-    let told = c .enum-told3 .given in
-    let k = all-kept (s .args .d) (tables s) (s .args .index .now) (s .args .run) (s .args .number) (s .args .condition) _ (told .0 .0) e (told .1) in
-    let alike = tables-alike (s .args .d) (tables s) (s .args .index .now) (s .args .run) (s .args .number) (s .args .condition) (passed p) in (
-      k .0,
-      (
-        at-replace .replace .ensures .1 .0 ∙ ap (λ (x : Tables). x .left) alike,
-        (at-replace .replace .ensures .1 .1 .0 ∙ ap (λ (x : Tables). x .right) alike, (k .2, held-said (λ (x : ReplacedIndexed). x .outcome) (k .0) .1)),
-      ),
-    )
-
 pub replace-indexed-spec : {M : Type 1} → statement M
 replace-indexed-spec =
     tie.close
     (tie.spec
     check-indexed-requires
     enum-told
-    enum-known-checked
+    enum-known-refusal
     same-length
     same-length-2
     returns
     old-row-requires
     replace-requires
     enum-told-2
-    sub-replace-row
-    replace-row-requires
-    count-row-requires
-    enum-told-3
+    enum-known-refusal-2
     same-length-3
     same-length-4
     returns-2
+    sub-replace-row
+    replace-row-requires
+    count-row-requires
     same-length-5
     same-length-6
     returns-3)

@@ -19,22 +19,22 @@ tables s = allTables (now (s .args .left)) (now (s .args .right)) (now (s .args 
 accept-requires : tie.Need-accept-requires
 accept-requires c κs = search needs
 
-enum-known-checked : tie.Need-enum-known-checked
-enum-known-checked c = search needs
-
 enum-told : tie.Need-enum-told
 enum-told c = search needs
 
-check-state-requires : tie.Need-check-state-requires
-check-state-requires c κs = search needs
+enum-known-refusal : tie.Need-enum-known-refusal
+enum-known-refusal c = search needs
 
 returns : tie.Need-returns
 returns c =
     let at-accept = c .before .before .before in
     let s = start at-accept in
     outcome-said
-    (refuse-tables (s .args .d) (tables s) (s .args .run) (c .before .checked .given .0 .0)
-    (sym (c .before .checked .given .1) ∙ at-accept .accept .ensures .0))
+    (refuse-tables (s .args .d) (tables s) (s .args .run) (c .before .refusal .given .0 .0)
+    (sym (c .before .refusal .given .1) ∙ at-accept .accept .ensures .0))
+
+check-state-requires : tie.Need-check-state-requires
+check-state-requires c κs = search needs
 
 returns-2 : tie.Need-returns-2
 returns-2 c =
@@ -46,4 +46,4 @@ returns-2 c =
 pub check-all-spec : {M : Type 1} → statement M
 check-all-spec =
     tie.close
-    (tie.spec accept-requires enum-known-checked enum-told check-state-requires returns returns-2)
+    (tie.spec accept-requires enum-told enum-known-refusal returns check-state-requires returns-2)

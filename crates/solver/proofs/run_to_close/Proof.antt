@@ -1,5 +1,5 @@
--- `run_to_close` meets its contract. The loop's invariant: what is left of the budget from the present run gives what the whole gives from the fresh one.
--- The measure is what is left of the budget.
+-- `run_to_close` meets its contract. The loop's invariant: what is left of the budget from the present run gives what the whole gives from the fresh one. The
+-- measure is what is left of the budget.
 use mathlib.Core.Path.{sym, _∙_}
 use Prim.Native.Nat.{_-_}
 use native.Mathlib.Omega.{arith}

@@ -1,4 +1,5 @@
 -- `step` meets its contract: the outcome of the checks decides.
+use mathlib.Core.Path.{refl, sym, _∙_}
 use Rattle.tables.specs.Tables.{Tables, allTables}
 use Rattle.solver.proofs.Entries.{passed, step-taken, step-refused, step-said}
 use borrow.Author.Needs.{needs}
@@ -19,32 +20,31 @@ check-all-requires c κs = search needs
 enum-told : tie.Need-enum-told
 enum-told c = search needs
 
-giant-step-requires : tie.Need-giant-step-requires
-giant-step-requires c κs =
-    let checked = c .before .before in
-    let s = start checked in
-    let p = passed (s .args .d) (tables s) (s .args .run) _ (checked .check-all .ensures .0) (c .enum-told .given .1) in (p .taken, (p .formed, p .same))
-
-enum-told-2 : tie.Need-enum-told-2
-enum-told-2 c = search needs
+enum-known-refusal : tie.Need-enum-known-refusal
+enum-known-refusal c = search needs
 
 returns : tie.Need-returns
 returns c =
     let checked = c .before .before .before in
     let s = start checked in
     step-said (s .args .d) _ (s .args .run)
-    (step-taken (s .args .d) _ (s .args .run) (checked .check-all .result) (checked .check-all .ensures .0) (c .before .enum-told .given .1) _
-    (c .giant-step .ensures))
+    (step-refused (s .args .d) _ (s .args .run) _ (sym (c .before .refusal .given .1) ∙ checked .check-all .ensures .0) _ refl)
+
+giant-step-requires : tie.Need-giant-step-requires
+giant-step-requires c κs =
+    let checked = c .before .before in
+    let s = start checked in
+    let p = passed (s .args .d) (tables s) (s .args .run) _ (checked .check-all .ensures .0) (c .enum-told .given .1) in (p .taken, (p .formed, p .same))
 
 returns-2 : tie.Need-returns-2
 returns-2 c =
-    let checked = c .before .before in
+    let checked = c .before .before .before in
     let s = start checked in
     step-said (s .args .d) _ (s .args .run)
-    (step-refused (s .args .d) _ (s .args .run) (checked .check-all .result) (checked .check-all .ensures .0) (c .enum-told2 .given .0 .0)
-    (c .enum-told2 .given .1))
+    (step-taken (s .args .d) _ (s .args .run) _ (sym (c .before .enum-told .given .1) ∙ checked .check-all .ensures .0) refl _
+    (c .giant-step .ensures))
 
 pub step-spec : {M : Type 1} → statement M
 step-spec =
     tie.close
-    (tie.spec check-all-requires enum-told giant-step-requires enum-told-2 returns returns-2)
+    (tie.spec check-all-requires enum-told enum-known-refusal returns giant-step-requires returns-2)

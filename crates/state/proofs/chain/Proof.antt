@@ -1,5 +1,4 @@
--- `chain` meets its contract. The loop's invariant: the first i levels before the present T and F decide what the whole decides.
--- The measure is i.
+-- `chain` meets its contract. The loop's invariant: the first i levels before the present T and F decide what the whole decides. The measure is i.
 use mathlib.Core.Path.{_≡_, sym, _∙_}
 use Prim.Native.Nat.{_≤_}
 use native.Mathlib.Omega.{arith}

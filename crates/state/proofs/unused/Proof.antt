@@ -1,5 +1,4 @@
--- `unused` meets its contract. The loop's invariant: the levels from i on decide what the whole decides.
--- The measure is what is left of the 32 levels.
+-- `unused` meets its contract. The loop's invariant: the levels from i on decide what the whole decides. The measure is what is left of the 32 levels.
 use mathlib.Core.Path.{_≡_, _∙_}
 use Prim.Native.Nat.{_-_}
 use native.Mathlib.Omega.{arith}

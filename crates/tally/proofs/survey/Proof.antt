@@ -1,26 +1,52 @@
--- `survey` meets its contract: the sets are those of its calls.
+-- `survey` meets its contract, word by word.
 use borrow.Author.Needs.{needs}
 use Rattle.tally.proofs.SeenLaws.{survey-is}
 use Rattle.tally.proofs.survey.Statement.{statement}
 use Rattle.tally.proofs.survey.Tie as tie
 
-look-requires : tie.Need-look-requires
-look-requires c κs = search needs
+rows-left-requires : tie.Need-rows-left-requires
+rows-left-requires c κs = search needs
 
-unsatisfied-requires : tie.Need-unsatisfied-requires
-unsatisfied-requires c κs = search needs
+rows-left-requires-2 : tie.Need-rows-left-requires-2
+rows-left-requires-2 c κs = search needs
 
-few-requires : tie.Need-few-requires
-few-requires c κs = search needs
+rows-left-requires-3 : tie.Need-rows-left-requires-3
+rows-left-requires-3 c κs = search needs
+
+rows-left-requires-4 : tie.Need-rows-left-requires-4
+rows-left-requires-4 c κs = search needs
+
+rows-left-requires-5 : tie.Need-rows-left-requires-5
+rows-left-requires-5 c κs = search needs
+
+rows-left-requires-6 : tie.Need-rows-left-requires-6
+rows-left-requires-6 c κs = search needs
 
 gather-requires : tie.Need-gather-requires
 gather-requires c κs = search needs
 
 returns : tie.Need-returns
 returns c =
-    let few = c .before in
-    let unmet = few .before in
-    survey-is _ _ _ _ _ _ _ _ _ (unmet .before .look .ensures) (unmet .unsatisfied .ensures) (few .few .ensures) (c .gather .ensures)
+    let w5 = c .before in
+    let w4 = w5 .before in
+    let w3 = w4 .before in
+    let w2 = w3 .before in
+    let w1 = w2 .before in
+    let w0 = w1 .before in
+    let x = w0 .before .args in
+    survey-is (x .words .now) (x .index .now) (x .rows) (x .t) (x .f) (w0 .rows-left .ensures) (w1 .rows-left2 .ensures) (w2 .rows-left3 .ensures)
+    (w3 .rows-left4 .ensures)
+    (w4 .rows-left5 .ensures) (w5 .rows-left6 .ensures) (c .gather .ensures)
 
 pub survey-spec : {M : Type 1} → statement M
-survey-spec = tie.close (tie.spec look-requires unsatisfied-requires few-requires gather-requires returns)
+survey-spec =
+    tie.close
+    (tie.spec
+    rows-left-requires
+    rows-left-requires-2
+    rows-left-requires-3
+    rows-left-requires-4
+    rows-left-requires-5
+    rows-left-requires-6
+    gather-requires
+    returns)

@@ -10,16 +10,25 @@ use Rattle.weighted.proofs.solve_weighted.Tie as tie
 abbrev start : tie.After-accept → tie.Start
 start c = c .before .before .before .before
 
-run-fresh-requires : tie.Need-run-fresh-requires
-run-fresh-requires c κs = sym (c .before .before .accept .ensures .0) ∙ c .enum-told .given .1
+accept-requires : tie.Need-accept-requires
+accept-requires c κs = search needs
+
+enum-told : tie.Need-enum-told
+enum-told c = search needs
+
+enum-known-refusal : tie.Need-enum-known-refusal
+enum-known-refusal c = search needs
 
 returns : tie.Need-returns
 returns c =
     let at-accept = c .before .before .before in
     let s = start at-accept in
     said-with weightedRule (s .args .d) _ (s .args .budget) _
-    (solve-refused-with weightedRule (s .args .d) _ (s .args .budget) (c .before .checked .given .0 .0)
-    (sym (c .before .checked .given .1) ∙ at-accept .accept .ensures .0))
+    (solve-refused-with weightedRule (s .args .d) _ (s .args .budget) (c .before .refusal .given .0 .0)
+    (sym (c .before .refusal .given .1) ∙ at-accept .accept .ensures .0))
+
+run-fresh-requires : tie.Need-run-fresh-requires
+run-fresh-requires c κs = sym (c .before .before .accept .ensures .0) ∙ c .enum-told .given .1
 
 returns-2 : tie.Need-returns-2
 returns-2 c =
@@ -29,16 +38,7 @@ returns-2 c =
     (solve-taken-with weightedRule (s .args .d) _ (s .args .budget) (sym (c .before .enum-told .given .1) ∙ at-accept .accept .ensures .0) _
     (c .run-fresh .ensures))
 
-enum-told : tie.Need-enum-told
-enum-told c = search needs
-
-enum-known-checked : tie.Need-enum-known-checked
-enum-known-checked c = search needs
-
-accept-requires : tie.Need-accept-requires
-accept-requires c κs = search needs
-
 pub solve-weighted-spec : {M : Type 1} → statement M
 solve-weighted-spec =
     tie.close
-    (tie.spec accept-requires enum-known-checked enum-told run-fresh-requires returns returns-2)
+    (tie.spec accept-requires enum-told enum-known-refusal returns run-fresh-requires returns-2)

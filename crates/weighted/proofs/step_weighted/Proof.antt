@@ -1,4 +1,5 @@
 -- `step_weighted` meets its contract: the checks of tables and run decide, and what they take advances.
+use mathlib.Core.Path.{refl, sym, _∙_}
 use Rattle.tables.specs.Tables.{Tables, allTables}
 use Rattle.solver.proofs.Entries.{Passed, passed, step-taken-with, step-refused-with, step-said-with}
 use Rattle.weighted.specs.Weights.{weightedRule}
@@ -12,8 +13,8 @@ check-all-requires c κs = search needs
 enum-told : tie.Need-enum-told
 enum-told c = search needs
 
-enum-told-2 : tie.Need-enum-told-2
-enum-told-2 c = search needs
+enum-known-refusal : tie.Need-enum-known-refusal
+enum-known-refusal c = search needs
 
 -- the start, from the checks
 abbrev begun : tie.After-check-all → tie.Start
@@ -25,11 +26,10 @@ lent s = allTables (s .args .left .now) (s .args .right .now) (s .args .public .
 
 returns : tie.Need-returns
 returns c =
-    let checked = c .before .before in
+    let checked = c .before .before .before in
     let s = begun checked in
     step-said-with weightedRule (s .args .d) (lent s) (s .args .run)
-    (step-refused-with weightedRule (s .args .d) (lent s) (s .args .run) (checked .check-all .result) (checked .check-all .ensures .0)
-    (c .enum-told2 .given .0 .0) (c .enum-told2 .given .1))
+    (step-refused-with weightedRule (s .args .d) (lent s) (s .args .run) _ (sym (c .before .refusal .given .1) ∙ checked .check-all .ensures .0) _ refl)
 
 advance-requires : tie.Need-advance-requires
 advance-requires c κs =
@@ -44,8 +44,8 @@ returns-2 c =
     let checked = c .before .before .before in
     let s = begun checked in
     step-said-with weightedRule (s .args .d) (lent s) (s .args .run)
-    (step-taken-with weightedRule (s .args .d) (lent s) (s .args .run) (checked .check-all .result) (checked .check-all .ensures .0)
-    (c .before .enum-told .given .1) _ (c .advance .ensures))
+    (step-taken-with weightedRule (s .args .d) (lent s) (s .args .run) _ (sym (c .before .enum-told .given .1) ∙ checked .check-all .ensures .0) refl _
+    (c .advance .ensures))
 
 pub step-weighted-spec : {M : Type 1} → statement M
-step-weighted-spec = tie.close (tie.spec check-all-requires enum-told enum-told-2 returns advance-requires returns-2)
+step-weighted-spec = tie.close (tie.spec check-all-requires enum-told enum-known-refusal returns advance-requires returns-2)

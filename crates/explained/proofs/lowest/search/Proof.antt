@@ -1,9 +1,11 @@
 -- `search` meets its contract. The loop's invariant: the number found, or else the rows left, give what the number found earlier and all the rows give.
-use mathlib.Core.Path.{_≡_}
-use Prim.Native.Nat.{_-_, _/_, _≤_, _<_}
+use mathlib.Core.Path.{_≡_, ap, _∙_}
+use mathlib.Core.Bool.{cond}
+use Prim.Native.Nat.{_+_, _-_, _/_, _≤_, _<_}
 use native.Mathlib.Omega.{arith}
 use lib.ListN.{length}
 use borrow.Author.Needs.{needs}
+use Rattle.words.specs.declared.Row.{Row}
 use Rattle.explained.specs.Explanation.{shows}
 use Rattle.explained.proofs.Searching.{Searched, searched-start, searched-next, searched-end, turn}
 use Rattle.explained.proofs.lowest.search.Statement.{statement}
@@ -29,29 +31,14 @@ loop-holds : tie.Need-loop-holds Inv-loop μ-loop
 loop-holds c = let a = c .before .args in
     (omega arith, searched-start (shows 32 (a .t) (a .f) (a .rule)) (a .words .now) (length (a .words .now) / 2) (a .first) (a .earlier))
 
-mul-at : tie.Need-mul-at Inv-loop μ-loop
-mul-at c = search needs
-
-mul-positive : tie.Need-mul-positive Inv-loop μ-loop
-mul-positive c = search needs
-
-shared-slice-read-positive : tie.Need-shared-slice-read-positive Inv-loop μ-loop
-shared-slice-read-positive c = omega (arith, looked (c .before) .0)
-
-add-negative : tie.Need-add-negative Inv-loop μ-loop
-add-negative c = search needs
-
-mul-negative : tie.Need-mul-negative Inv-loop μ-loop
-mul-negative c = search needs
-
-shared-slice-read-negative : tie.Need-shared-slice-read-negative Inv-loop μ-loop
-shared-slice-read-negative c = omega (arith, looked (c .before .before) .0)
-
 cast-number : tie.Need-cast-number Inv-loop μ-loop
 cast-number c = search needs
 
 add-number : tie.Need-add-number Inv-loop μ-loop
 add-number c = search needs
+
+row-at-requires : tie.Need-row-at-requires Inv-loop μ-loop
+row-at-requires c κs = search needs
 
 number-or-requires : tie.Need-number-or-requires Inv-loop μ-loop
 number-or-requires c κs = search needs
@@ -60,17 +47,20 @@ add-i : tie.Need-add-i Inv-loop μ-loop
 add-i c = search needs
 
 loop-less : tie.Need-loop-less Inv-loop μ-loop
-loop-less c = omega (arith, looked (c .before .before .before) .0)
+loop-less c = omega (arith, looked (c .before .before) .0)
 
 loop-again : tie.Need-loop-again Inv-loop μ-loop
 loop-again c =
-    let t = c .before .before .before in
+    let at-row = c .before in
+    let t = at-row .before in
     let l = t .before .loop in
     let a = start t .args in (
       omega (arith, looked t .0),
       searched-next (shows 32 (a .t) (a .f) (a .rule)) (a .words .now) (length (a .words .now) / 2) (a .first) (a .earlier) (l .i)
           (l .found) (c .number-or .result)
-          (start t .pre .1 .0) (looked t .0) (looked t .1) (c .number-or .ensures) (l .inv .1),
+          (start t .pre .1 .0) (looked t .0) (looked t .1)
+          (c .number-or .ensures ∙ ap (λ (r : Row). cond (shows 32 (a .t) (a .f) (a .rule) r) (a .first + l .i) (l .found)) (at-row .row-at .ensures))
+          (l .inv .1),
     )
 
 returns : tie.Need-returns Inv-loop μ-loop
@@ -87,14 +77,9 @@ search-spec =
     Inv-loop
     μ-loop
     loop-holds
-    mul-at
-    mul-positive
-    shared-slice-read-positive
-    add-negative
-    mul-negative
-    shared-slice-read-negative
     cast-number
     add-number
+    row-at-requires
     number-or-requires
     add-i
     loop-less

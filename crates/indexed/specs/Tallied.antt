@@ -17,8 +17,8 @@ use Rattle.solver.specs.Entries.{Ran}
 use Rattle.occurrences.specs.Index.{indexOf}
 use Rattle.tally.specs.Tallies.{tallyOf}
 use Rattle.indexed.specs.declared.SteppedIndexed.{SteppedIndexed}
-use Rattle.indexed.specs.declared.beside.Held.{Held}
-use Rattle.indexed.specs.declared.beside.Reached.{Reached}
+use Rattle.indexed.specs.declared.tallied.TalliedRun.{TalliedRun}
+use Rattle.indexed.specs.declared.tallied.Reached.{Reached}
 use Rattle.indexed.specs.Entries.{indexedChecks, steppedBy}
 
 -- m rows of n variables in words, each word below 2 ^ n, and their index
@@ -30,13 +30,13 @@ pub record Indexed (n : ℕ) (words : List ℕ) (m : ℕ) (index : List ℕ) : T
   pub indexed : index ≡ indexOf (rowsFrom words 0 m)
 
 -- a well-formed run and exactly its tally
-pub record Exact (rows : List Row) (held : Held) : Type 0 where
+pub record Exact (rows : List Row) (held : TalliedRun) : Type 0 where
   pub formed : wellFormed (held .run) ≡ true
   pub exact : held .tally ≡ tallyOf rows (held .run .t) (held .run .f)
 
 -- the run of a state, and exactly its tally
-abbrev pub heldOf : ℕ → List Row → State → Held
-heldOf n rows s = record { run = runOf n s; tally = tallyOf rows (s .t) (s .f) }
+abbrev pub talliedOf : ℕ → List Row → State → TalliedRun
+talliedOf n rows s = record { run = runOf n s; tally = tallyOf rows (s .t) (s .f) }
 
 -- the run that some steps reach, and how many they are
 abbrev pub reachedBy : ℕ → Ran → Reached

@@ -3,8 +3,8 @@ use lib.ListN.{replicate, getD-replicate}
 use lib.Ieee.{nan, binary64, ofBits}
 use borrow.Author.Needs.{needs}
 use Rattle.weighted.proofs.SetWeights.{weigh-words}
-use Rattle.weighted.proofs.beside.weigh_set.Statement.{statement}
-use Rattle.weighted.proofs.beside.weigh_set.Tie as tie
+use Rattle.weighted.proofs.tallied.weigh_set.Statement.{statement}
+use Rattle.weighted.proofs.tallied.weigh_set.Tie as tie
 
 array-read-weigh-word : tie.Need-array-read-weigh-word
 array-read-weigh-word c = search needs

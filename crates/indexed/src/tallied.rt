@@ -9,10 +9,10 @@ ghost use Rattle.state.specs.State.{stateOf};
 ghost use Rattle.state.specs.WellFormed.{wellFormed};
 ghost use Rattle.solver.specs.Step.{always, step};
 ghost use Rattle.solver.specs.Entries.{runFrom};
-ghost use Rattle.indexed.specs.Held.{heldOf, Indexed, Exact, reachedBy};
+ghost use Rattle.indexed.specs.Tallied.{talliedOf, Indexed, Exact, reachedBy};
 
 // A run and its tally.
-pub(crate) struct Held {
+pub(crate) struct TalliedRun {
     pub(crate) run: Run,
     pub(crate) tally: Tally,
 }
@@ -25,11 +25,16 @@ pub(crate) struct Reached {
 
 // One giant step: the rule is read off the tally, and a newly set variable leads to its own rows only. After a removed level all sets are
 // made anew.
-pub(crate) fn advance(words: &[u32; 768], rows: usize, index: &[u64; 384], held: Held) -> Held
+pub(crate) fn advance(
+    words: &[u32; 768],
+    rows: usize,
+    index: &[u64; 384],
+    held: TalliedRun,
+) -> TalliedRun
     requires { ⌜ Indexed (held .run .n) (now words) rows (now index) ⌝ }
     requires { ⌜ Exact (rowsFrom (now words) 0 rows) held ⌝ }
     ensures { λ r.
-        ⌜ r ≡ heldOf (held .run .n) (rowsFrom (now (words .entry)) 0 rows)
+        ⌜ r ≡ talliedOf (held .run .n) (rowsFrom (now (words .entry)) 0 rows)
         (step (held .run .n) (rowsFrom (now (words .entry)) 0 rows) (stateOf (held .run))) ⌝ }
 {
     let run = held.run;
@@ -39,7 +44,7 @@ pub(crate) fn advance(words: &[u32; 768], rows: usize, index: &[u64; 384], held:
         Standing::Open => {
             let rule = tally::rule(index, run.t, run.f, tally);
             let next = rules::follow(run, rule);
-            Held {
+            TalliedRun {
                 run: next,
                 tally: tally::after_rule(
                     words,
@@ -73,7 +78,7 @@ pub(crate) fn run_to_close(
         ⌜ r ≡ reachedBy (run .n) (runFrom (run .n) (always (rowsFrom (now (words .entry)) 0 rows)) times (stateOf run)) ⌝ }
 {
     let tally = tally::survey(words, index, rows, run.t, run.f);
-    let mut held = Held { run, tally };
+    let mut held = TalliedRun { run, tally };
     let mut steps = 0;
     while verdicts::goes_on(held.run, steps, times) {
         held = advance(words, rows, index, held);

@@ -11,8 +11,8 @@ use Rattle.weighted.specs.Floats.{setWeight}
 use Rattle.weighted.proofs.Weighing.{heaviest-of}
 use Rattle.weighted.proofs.Choosing.{told-rule}
 use Rattle.weighted.proofs.SetWeights.{set-small}
-use Rattle.weighted.proofs.beside.find_rule.Statement.{statement}
-use Rattle.weighted.proofs.beside.find_rule.Tie as tie
+use Rattle.weighted.proofs.tallied.find_rule.Statement.{statement}
+use Rattle.weighted.proofs.tallied.find_rule.Tie as tie
 
 rule-requires : tie.Need-rule-requires
 rule-requires c κs = search needs

@@ -14,8 +14,8 @@ use Rattle.indexed.proofs.TallyAfter.{survey-exact}
 use Rattle.weighted.specs.Weights.{weightedRule}
 use Rattle.weighted.proofs.Applying.{weighted-applies}
 use Rattle.weighted.proofs.KeptRun.{Kept, kept-from, kept-on, kept-end}
-use Rattle.weighted.proofs.beside.run_to_close.Statement.{statement}
-use Rattle.weighted.proofs.beside.run_to_close.Tie as tie
+use Rattle.weighted.proofs.tallied.run_to_close.Statement.{statement}
+use Rattle.weighted.proofs.tallied.run_to_close.Tie as tie
 
 abbrev Inv-loop : tie.InvT-loop
 Inv-loop words rows index times last₀ tally₀ steps₀ last tally steps = Kept (last₀ .n) (rowsFrom words 0 rows) times (stateOf last₀) last tally steps

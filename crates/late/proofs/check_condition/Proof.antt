@@ -1,16 +1,15 @@
--- `check` meets its contract: each test of the code is a condition of the definition, in its order.
+-- `check_condition` meets its contract: each test of the code is a condition of the definition, in its order.
 use mathlib.Core.Path.{_≡_, sym, _∙_}
 use borrow.Author.Tests.{not-true, not-false}
 use Rattle.refusals.specs.Checks.{outcome}
 use Rattle.refusals.specs.declared.Outcome.the-variants.{Taken}
 use Rattle.tables.specs.Tables.{Tables, allTables}
 use Rattle.tables.specs.Acceptance.{tableChecks}
-use Rattle.tables.proofs.Accepted.{accepted}
 use Rattle.state.specs.WellFormed.{stateChecks}
 use Rattle.late.proofs.Checks.{refuse-tables, refuse-state, refuse-padding, refuse-closed, refuse-row, take-condition}
 use borrow.Author.Needs.{needs}
-use Rattle.late.proofs.check.Statement.{statement}
-use Rattle.late.proofs.check.Tie as tie
+use Rattle.late.proofs.check_condition.Statement.{statement}
+use Rattle.late.proofs.check_condition.Tie as tie
 
 -- the tables at the start
 abbrev tables : tie.Start → Tables
@@ -73,10 +72,7 @@ returns-2 c =
     (sym (at-state .check-state .ensures .0) ∙ c .before .refusal2 .given .1)
 
 replaceable-requires : tie.Need-replaceable-requires
-replaceable-requires c κs =
-    let s = started c in
-    let a = accepted (s .args .d) (tables s) (tables-taken (told c)) in
-    (a .left-length, a .right-length)
+replaceable-requires c κs = search needs
 
 returns-3 : tie.Need-returns-3
 returns-3 c =
@@ -126,8 +122,8 @@ returns-6 c =
     (not-false _ (at-closed .before .if1 .left)) (sym (at-closed .closed .ensures) ∙ at-open .if2 .left)
     (sym (c .before .low .ensures) ∙ not-false _ (c .if3 .left))
 
-pub check-spec : {M : Type 1} → statement M
-check-spec =
+pub check-condition-spec : {M : Type 1} → statement M
+check-condition-spec =
     tie.close
     (tie.spec
     accept-requires

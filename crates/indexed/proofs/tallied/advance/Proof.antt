@@ -3,8 +3,8 @@ use mathlib.Core.Path.{_≡_}
 use lib.ListN.{length, length-map}
 use Rattle.indexed.proofs.Advancing.{open-advance, satisfied-advance, refuted-advance}
 use borrow.Author.Needs.{needs}
-use Rattle.indexed.proofs.beside.advance.Statement.{statement}
-use Rattle.indexed.proofs.beside.advance.Tie as tie
+use Rattle.indexed.proofs.tallied.advance.Statement.{statement}
+use Rattle.indexed.proofs.tallied.advance.Tie as tie
 
 -- ---- places
 

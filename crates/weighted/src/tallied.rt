@@ -16,7 +16,7 @@ ghost use Rattle.state.specs.WellFormed.{wellFormed};
 ghost use Rattle.solver.specs.Step.{always};
 ghost use Rattle.solver.specs.Entries.{runWith};
 ghost use Rattle.tally.specs.Ruling.{ruleBy};
-ghost use Rattle.indexed.specs.Held.{Indexed};
+ghost use Rattle.indexed.specs.Tallied.{Indexed};
 ghost use Rattle.indexed.specs.Continuing.{continuedBy};
 ghost use Rattle.weighted.specs.Weights.{heaviest, choosing, weightedRule};
 ghost use Rattle.weighted.specs.Floats.{Weighs, Adds, wordWeight, setWeight};
@@ -73,7 +73,7 @@ fn find_rule(words: &[u32; 768], index: &[u64; 384], t: u32, f: u32, tally: Tall
     }
 }
 
-// The run after weighted steps over rows and their index, through the one that closes it and at most so many.
+// The run after weighted steps over rows and their index, through the one that closes it and at most a given number.
 pub(crate) fn run_to_close(
     words: &[u32; 768],
     rows: usize,

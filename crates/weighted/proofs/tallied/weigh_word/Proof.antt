@@ -10,8 +10,8 @@ use Rattle.tally.proofs.Looking.{row-low}
 use Rattle.weighted.specs.Floats.{wordWeight}
 use Rattle.weighted.proofs.Weighing.{Weighing, weighing-start, weighing-next, weighing-end}
 use Rattle.weighted.proofs.SetWeights.{word-none, word-first, few-ones, raised-row}
-use Rattle.weighted.proofs.beside.weigh_word.Statement.{statement}
-use Rattle.weighted.proofs.beside.weigh_word.Tie as tie
+use Rattle.weighted.proofs.tallied.weigh_word.Statement.{statement}
+use Rattle.weighted.proofs.tallied.weigh_word.Tie as tie
 
 abbrev Inv-loop : tie.InvT-loop
 Inv-loop weights₀ words first set unset left₀ weights left =

@@ -1,11 +1,11 @@
--- `check` meets its contract: each test of the code is a condition of the definition, in its order.
+-- `check_counts` meets its contract: each test of the code is a condition of the definition, in its order.
 use mathlib.Core.Path.{sym, subst, _∙_}
 use Prim.Native.Nat.{ℕ, _≤_, _<_}
 use Rattle.tables.specs.Tables.{Tables, allTables}
 use Rattle.free_counts.proofs.Checks.{refuse-tables, refuse-room, state-decides}
 use borrow.Author.Needs.{needs}
-use Rattle.free_counts.proofs.check.Statement.{statement}
-use Rattle.free_counts.proofs.check.Tie as tie
+use Rattle.free_counts.proofs.check_counts.Statement.{statement}
+use Rattle.free_counts.proofs.check_counts.Tie as tie
 
 -- where the code starts, from the first call
 abbrev start : tie.After-accept → tie.Start
@@ -54,8 +54,8 @@ returns-3 c =
     ∙ state-decides (s .args .d) (tables s) (s .args .run) (s .args .room) (sym (at-accept .accept .ensures .0) ∙ at-enum-told .enum-told .given .1)
     (subst (λ (k : ℕ). k ≤ s .args .room) (at-rows .rows .ensures) (c .before .if1 .left))
 
-pub check-spec : {M : Type 1} → statement M
-check-spec =
+pub check-counts-spec : {M : Type 1} → statement M
+check-counts-spec =
     tie.close
     (tie.spec
     accept-requires

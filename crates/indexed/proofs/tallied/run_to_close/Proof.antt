@@ -9,8 +9,8 @@ use Rattle.state.specs.State.{stateOf}
 use Rattle.solver.proofs.BudgetedRun.{running-less}
 use Rattle.indexed.proofs.TallyAfter.{survey-exact}
 use Rattle.indexed.proofs.Running.{Kept, kept-from, kept-ready, kept-on, kept-end}
-use Rattle.indexed.proofs.beside.run_to_close.Statement.{statement}
-use Rattle.indexed.proofs.beside.run_to_close.Tie as tie
+use Rattle.indexed.proofs.tallied.run_to_close.Statement.{statement}
+use Rattle.indexed.proofs.tallied.run_to_close.Tie as tie
 
 abbrev Inv-loop : tie.InvT-loop
 Inv-loop words rows index times held₀ steps₀ held steps = Kept (held₀ .run .n) (rowsFrom words 0 rows) times (stateOf (held₀ .run)) held steps
