@@ -3,12 +3,12 @@
 # make install PREFIX=/DIR: programs, library, header, man pages and documents there (below DESTDIR); make uninstall takes them away.
 # make examples: builds the example hosts and runs them. make bench: compares with other solvers and with plain Rust.
 # make checktime: how long each crate's check takes, from nothing. make pictures: draws docs/pictures.
-# make statements: writes tests/statements.txt, in a commit that changes what is proved.
+# make statements: writes tests/statements.txt, in a commit that changes what is proved. make docs: writes the tables of documents that are made.
 # make fmt: puts every file in its layout. make fmt-check: says which are not.
 # make drill: two stations and a back end, each in a folder of its own, on the example.
 # make dist: target/dist/forkhemit-VERSION-x86_64-linux.tar.gz, what make install copies, with checksums; to unpack anywhere, without the kit.
 # make help: this text. README.md has a table with what each command needs.
-.PHONY: all test run lib install absolute uninstall examples drill dist help bench checktime pictures statements fmt fmt-check
+.PHONY: all test run lib install absolute uninstall examples drill dist help bench checktime pictures docs statements fmt fmt-check
 # `rt` keeps notes in target: one call at a time.
 .NOTPARALLEL:
 
@@ -155,9 +155,9 @@ target/examples/host-rust: examples/host/host.rs target/lib/libforkhemit.a
 	mkdir -p target/examples
 	rustc --edition 2021 -O -D warnings -o $@ $< -L native=target/lib
 
-# The two hosts answer as the pair program; the third is told of a late condition, in each of the stories of examples/harbour/late; the fourth lists
-# a run step by step, by rule 4 and weighted; the fifth checks a proof of cadical's, of examples/harbour/unsatisfiable; the sixth says who can force the roster, in each way of
-# taking turns of examples/harbour/turns; the last prints the roster as a page.
+# The two hosts answer as the pair program; the third is told of a late condition, in each of the stories of examples/harbour/late; the
+# fourth lists a run step by step, by rule 4 and weighted; the fifth checks a proof of cadical's, of examples/harbour/unsatisfiable; the
+# sixth says who can force the roster, in each way of taking turns of examples/harbour/turns; the last prints the roster as a page.
 examples: target/examples/host-c target/examples/host-rust target/examples/late-c target/examples/desk target/examples/proof-c
 examples: target/examples/turns-c target/examples/page-c target/examples/backend
 	cd examples/harbour && for host in host-c host-rust; do \
@@ -186,10 +186,9 @@ bench: target/static/pair target/static/whole target/lib/libforkhemit.a
 	tests/target/release/bench-weighted tests/dimacs
 	tests/target/release/bench-proofs
 	tests/target/release/bench-whole target/static/whole target/static/pair
-	rustc -O --edition 2021 tests/bench/evaluator.rs -L native=target/lib -l static=forkhemit -o target/bench-evaluator
-	target/bench-evaluator
-	rustc -O --edition 2021 tests/bench/columns.rs -L native=target/lib -l static=forkhemit -o target/bench-columns
-	target/bench-columns
+	cargo build --quiet --profile plain --bin bench-evaluator --bin bench-columns --offline --locked --manifest-path tests/Cargo.toml
+	tests/target/plain/bench-evaluator
+	tests/target/plain/bench-columns
 
 checktime:
 	tests/checktime.sh
@@ -197,6 +196,10 @@ checktime:
 pictures:
 	cargo build --quiet --release --bin pictures --offline --locked --manifest-path tests/Cargo.toml
 	tests/target/release/pictures .
+
+docs:
+	cargo build --quiet --release --bin check --offline --locked --manifest-path tests/Cargo.toml
+	tests/target/release/check docs crates
 
 statements:
 	cargo build --quiet --release --bin check --offline --locked --manifest-path tests/Cargo.toml

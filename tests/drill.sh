@@ -22,7 +22,7 @@ trial() { # WHAT COMMAND..
     fi
 }
 
-# Random tables in a folder: so many rows of up to three literals, and a budget.
+# Random tables in a folder: rows of up to three literals, as many as asked for, and a budget.
 tables() { # FOLDER SEED N LEFT RIGHT PUBLIC BUDGET
     mkdir -p "$1"
     python3 - "$@" <<'END'

@@ -78,7 +78,7 @@ if [ "$failed" -gt 0 ]; then end; fi
 trial 'everybody can read all of it' prints '' find "$prefix" ! -type l ! -perm -o=r -o -type d ! -perm -o=x
 relative() { ! make --silent install PREFIX=prefix && [ ! -e prefix ]; }
 trial 'a PREFIX that is no whole path is turned back' relative
-# A path with a blank, or with what a shell takes otherwise, is turned back whole: nothing is made, and nothing taken away.
+# A path with a blank, or with what a shell takes otherwise, is refused whole: nothing is made, and nothing taken away.
 mkdir -p "$room/half/share/doc/forkhemit" "$room/half way"
 touch "$room/half/share/doc/forkhemit/kept"
 kept() { ! "$@" && [ -e "$room/half/share/doc/forkhemit/kept" ] && [ -z "$(ls -A "$room/half way")" ]; }

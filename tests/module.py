@@ -33,7 +33,7 @@ def expect(what, found, wanted=True):
 
 
 def refusal(number, function, *arguments):
-    """The call is turned back with this number and its sentence."""
+    """The call is refused with this number and its sentence."""
     try:
         function(*arguments)
         found = None

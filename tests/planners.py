@@ -705,7 +705,7 @@ def desk_damaged(number):
 
 
 def desk_arguments():
-    """A bad budget, files that are turned back and output that cannot be written end with a status."""
+    """A bad budget, refused files and output that cannot be written end with a status."""
     with Folder() as folder:
         for budget in ("abc", "-5", "", " 9", "9 ", "+9", "9x", "0x9", str(2**64), "9" * 200, "\u0669"):
             said = f"budget '{budget}': refused 8: a number is not digits alone, up to 18446744073709551615, or its line is malformed\n"

@@ -1,20 +1,18 @@
-//! Times a table by columns and back beside the same work in plain Rust, with the same checks: five steps of masks, in the proved code's form,
-//! in which the words of a pair are 16 apart in every step, and in the textbook's, which exchanges bits in place.
-//! Linked with the library that `make lib` writes. Times are the processor's.
+//! Times a table by columns and back beside the same work in plain Rust, with the same checks: five steps of masks, in the proved code's
+//! form, in which the words of a pair are 16 apart in every step, and in the textbook's, which exchanges bits in place. Linked with the
+//! library that `make lib` writes. Times are the processor's.
 
-#[allow(dead_code)]
-#[path = "../src/clock.rs"]
-mod clock;
+#[path = "../interface/library.rs"]
+mod library;
 
+use forkhemit_tests::clock;
+use forkhemit_tests::random::Random;
+use library::*;
 use std::hint::black_box;
-
-extern "C" {
-    fn forkhemit_columns(n: u64, rows: u64, table: *const u32, words: usize, planes: *mut u32, space: usize) -> u8;
-    fn forkhemit_rows(n: u64, rows: u64, planes: *const u32, space: usize, table: *mut u32, words: usize) -> u8;
-}
 
 const TABLES: usize = 200;
 const RUNS: usize = 101;
+const SEED: u64 = 1_313_500;
 
 /// The columns of 32 words.
 type Turn = fn([u32; 32]) -> [u32; 32];
@@ -126,14 +124,6 @@ fn proved_rows(n: usize, rows: usize, planes: &[u32], table: &mut [u32]) -> u8 {
     unsafe { forkhemit_rows(n as u64, rows as u64, planes.as_ptr(), planes.len(), table.as_mut_ptr(), table.len()) }
 }
 
-/// Numbers that look random.
-fn xorshift(state: &mut u64) -> u32 {
-    *state ^= *state << 13;
-    *state ^= *state >> 7;
-    *state ^= *state << 17;
-    (*state >> 16) as u32
-}
-
 /// The three ways side by side, on the same words: what each writes, and its median time in nanoseconds.
 fn timed(
     from: &[Vec<u32>],
@@ -155,8 +145,8 @@ fn timed(
 
 /// Both ways for a size.
 fn columns(n: usize, rows: usize) {
-    let mut state = 0x2545_f491_4f6c_dd1d;
-    let table = |_| (0..2 * rows).map(|_| xorshift(&mut state) & below(n)).collect();
+    let random = &mut Random::new(SEED);
+    let table = |_| (0..2 * rows).map(|_| random.number() as u32 & below(n)).collect();
     let tables: Vec<Vec<u32>> = (0..TABLES).map(table).collect();
     let (planes, there) = timed(
         &tables,

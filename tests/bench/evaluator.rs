@@ -1,32 +1,17 @@
-//! Times the proved evaluator beside its own gate loop in Rust without checks, beside other forms of that loop, and beside two passes
-//! that judge too, on circuits of 200,000 gates and on the largest circuit of the giant step, of n = 32 and m = 384.
-//! Linked with the library that `make lib` writes.
+//! Times the proved evaluator beside its own gate loop in Rust without checks, beside other forms of that loop, and beside two passes that
+//! judge too, on circuits of 200,000 gates and on the largest circuit of the giant step, of n = 32 and m = 384. All times are the processor's. Linked with the library
+//! that `make lib` writes.
 
-use std::time::{Duration, Instant};
+#[path = "../interface/library.rs"]
+mod library;
+
+use forkhemit_tests::clock::{self, median};
+use forkhemit_tests::random::Random;
+use library::*;
 
 const INPUTS: usize = 2_000;
 const GATES: usize = 200_000;
 const RUNS: usize = 1_000;
-
-extern "C" {
-    fn forkhemit_generate(
-        n: u64,
-        left_rows: u64,
-        right_rows: u64,
-        public_rows: u64,
-        gates: *mut u32,
-        gate_words: usize,
-        count: &mut [u64; 1],
-    ) -> u8;
-    fn forkhemit_evaluate(
-        gates: *const u32,
-        gate_words: usize,
-        inputs: *const u8,
-        input_bytes: usize,
-        wires: *mut u8,
-        wire_bytes: usize,
-    ) -> u8;
-}
 
 /// The library's evaluator.
 fn proved(gates: &[u32], inputs: &[u8], wires: &mut [u8]) -> u8 {
@@ -107,28 +92,14 @@ fn gates_alone(gates: &[u32], inputs: &[u8], wires: &mut [u8]) {
     }
 }
 
-/// A fixed sequence of numbers (splitmix64).
-struct Numbers(u64);
-
-impl Numbers {
-    /// A random number below a limit (SplitMix64).
-    fn below(&mut self, limit: u64) -> u64 {
-        self.0 = self.0.wrapping_add(0x9e37_79b9_7f4a_7c15);
-        let mut z = self.0;
-        z = (z ^ (z >> 30)).wrapping_mul(0xbf58_476d_1ce4_e5b9);
-        z = (z ^ (z >> 27)).wrapping_mul(0x94d0_49bb_1331_11eb);
-        (z ^ (z >> 31)) % limit
-    }
-}
-
 /// Gates of these kinds, over and over or at random, that read any of the `near` wires before them.
-fn circuit(kinds: &[u32], at_random: bool, near: u64, numbers: &mut Numbers) -> Vec<u32> {
+fn circuit(kinds: &[u32], at_random: bool, near: usize, random: &mut Random) -> Vec<u32> {
     let mut words = vec![];
     for g in 0..GATES {
-        let wire = (INPUTS + g) as u64;
-        let kind = if at_random { numbers.below(3) as u32 } else { kinds[g % kinds.len()] };
-        let a = wire - 1 - numbers.below(near.min(wire));
-        let b = if kind == 2 { 0 } else { wire - 1 - numbers.below(near.min(wire)) };
+        let wire = INPUTS + g;
+        let kind = if at_random { random.below(3) as u32 } else { kinds[g % kinds.len()] };
+        let a = wire - 1 - random.below(near.min(wire));
+        let b = if kind == 2 { 0 } else { wire - 1 - random.below(near.min(wire)) };
         words.extend([kind, a as u32, b as u32]);
     }
     words
@@ -145,30 +116,17 @@ fn largest() -> (Vec<u32>, usize) {
     (words, 2 * n * m + 3 * n * n + 3 * n + 3)
 }
 
-/// How long a run takes.
-fn timed(mut run: impl FnMut()) -> Duration {
-    let start = Instant::now();
-    run();
-    start.elapsed()
-}
-
-/// The median, in microseconds.
-fn median(mut times: Vec<Duration>) -> f64 {
-    times.sort();
-    times[times.len() / 2].as_secs_f64() * 1e6
-}
-
 /// Times all forms on a circuit with random inputs, side by side, and prints a line.
-fn compared(label: &str, gates: &[u32], inputs: usize, numbers: &mut Numbers) {
-    let inputs: Vec<u8> = (0..inputs).map(|_| numbers.below(2) as u8).collect();
+fn compared(label: &str, gates: &[u32], inputs: usize, random: &mut Random) {
+    let inputs: Vec<u8> = (0..inputs).map(|_| random.below(2) as u8).collect();
     let mut wires = vec![vec![7; inputs.len() + gates.len() / 3]; 5];
     let mut times = vec![vec![]; 5];
     for _ in 0..RUNS {
-        times[0].push(timed(|| assert_eq!(proved(gates, &inputs, &mut wires[0]), 0)));
-        times[1].push(timed(|| by_a_shift(gates, &inputs, &mut wires[1])));
-        times[2].push(timed(|| gates_alone(gates, &inputs, &mut wires[2])));
-        times[3].push(timed(|| assert!(same_passes(gates, &inputs, &mut wires[3]))));
-        times[4].push(timed(|| same_loop(gates, &inputs, &mut wires[4])));
+        times[0].push(clock::of(|| assert_eq!(proved(gates, &inputs, &mut wires[0]), 0)).1);
+        times[1].push(clock::of(|| by_a_shift(gates, &inputs, &mut wires[1])).1);
+        times[2].push(clock::of(|| gates_alone(gates, &inputs, &mut wires[2])).1);
+        times[3].push(clock::of(|| assert!(same_passes(gates, &inputs, &mut wires[3]))).1);
+        times[4].push(clock::of(|| same_loop(gates, &inputs, &mut wires[4])).1);
     }
     assert!(wires.iter().all(|filled| filled == &wires[0]), "all fill the same wires");
     let [p, l, g, s, t] = [0, 1, 2, 3, 4].map(|k| median(times[k].clone()));
@@ -178,22 +136,20 @@ fn compared(label: &str, gates: &[u32], inputs: usize, numbers: &mut Numbers) {
 fn main() {
     // The literal cell of the giant step's circuit, as a sequence of kinds.
     let cell = [0, 0, 1, 0, 0, 1, 0, 0, 0, 1, 0, 0];
-    let mut numbers = Numbers(2026);
-    println!(
-        "time of the proved evaluator on 200,000 gates, the other's being 1 (median of {RUNS} runs side by side)"
-    );
+    let mut random = Random::new(2026);
+    println!("time of the proved evaluator on 200,000 gates, the other's being 1 (median of {RUNS} runs side by side)");
     println!(
         "{:<30}{:>8}{:>11}{:>12}{:>13}{:>13}",
         "", "proved", "same loop", "by a shift", "gates alone", "same passes"
     );
     for (label, at_random, near) in [
-        ("kinds at random, any wire", true, u64::MAX),
+        ("kinds at random, any wire", true, usize::MAX),
         ("kinds at random, near wires", true, 200),
         ("a cell's kinds, near wires", false, 200),
     ] {
-        let gates = circuit(&cell, at_random, near, &mut numbers);
-        compared(label, &gates, INPUTS, &mut numbers);
+        let gates = circuit(&cell, at_random, near, &mut random);
+        compared(label, &gates, INPUTS, &mut random);
     }
     let (gates, inputs) = largest();
-    compared(&format!("n = 32, m = 384: {} gates", gates.len() / 3), &gates, inputs, &mut numbers);
+    compared(&format!("n = 32, m = 384: {} gates", gates.len() / 3), &gates, inputs, &mut random);
 }

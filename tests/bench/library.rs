@@ -1,7 +1,9 @@
 //! Times the library as a host calls it: the giant step, runs in one call and in many, free literals counted, the reader, the game, the
-//! watch page and the writer beside plain Rust, and the making of circuits.
-//! All times are the processor's. Linked with the archive that `make lib` writes.
+//! watch page and the writer beside plain Rust, and the making of circuits. All times are the processor's. Linked with the archive that
+//! `make lib` writes.
 
+#[path = "../interface/library.rs"]
+mod library;
 mod plain;
 
 use forkhemit_tests::bristol::Circuit;
@@ -11,41 +13,7 @@ use forkhemit_tests::memory;
 use forkhemit_tests::model::{self, Row, Size};
 use forkhemit_tests::random::Random;
 use forkhemit_tests::{layout, tables, wires};
-
-#[rustfmt::skip]
-#[link(name = "forkhemit", kind = "static")]
-extern "C" {
-    fn forkhemit_read_tables(left_text: *const u8, left_text_length: usize, right_text: *const u8, right_text_length: usize,
-        public_text: *const u8, public_text_length: usize, left: *mut u32, left_length: usize, right: *mut u32, right_length: usize,
-        public_table: *mut u32, public_length: usize, sizes: &mut [u64; 4]) -> u8;
-    fn forkhemit_step(n: u64, left_rows: u64, right_rows: u64, public_rows: u64, left: *const u32, left_length: usize,
-        right: *const u32, right_length: usize, public_table: *const u32, public_length: usize, run: &mut [u32; 101]) -> u8;
-    fn forkhemit_solve(n: u64, left_rows: u64, right_rows: u64, public_rows: u64, left: *const u32, left_length: usize,
-        right: *const u32, right_length: usize, public_table: *const u32, public_length: usize, budget: u64, answer: &mut [u64; 3]) -> u8;
-    fn forkhemit_count_free(n: u64, left_rows: u64, right_rows: u64, public_rows: u64, left: *const u32, left_length: usize,
-        right: *const u32, right_length: usize, public_table: *const u32, public_length: usize, run: &[u32; 101],
-        counts: *mut u8, counts_length: usize) -> u8;
-    fn forkhemit_solve_indexed(n: u64, left_rows: u64, right_rows: u64, public_rows: u64, left: *const u32, left_length: usize,
-        right: *const u32, right_length: usize, public_table: *const u32, public_length: usize, budget: u64, answer: &mut [u64; 3]) -> u8;
-    fn forkhemit_index(n: u64, left_rows: u64, right_rows: u64, public_rows: u64, left: *const u32, left_length: usize,
-        right: *const u32, right_length: usize, public_table: *const u32, public_length: usize, index: &mut [u64; 384]) -> u8;
-    fn forkhemit_unsatisfied(n: u64, left_rows: u64, right_rows: u64, public_rows: u64, left: *const u32, left_length: usize,
-        right: *const u32, right_length: usize, public_table: *const u32, public_length: usize, run: &[u32; 101],
-        number: &mut [u64; 1]) -> u8;
-    fn forkhemit_step_indexed(n: u64, left_rows: u64, right_rows: u64, public_rows: u64, left: *const u32, left_length: usize,
-        right: *const u32, right_length: usize, public_table: *const u32, public_length: usize, index: &[u64; 384],
-        run: &mut [u32; 101], number: &mut [u64; 1]) -> u8;
-    fn forkhemit_continue(n: u64, left_rows: u64, right_rows: u64, public_rows: u64, left: *const u32, left_length: usize,
-        right: *const u32, right_length: usize, public_table: *const u32, public_length: usize, times: u64, run: &mut [u32; 101],
-        continued: &mut [u64; 2]) -> u8;
-    fn forkhemit_game(text: *const u8, text_length: usize, answer: &mut [u64; 3]) -> u8;
-    fn forkhemit_page(run: &[u32; 101], pilots: u64, watches: u64, page: *mut u8, page_length: usize) -> u8;
-    fn forkhemit_read_page(n: u64, pilots: u64, watches: u64, page: *const u8, page_length: usize, model: &mut [u64; 1]) -> u8;
-    fn forkhemit_generate(n: u64, left_rows: u64, right_rows: u64, public_rows: u64, gates: *mut u32, gates_length: usize,
-        count: &mut [u64; 1]) -> u8;
-    fn forkhemit_write_lines(n: u64, left_rows: u64, right_rows: u64, public_rows: u64, gates: *const u32, gates_length: usize,
-        line: u64, bytes: *mut u8, bytes_length: usize, written: &mut [u64; 2]) -> u8;
-}
+use library::*;
 
 const RUNS: usize = 25;
 const TABLES: usize = 200;
@@ -53,7 +21,7 @@ const SEED: u64 = 4_300;
 
 // ---- The giant step
 
-/// Rows of three different variables, and padding behind them; as words of three tables.
+/// Rows of three different variables, and padding after them; as words of three tables.
 fn hard(n: usize, m: usize, padding: usize, seed: u64) -> [Vec<u32>; 3] {
     let random = &mut Random::new(seed);
     let mut rows: Vec<Row> = (0..m - padding).map(|_| tables::strict(n, 3, random)).collect();
@@ -64,7 +32,7 @@ fn hard(n: usize, m: usize, padding: usize, seed: u64) -> [Vec<u32>; 3] {
 
 /// A budgeted run of the library.
 #[rustfmt::skip]
-type Solve = unsafe extern "C" fn(u64, u64, u64, u64, *const u32, usize, *const u32, usize, *const u32, usize, u64, &mut [u64; 3]) -> u8;
+type Solve = unsafe extern "C" fn(u64, u64, u64, u64, *const u32, usize, *const u32, usize, *const u32, usize, u64, *mut [u64; 3]) -> u8;
 
 /// The library's run by the scan, its budget the greatest.
 fn solve(n: usize, tables: &[Vec<u32>; 3]) -> [u64; 3] {
@@ -173,7 +141,7 @@ fn single_steps(n: usize, m: usize, padding: usize) {
 #[derive(Clone, Copy)]
 enum Calls {
     AtOnce,
-    /// So many steps a call.
+    /// This many steps a call.
     Continued(u64),
     Steps,
     /// With an index that is lent to each.
@@ -214,7 +182,7 @@ fn made_of(calls: Calls, n: usize, tables: &[Vec<u32>; 3]) -> [u64; 2] {
     [steps, run[1].into()]
 }
 
-/// Whole runs in one call, by so many steps a call, and by single steps, side by side.
+/// Whole runs in one call, by the given number of steps a call, and by single steps, side by side.
 fn in_calls(n: usize, m: usize) {
     let all: Vec<[Vec<u32>; 3]> = (0..TABLES).map(|k| hard(n, m, 0, SEED + k as u64)).collect();
     let by = |times: u64| (format!("{times} steps a call"), Calls::Continued(times));

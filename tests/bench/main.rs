@@ -6,16 +6,15 @@ use forkhemit_tests::{clock, layout, published};
 use std::fs;
 use std::path::{Path, PathBuf};
 use std::process::{Command, Stdio};
-use std::time::Instant;
 
 const RUNS: usize = 30;
 /// Solvers of Debian's packages of the same names, with what keeps them quiet.
 const SOLVERS: [(&str, &[&str]); 3] = [("cadical", &["-q"]), ("picosat", &[]), ("minisat", &["-verb=0"])];
 
-/// Something that is timed: a label, and how to run it once, which gives the processor time in microseconds.
+/// Something that is timed: a label, and how to run it once, which gives its time from start to end and of the processor, in microseconds.
 struct Contender {
     label: String,
-    run: Box<dyn Fn() -> std::io::Result<f64>>,
+    run: Box<dyn Fn() -> std::io::Result<[f64; 2]>>,
 }
 
 /// The times of each contender in microseconds, from start to end and of the processor, their runs side by side: one of each, then
@@ -25,9 +24,8 @@ fn timed(contenders: &[Contender]) -> std::io::Result<Vec<[Vec<f64>; 2]>> {
     for run in 0..RUNS {
         for place in [0, 1, 3, 2] {
             let turn = (run + place) % contenders.len();
-            let start = Instant::now();
-            let processor = (contenders[turn].run)()?;
-            times[turn][0].push(start.elapsed().as_secs_f64() * 1e6);
+            let [whole, processor] = (contenders[turn].run)()?;
+            times[turn][0].push(whole);
             times[turn][1].push(processor);
         }
     }
@@ -64,7 +62,7 @@ fn process(label: &str, folder: &Path, program: &Path, arguments: &[&str], input
             .stdin(fs::File::open(&input)?)
             .stdout(Stdio::null())
             .stderr(Stdio::null());
-        clock::of_process(&command.spawn()?)
+        clock::of_run(&mut command)
     };
     Contender { label: label.into(), run: Box::new(run) }
 }
@@ -105,7 +103,7 @@ fn solvers(pair: &Path, others: &[PathBuf], room: &Path) -> std::io::Result<()> 
     Ok(())
 }
 
-/// Where a solver stands. The search is done once and not timed, as the pair program is not searched for either.
+/// Where a solver is. The search is done once and not timed, as the pair program is not searched for either.
 fn find(solver: &str) -> Option<PathBuf> {
     std::env::split_paths(&std::env::var_os("PATH")?).map(|folder| folder.join(solver)).find(|path| path.is_file())
 }

@@ -1,6 +1,6 @@
 //! What the library is timed beside: the same work in plain Rust, written for speed and not proved.
 
-/// T, F and the chosen variable, as they stood before a choice.
+/// T, F and the chosen variable, as they were before a choice.
 type Level = (u32, u32, u32);
 
 /// T and F after a level is taken back: its variable becomes false.
@@ -202,7 +202,7 @@ fn decimal(mut number: usize, text: &mut Vec<u8>) {
     text.extend(&digits[at..]);
 }
 
-/// What stands before the clauses: n, the number of rows, and where the header's line ends; or the refusal's number.
+/// What comes before the clauses: n, the number of rows, and where the header's line ends; or the refusal's number.
 #[inline(always)]
 fn sizes(text: &[u8]) -> Result<(i64, i64, usize), u8> {
     if text.len() > 65_536 {
@@ -264,7 +264,7 @@ pub fn read(text: &[u8], words: &mut Vec<u32>) -> Result<u8, u8> {
     Ok(n as u8)
 }
 
-/// The number at a place and the place behind it; one past every limit is held at a thousand.
+/// The number at a place and the place after it; one past every limit is held at a thousand.
 fn number(text: &[u8], mut at: usize) -> Option<(i64, usize)> {
     let minus = text.get(at) == Some(&b'-');
     at += usize::from(minus);

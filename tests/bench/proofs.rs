@@ -1,18 +1,15 @@
 //! Times the check of proofs beside the same check in plain Rust: the dearest text that was found, and what cadical writes of random tables.
 //! All times are the processor's. Linked with the archive that `make lib` writes.
 
+#[path = "../interface/library.rs"]
+mod library;
+
 use forkhemit_tests::clock::{self, median};
 use forkhemit_tests::model::{Row, Size};
 use forkhemit_tests::proofs;
 use forkhemit_tests::random::Random;
 use forkhemit_tests::{layout, memory, tables};
-
-#[rustfmt::skip]
-#[link(name = "forkhemit", kind = "static")]
-extern "C" {
-    fn forkhemit_check_proof(n: u64, left_rows: u64, right_rows: u64, public_rows: u64, left: *const u32, left_length: usize,
-        right: *const u32, right_length: usize, public_table: *const u32, public_length: usize, text: *const u8, text_length: usize) -> u8;
-}
+use library::*;
 
 const RUNS: usize = 25;
 const TABLES: usize = 200;

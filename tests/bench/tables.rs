@@ -9,7 +9,6 @@ use forkhemit_tests::{layout, tables};
 use std::fs;
 use std::path::{Path, PathBuf};
 use std::process::{Command, Stdio};
-use std::time::Instant;
 
 const TABLES: usize = 200;
 const RUNS: usize = 4;
@@ -17,7 +16,7 @@ const SEED: u64 = 4_300;
 /// Solvers of Debian's packages of the same names, with what keeps them quiet.
 const SOLVERS: [(&str, &[&str]); 3] = [("cadical", &["-q"]), ("picosat", &[]), ("minisat", &["-verb=0"])];
 
-/// A program, where it stands, and its arguments.
+/// A program, where it is, and its arguments.
 type Contender = (String, PathBuf, Vec<&'static str>);
 
 /// The pair program, then the solvers, each by its whole path.
@@ -37,9 +36,7 @@ fn time((_, program, arguments): &Contender, folder: &Path) -> std::io::Result<[
     let input = fs::File::open(folder.join("budget"))?;
     let mut command = Command::new(program);
     command.args(arguments).current_dir(folder).stdin(input).stdout(Stdio::null()).stderr(Stdio::null());
-    let start = Instant::now();
-    let processor = clock::of_process(&command.spawn()?)?;
-    Ok([start.elapsed().as_secs_f64() * 1e6, processor])
+    clock::of_run(&mut command)
 }
 
 /// The least times of each contender on one table, their runs side by side.

@@ -2,27 +2,20 @@
 //! tables, on the public files and on rosters. Use: bench-weighted DIMACS
 //! Linked with the archive that `make lib` writes.
 
+#[path = "../interface/library.rs"]
+mod library;
+
 use forkhemit_tests::clock::{self, median};
 use forkhemit_tests::memory;
 use forkhemit_tests::model::{Row, Size};
 use forkhemit_tests::random::Random;
 use forkhemit_tests::{published, tables};
+use library::*;
 use std::path::Path;
 
 /// A budgeted run of the library.
 #[rustfmt::skip]
-type Solve = unsafe extern "C" fn(u64, u64, u64, u64, *const u32, usize, *const u32, usize, *const u32, usize, u64, &mut [u64; 3]) -> u8;
-
-#[rustfmt::skip]
-#[link(name = "forkhemit", kind = "static")]
-extern "C" {
-    fn forkhemit_solve(n: u64, left_rows: u64, right_rows: u64, public_rows: u64, left: *const u32, left_length: usize,
-        right: *const u32, right_length: usize, public_table: *const u32, public_length: usize, budget: u64, answer: &mut [u64; 3]) -> u8;
-    fn forkhemit_solve_indexed(n: u64, left_rows: u64, right_rows: u64, public_rows: u64, left: *const u32, left_length: usize,
-        right: *const u32, right_length: usize, public_table: *const u32, public_length: usize, budget: u64, answer: &mut [u64; 3]) -> u8;
-    fn forkhemit_solve_weighted(n: u64, left_rows: u64, right_rows: u64, public_rows: u64, left: *const u32, left_length: usize,
-        right: *const u32, right_length: usize, public_table: *const u32, public_length: usize, budget: u64, answer: &mut [u64; 3]) -> u8;
-}
+type Solve = unsafe extern "C" fn(u64, u64, u64, u64, *const u32, usize, *const u32, usize, *const u32, usize, u64, *mut [u64; 3]) -> u8;
 
 const RUNS: usize = 25;
 const TABLES: usize = 200;
@@ -113,8 +106,8 @@ fn roster(pilots: i64, watches: i64, halves: i64) -> Vec<Row> {
     rows
 }
 
-/// Rosters of eight pilots and four watches with so many wishes that only their desks know: two pilots who are not to stand a watch
-/// together, or three duties of which one is to be.
+/// Rosters of eight pilots and four watches with the given number of wishes that only their desks know: two pilots who are not to stand a
+/// watch together, or three duties of which one is to be.
 fn wished(wishes: usize) -> Vec<Tables> {
     let table = |k: usize| {
         let random = &mut Random::new(SEED + k as u64);

@@ -2,34 +2,25 @@
 //! `forkhemit_repeat`, and the program over the largest tables that it serves beside the pair program. Use: bench-whole WHOLE PAIR
 //! Linked with the archive that `make lib` writes.
 
+#[path = "../interface/library.rs"]
+mod library;
+
 use forkhemit_tests::clock::{self, median};
 use forkhemit_tests::model::{Row, Run, Size};
 use forkhemit_tests::process::NAMES;
 use forkhemit_tests::random::Random;
 use forkhemit_tests::{layout, memory, tables};
+use library::*;
 use std::fs;
 use std::io::Write;
 use std::path::Path;
 use std::process::{Command, Stdio};
 
-#[rustfmt::skip]
-#[link(name = "forkhemit", kind = "static")]
-extern "C" {
-    fn forkhemit_repeat(n: u64, left_rows: u64, right_rows: u64, public_rows: u64, left: *const u32, left_length: usize,
-        right: *const u32, right_length: usize, public_table: *const u32, public_length: usize, times: u64, gates: *mut u32,
-        gates_length: usize, bytes: *mut u8, bytes_length: usize, wires: *mut u8, wires_length: usize, run: *mut u32,
-        repeated: &mut [u64; 2]) -> u8;
-    fn forkhemit_solve_whole(n: u64, left_rows: u64, right_rows: u64, public_rows: u64, left: *const u32, left_length: usize,
-        right: *const u32, right_length: usize, public_table: *const u32, public_length: usize, budget: u64, gates: *mut u32,
-        gates_length: usize, bytes: *mut u8, bytes_length: usize, wires: *mut u8, wires_length: usize,
-        answer: &mut [u64; 3]) -> u8;
-}
-
 const RUNS: usize = 25;
 const SEED: u64 = 1_111_000;
 const MOST: u64 = 65_535;
 
-/// Tables and the memory that their circuit wants.
+/// Tables and the memory that their circuit needs.
 struct Case {
     size: Size,
     words: [Vec<u32>; 3],
@@ -57,7 +48,7 @@ impl Case {
         (case, rows)
     }
 
-    /// So many applications, whatever the marks say.
+    /// As many applications as the budget, whatever the marks say.
     #[rustfmt::skip]
     fn whole(&mut self, budget: u64) {
         let Size { n, left, right, public } = self.size;
@@ -79,7 +70,7 @@ impl Case {
         // Each buffer is lent for the call, with its length.
         let number = unsafe { forkhemit_repeat(n as u64, left as u64, right as u64, public as u64, a.as_ptr(), a.len(), b.as_ptr(), b.len(),
             c.as_ptr(), c.len(), times, self.gates.as_mut_ptr(), self.gates.len(), self.bytes.as_mut_ptr(), self.bytes.len(),
-            self.wires.as_mut_ptr(), self.wires.len(), run.as_mut_ptr(), &mut repeated) };
+            self.wires.as_mut_ptr(), self.wires.len(), run.as_mut_ptr().cast(), &mut repeated) };
         assert_eq!(number, 0, "the tables are taken");
         repeated[0]
     }

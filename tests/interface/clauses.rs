@@ -1,5 +1,5 @@
-//! The clause of a row by its own bytes: texts written by hand with a mark before and behind each clause, and random ones written clause by
-//! clause. Where a clause stands is known from how its text was made; no reader is asked. Its place is asked for and its bytes, in buffers of
+//! The clause of a row by its own bytes: texts written by hand with a mark before and after each clause, and random ones written clause by
+//! clause. Where a clause is, is known from how its text was made; no reader is asked. Its place is asked for and its bytes, in buffers of
 //! just their length, longer ones and a byte shorter. The bytes handed back are read again.
 
 use crate::calls::{numbers, Call, Function, Lent};
@@ -14,7 +14,7 @@ use forkhemit_tests::{layout, tables};
 use std::ops::Range;
 
 const SEED: u64 = 717_000;
-/// How many variables, and how many rows in the three tables; with so many pairs of random texts each.
+/// How many variables, and how many rows in the three tables; with how many pairs of random texts each.
 #[rustfmt::skip]
 const SIZES: [([usize; 4], usize); 9] = [
     ([1, 1, 1, 0], 100), ([2, 3, 2, 1], 400), ([3, 1, 6, 0], 300), ([5, 7, 4, 2], 300), ([9, 12, 15, 3], 120), ([32, 9, 9, 0], 120), ([20, 40, 1, 128], 12),
@@ -23,7 +23,7 @@ const SIZES: [([usize; 4], usize); 9] = [
 /// How far a run is followed whose steps name clauses.
 const STEPS: usize = 60;
 
-/// A clause as it stands in a text: its literals as they were written, and the bytes from the first one through the 0.
+/// A clause as it is in a text: its literals as they were written, and the bytes from the first one through the 0.
 type Clause = (Row, Range<usize>);
 
 /// A station's text and its clauses.
@@ -35,7 +35,7 @@ struct Made {
 
 // ---- Texts written by hand
 
-/// `<` stands before each clause and `>` behind it; the text is without these marks.
+/// `<` is before each clause and `>` after it; the text is without these marks.
 struct Written {
     what: &'static str,
     n: usize,
@@ -65,7 +65,7 @@ const WRITTEN: &[Written] = &[
     Written { what: "the highest variables", n: 32, text: "p cnf 32 2\n<32 -31 0>\n<-32 32 0>\n", rows: &[&[32, -31], &[32, -32]] },
 ];
 
-/// A text without its marks, and where they stood.
+/// A text without its marks, and where they were.
 fn unmarked(marked: &[u8], rows: &[&[i64]]) -> Made {
     let (mut text, mut starts, mut ends) = (vec![], vec![], vec![]);
     for &byte in marked {
@@ -83,7 +83,7 @@ fn unmarked(marked: &[u8], rows: &[&[i64]]) -> Made {
 
 // ---- Texts written clause by clause
 
-/// How a text is spelled: which bytes stand between numbers, how many at most, and at one in how many starts of a line a remark.
+/// How a text is spelled: which bytes are between numbers, how many at most, and at one in how many starts of a line a remark.
 struct Spelling {
     separators: &'static [u8],
     most: usize,
@@ -109,7 +109,7 @@ impl Spelling {
         }
     }
 
-    /// At least so many separators, and remarks among them.
+    /// At least the given number of separators, and remarks among them.
     fn gap(&self, least: usize, text: &mut Vec<u8>, random: &mut Random) {
         for _ in 0..random.between(least, self.most) {
             text.push(*random.pick(self.separators));
@@ -117,7 +117,7 @@ impl Spelling {
         }
     }
 
-    /// The header, and what may stand before it and behind.
+    /// The header, and what may come before it and after.
     fn header(&self, n: usize, count: usize, text: &mut Vec<u8>, random: &mut Random) {
         self.remarks(text, random);
         text.push(b'p');
@@ -154,7 +154,7 @@ impl Spelling {
     }
 }
 
-/// So many clauses: empty ones, ones of all widths, literals more than once, padding, and again one that stands there already.
+/// Clauses, as many as asked for: empty ones, ones of all widths, literals more than once, padding, and again one that is there already.
 fn clauses(n: usize, count: usize, random: &mut Random) -> Vec<Row> {
     let mut rows: Vec<Row> = vec![];
     for k in 0..count {
@@ -193,7 +193,7 @@ fn words(row: &Row) -> [u32; 2] {
     [words[0], words[1]]
 }
 
-/// The tables that the library reads from three texts of so many rows.
+/// The tables that the library reads from three texts of the given number of rows.
 fn read(texts: [&[u8]; 3], counts: [usize; 3], guard: usize) -> Result<Vec<Lent>, String> {
     let texts = texts.map(|text| Lent::Bytes(text.to_vec()));
     let room = counts.map(|count| Lent::Words(vec![7; 2 * count]));
@@ -247,7 +247,7 @@ impl<'a> Desk<'a> {
         Ok(given.map(|given| [0, 1, 2].map(|k| given[0].numbers()[k])))
     }
 
-    /// Asks for its bytes, so many being lent: they stand in front and all others are as they were; or the refusal.
+    /// Asks for its bytes, the given number being lent: they are in front and all others are as they were; or the refusal.
     fn bytes(&self, number: u64, room: usize) -> Result<Result<Vec<u8>, u8>, String> {
         let room = [Lent::Bytes(vec![7; room]), Lent::Numbers(vec![7])];
         let given = match self.call(Function::Excerpt, number, &room)? {
@@ -282,8 +282,8 @@ impl<'a> Desk<'a> {
         (station, &self.texts[station].clauses[number - 1 - station * self.size.left])
     }
 
-    /// The bytes of a row's clause, where they stand as they were written, or none where the row has other words now; read again as a text
-    /// of one clause they give the row's words.
+    /// The bytes of a row's clause, where they are as they were written, or none where the row has other words now; read again as a text of
+    /// one clause they give the row's words.
     fn clause(&self, number: usize) -> Result<&[u8], String> {
         let (station, (row, place)) = self.written(number);
         let same = self.words[number - 1] == words(row);
@@ -411,7 +411,7 @@ fn desks<'a>(
     pairs.filter_map(desk).collect()
 }
 
-/// What stands before and behind the byte that fills a text up to its length, marked as the texts above, and the rows.
+/// What is before and after the byte that fills a text up to its length, marked as the texts above, and the rows.
 type Filled = (&'static str, u8, &'static str, &'static [&'static [i64]]);
 
 #[rustfmt::skip]
@@ -427,8 +427,8 @@ const FILLED: &[Filled] = &[
     ("p cnf 1 1\n<1 0>\nc", b'1', "", &[&[1]]),
 ];
 
-/// Texts as long as may be and a byte shorter, filled up before clauses, between them, inside them and behind; a byte longer they are refused
-/// with 5. For a memory checker two of them.
+/// Texts as long as may be and a byte shorter, filled up before clauses, between them, inside them and after; a byte longer they are
+/// refused with 5. For a memory checker two of them.
 pub fn longest(circuits: &Circuits, guard: usize) -> Tally {
     let ledger = Ledger::default();
     for (start, filler, end, rows) in FILLED.iter().filter(|(_, filler, ..)| guard > 0 || b"\nc".contains(filler)) {
@@ -465,7 +465,7 @@ fn drawn(n: usize, rows: &[Row], random: &mut Random) -> Made {
     }
 }
 
-/// n, two random texts of so many clauses, and public rows.
+/// n, two random texts of the given number of clauses, and public rows.
 fn pair([n, left, right, public]: [usize; 4], random: &mut Random) -> (usize, [Made; 2], Vec<Row>) {
     let texts = [left, right].map(|count| {
         let rows = clauses(n, count, random);

@@ -45,7 +45,7 @@ fn other(call: &Call, expected: Option<u8>, circuits: &Circuits, guard: usize) -
 
 // ---- Every size
 
-/// A table to its planes and back, and those planes to a table and back again, in buffers with so many words more than are needed.
+/// A table to its planes and back, and those planes to a table and back again, in buffers with the given number of spare words.
 fn round(
     n: usize,
     rows: usize,
@@ -129,7 +129,7 @@ fn loaded(n: usize, rows: usize, circuits: &Circuits, guard: usize, random: &mut
 
 // ---- Every bit
 
-/// Each bit of the words that are read changed in turn, and of two words behind them; both ways.
+/// Each bit of the words that are read changed in turn, and of two words after them; both ways.
 pub fn bits(circuits: &Circuits, guard: usize) -> Tally {
     let ledger = Ledger::default();
     let random = &mut Random::new(SEED + 1);
@@ -162,7 +162,7 @@ pub fn bits(circuits: &Circuits, guard: usize) -> Tally {
             }
         }
     }
-    // a word of a table has 32 − n bits too many; a square has 2,048 bits, of which 2 × n × rows stand for literals
+    // a word of a table has 32 − n bits too many; a square has 2,048 bits, of which 2 × n × rows are literals
     let beyond = |(n, rows): (usize, usize)| [2 * rows * (32 - n), 2_048 * squares(rows) - 2 * n * rows];
     let expected = SIZES.map(beyond).iter().fold([0, 0], |sum, size| [sum[0] + size[0], sum[1] + size[1]]);
     if guard > 0 {

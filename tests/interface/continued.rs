@@ -11,7 +11,7 @@ use forkhemit_tests::report::{Ledger, Tally};
 use forkhemit_tests::{states, steps};
 
 const SEED: u64 = 1_707_000;
-/// How many plain steps stand beside a run from the fresh state, and beside one that is handed over.
+/// How many plain steps go beside a run from the fresh state, and beside one that is handed over.
 const STEPS: u64 = 150;
 const MORE_STEPS: u64 = 12;
 /// Numbers of steps that look like few when they are cut to fewer bits.
@@ -62,7 +62,7 @@ impl<'a> Steps<'a> {
         self.states[self.states.len() - 1][1] != 0
     }
 
-    /// The run after so many steps, continued: as many more steps as were asked for or as there are, and the plain steps' run. The tables stay.
+    /// The run after some steps, continued: as many more steps as were asked for or as there are, and the plain steps' run. The tables stay.
     fn slice(&self, from: u64, times: u64) -> Result<u64, String> {
         let run = Lent::Run(self.states[from as usize].clone());
         let lent = [&self.tables[..], &[run, Lent::Numbers(vec![7; 2])]].concat();
@@ -202,8 +202,8 @@ pub fn summed(guard: usize) -> Tally {
     ledger.close(&format!("whole runs by so many steps at a time, seeds from {SEED}"))
 }
 
-/// A whole run, so many steps at a time: the sum of steps, the verdict and the model are the whole run's; each call but the last takes all
-/// steps that it may, and the last alone says that the run is closed.
+/// A whole run, the given number of steps at a time: the sum of steps, the verdict and the model are the whole run's; each call but the
+/// last takes all steps that it may, and the last alone says that the run is closed.
 fn sum(size: Size, tables: &[Lent], each: u64, guard: usize) -> Result<(), String> {
     let lent = [tables, &[Lent::Numbers(vec![7; 3])]].concat();
     let answer = taken(Function::Solve, size, &[u64::MAX], lent, guard)?[3].numbers().to_vec();

@@ -36,12 +36,12 @@ fn one<T: Copy>(list: &[T], random: &mut Random) -> T {
 
 // ---- Buffers
 
-/// So many random bytes.
+/// `count` random bytes.
 fn some_bytes(count: usize, random: &mut Random) -> Vec<u8> {
     (0..count).map(|_| random.number() as u8).collect()
 }
 
-/// So many random words.
+/// `count` random words.
 fn some_words(count: usize, random: &mut Random) -> Vec<u32> {
     (0..count).map(|_| random.number() as u32).collect()
 }
@@ -63,14 +63,14 @@ fn words_for(count: usize, random: &mut Random) -> Lent {
     Lent::Words(some_words(count, random))
 }
 
-/// Words with something behind them that is not to be looked at.
+/// Words with something after them that is not to be looked at.
 fn words_with_more(mut words: Vec<u32>, random: &mut Random) -> Lent {
     let more = slack(0, random);
     words.extend(some_words(more, random));
     Lent::Words(words)
 }
 
-/// Room for so many numbers.
+/// Room for `count` numbers.
 fn numbers_for(count: usize, random: &mut Random) -> Lent {
     Lent::Numbers((0..count).map(|_| random.number()).collect())
 }
@@ -112,7 +112,7 @@ pub fn lent_tables(size: Size, rows: &[Row], random: &mut Random) -> Vec<Lent> {
     words.map(|words| words_with_more(words, random)).to_vec()
 }
 
-/// Tables and a run of their n, whose rows stand in every relation to it; one run in twenty is of some other n.
+/// Tables and a run of their n, whose rows are in every relation to it; one run in twenty is of some other n.
 fn tables_and_run(size: Size, random: &mut Random) -> (Vec<Lent>, Vec<u32>) {
     let mut run = states::random(size.n, random);
     let rows = states::table(size.rows(), &run.values, random);
@@ -255,7 +255,7 @@ fn page_call(n: usize, random: &mut Random) -> (Vec<u64>, Vec<Lent>) {
     (numbers.to_vec(), vec![Lent::Run(run), room])
 }
 
-/// A page, now and then with bytes of another or of none, and something behind it.
+/// A page, now and then with bytes of another or of none, and something after it.
 fn page_to_read(n: usize, random: &mut Random) -> (Vec<u64>, Vec<Lent>) {
     let (numbers, shapes) = (pilots_and_watches(n, random), watch_page::shapes(n));
     let own = shapes.contains(&numbers) && !random.once_in(8);
@@ -285,7 +285,7 @@ fn to_solve(size: Size, random: &mut Random) -> (Vec<Row>, u64) {
     (rows, one(&[steps, steps, steps - 1, steps / 2, 0, most], random))
 }
 
-/// Any gates behind so many inputs.
+/// Any gates after the given number of inputs.
 pub fn some_gates(inputs: usize, count: usize, random: &mut Random) -> Vec<u32> {
     let gate = |g: usize| {
         let kind = if inputs + g == 0 { 3 } else { random.below(3) as u32 };
@@ -338,7 +338,7 @@ fn evaluation(size: Size, circuits: &Circuits, random: &mut Random) -> Result<Ve
     Ok(wired(gates_of(size, circuits, random)?, packed, random))
 }
 
-/// The bytes of a state, and something behind them.
+/// The bytes of a state, and something after them.
 fn state_bytes(n: usize, random: &mut Random) -> Lent {
     let mut bytes: Vec<u8> = wires::state(&states::random(n, random)).into_iter().map(u8::from).collect();
     let more = slack(0, random);
@@ -387,7 +387,7 @@ fn line_call(function: Function, size: Size, circuits: &Circuits, random: &mut R
     Ok(Call { function, numbers, lent })
 }
 
-/// A budget line, which strokes of damage may spoil, with more behind it or less.
+/// A budget line, which strokes of damage may spoil, with more after it or less.
 fn line(random: &mut Random) -> Vec<u8> {
     let budget = one(&[random.below(100) as u64, random.number(), one(&ODD, random)], random);
     let zeros = one(&[0, 0, 0, 3, 79, 80, 99, 100], random);
@@ -499,7 +499,7 @@ fn continuing(size: Size, random: &mut Random) -> (u64, Vec<Lent>) {
     (one(&[0, 1, 2, 3, random.below(20) as u64, most, most], random), lent)
 }
 
-/// Tables that are most often unsatisfiable, and a proof by cases, in which now and then a deletion stands or a line is damaged.
+/// Tables that are most often unsatisfiable, and a proof by cases, in which now and then there is a deletion or a line is damaged.
 fn proved(size: Size, random: &mut Random) -> Vec<Lent> {
     let n = size.n;
     let widest = one(&[1, 2, 2, 3], random).min(n);
@@ -520,7 +520,7 @@ fn proved(size: Size, random: &mut Random) -> Vec<Lent> {
     [lent_tables(size, &rows, random), vec![Lent::Bytes(text)]].concat()
 }
 
-/// So many rows of n variables as words, with many literals, few, or none.
+/// Rows of n variables as words, with many literals, few, or none.
 pub fn row_words(n: usize, rows: usize, random: &mut Random) -> Vec<u32> {
     let (held, kind) = (u32::MAX >> (32 - n), random.below(4));
     let word = |random: &mut Random| match kind {

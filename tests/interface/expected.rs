@@ -148,7 +148,7 @@ impl Call {
         })
     }
 
-    /// The ceiling, the words for so many gates, the input wires and the state's wires.
+    /// The ceiling, the words for that many gates, the input wires and the state's wires.
     fn sizes(&self) -> Result<Writes, u8> {
         let size = self.size()?;
         let ceiling = size.ceiling();
@@ -219,8 +219,8 @@ impl Call {
         Ok(vec![(3, answer_numbers(&answer))])
     }
 
-    /// The run after steps, plain or weighted ones, through the one that closes it, at most so many; how many, and whether it is closed: 12,
-    /// 13.
+    /// The run after steps, plain or weighted ones, through the one that closes it, at most a given number; how many, and whether it is
+    /// closed: 12, 13.
     fn go_on(&self, steps: fn(&mut Run, &[Row], u64) -> u64) -> Result<Writes, u8> {
         let size = self.size()?;
         let rows = memory::accepted(size, self.tables())?;
@@ -256,7 +256,7 @@ impl Call {
         Ok(vec![(4, Lent::Numbers(vec![run.unsatisfied(&rows)]))])
     }
 
-    /// The run of some n beside which index and number stand, at these places: 12 where one of the three is not right.
+    /// The run of some n that index and number belong to, at these places: 12 where one of the three is not right.
     fn indexed_run(&self, rows: &[Row], [run, index, number]: [usize; 3]) -> Result<Run, u8> {
         let run = memory::run_of(self.words(run))?;
         if self.lent_numbers(index) != memory::index(rows) || self.lent_numbers(number) != [run.unsatisfied(rows)] {
@@ -278,7 +278,7 @@ impl Call {
         Ok(vec![(4, Lent::Run(memory::run_words(&run))), (5, Lent::Numbers(vec![number]))])
     }
 
-    /// The late condition of a call: behind the size station, row, and the new row's words.
+    /// The late condition of a call: after the size station, row, and the new row's words.
     fn condition(&self) -> Condition {
         let row = memory::row(self.numbers[6] as u32, self.numbers[7] as u32);
         Condition { station: self.numbers[4], number: self.numbers[5], row }
@@ -293,7 +293,7 @@ impl Call {
         Ok(stations(size, &rows))
     }
 
-    /// The same with index and number, which are made anew from all rows: 12 where run, index or number is not right.
+    /// The same with index and number, which are made again from all rows: 12 where run, index or number is not right.
     fn replace_indexed(&self) -> Result<Writes, u8> {
         let size = self.size()?;
         let rows = memory::accepted(size, self.tables())?;

@@ -32,7 +32,7 @@ pub fn sizes() -> Vec<Size> {
 pub fn calls(size: Size, circuits: &Circuits) -> Result<Vec<Call>, String> {
     let random = &mut Random::new(SEED + (size.public << 24 | size.n << 16 | size.left << 8 | size.right) as u64);
     let mut calls = vec![repeated(size, circuits, random)?];
-    for function in ALL {
+    for &function in ALL {
         for _ in 0..DRAWS {
             calls.push(draw::of_size(function, size, circuits, random)?);
         }
@@ -51,8 +51,8 @@ fn repeated(size: Size, circuits: &Circuits, random: &mut Random) -> Result<Call
     Ok(Call { function: Function::Repeat, numbers: [numbers(size), vec![REPEATS]].concat(), lent })
 }
 
-/// Random gates with so many wires as the evaluator goes over at, one less and one more: as they are, with a last gate that reads
-/// its own wire, with an input that is no bit, and with a byte too few for the wires. For a memory checker the fewest alone.
+/// Random gates with as many wires as the evaluator goes over at, one less and one more: as they are, with a last gate that reads its own
+/// wire, with an input that is no bit, and with a byte too few for the wires. For a memory checker the fewest alone.
 pub fn evaluations(guard: usize) -> Vec<Call> {
     let random = &mut Random::new(SEED);
     let mut calls = vec![];

@@ -12,7 +12,7 @@ use forkhemit_tests::report::{Ledger, Tally};
 use forkhemit_tests::{process, states};
 
 const SEED: u64 = 909_000;
-/// How many random games of so many variables and rows.
+/// How many random games of how many variables and rows.
 #[rustfmt::skip]
 const SIZES: [([usize; 2], usize); 9] = [
     ([1, 2], 40), ([2, 4], 100), ([4, 9], 300), ([6, 12], 400), ([8, 20], 400), ([10, 30], 400), ([12, 12], 100), ([12, 40], 200), ([12, 128], 60),
@@ -97,7 +97,7 @@ pub fn all(circuits: &Circuits, guard: usize) -> Tally {
 
 // ---- Random games
 
-/// Whether depqbf finds the formula of a game true: every variable stands on a line there.
+/// Whether depqbf finds the formula of a game true: every variable is on a line there.
 fn asked(n: i64, rows: &[Row], listed: &[Turn]) -> Result<bool, String> {
     process::asked("depqbf", &game::plain(n, rows, &game::turns(n, listed), true))
 }
@@ -163,8 +163,8 @@ const MORE: [(&str, u8); 13] = [
     ("1 2 0 0\n", 5),
 ];
 
-/// Every number in the header with every prefix and everything behind it, as long as it may be or overlong; the refusal is the first of 5 for
-/// an overlong text, 1, 2, 21, 5 and 22.
+/// Every number in the header with every prefix and everything after it, as long as it may be or overlong; the refusal is the first of 5
+/// for an overlong text, 1, 2, 21, 5 and 22.
 pub fn refused(circuits: &Circuits, guard: usize) -> Tally {
     let ledger = Ledger::default();
     for (k, (n, first)) in VARIABLES.into_iter().enumerate() {

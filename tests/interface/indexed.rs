@@ -16,7 +16,7 @@ pub const COUNTS: [usize; 7] = [2, 63, 64, 65, 128, 383, 384];
 const STEPS: usize = 150;
 const MORE_STEPS: usize = 6;
 
-/// So many rows as three tables: without public rows where two tables can hold them, with one, and with as many as may be.
+/// `count` rows as three tables: without public rows where two tables can hold them, with 1, with 63, and with as many as may be.
 pub fn sizes(n: usize, count: usize) -> Vec<Size> {
     let most = (count - 2).min(128);
     let mut publics = vec![0, 1, 63, most];
@@ -49,7 +49,7 @@ pub fn rows(size: Size, random: &mut Random) -> Vec<Row> {
     (0..size.rows()).map(row).collect()
 }
 
-/// What a call gives, where it is taken; `more` are its numbers behind the size.
+/// What a call gives, where it is taken; `more` are its numbers after the size.
 pub fn taken(function: Function, size: Size, more: &[u64], lent: Vec<Lent>, guard: usize) -> Result<Vec<Lent>, String> {
     let call = Call { function, numbers: [&numbers(size), more].concat(), lent };
     let given = call.make(guard)?;
@@ -124,7 +124,7 @@ fn follow(size: Size, rows: &[Row], mut run: Run, steps: usize, ledger: &Ledger,
     }
 }
 
-/// So many tables of each size, for all row counts; of the numbers of variables one is such that runs are long.
+/// A number of tables of each size, for all row counts; of the numbers of variables one is such that runs are long.
 pub fn each_table(seed: u64, tables: u64, mut act: impl FnMut(Size, &[Row], &mut Random)) {
     for count in COUNTS {
         let long = (count * 10 / 43).clamp(1, 32);

@@ -33,7 +33,7 @@ fn lowest(k: u32) -> u32 {
     ((1 << k) - 1u64) as u32
 }
 
-/// Rows of all 64 literals, of 63 and of 32, of which so many are free. A row of 64 has each variable twice, so that an even number is.
+/// Rows of all 64 literals, of 63 and of 32, with the given number free. A row of 64 has each variable twice, so that an even number is.
 fn wide() -> Vec<Shape> {
     let mut shapes = vec![];
     for k in 0..=32 {
@@ -194,7 +194,7 @@ pub fn bytes(guard: usize) -> Tally {
     ledger.close(&format!("all pairs of bytes as a row, seed {SEED}"))
 }
 
-/// Rows that stand in every relation to the run, among them empty ones and ones of all literals, of all positive and of all negative ones.
+/// Rows in every relation to the run, among them empty ones and ones of all literals, of all positive and of all negative ones.
 fn rows(size: Size, run: &Run, random: &mut Random) -> Vec<Row> {
     let n = size.n as i64;
     let widest: [Row; 4] =

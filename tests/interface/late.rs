@@ -13,7 +13,7 @@ use forkhemit_tests::report::{Ledger, Tally};
 use forkhemit_tests::{layout, states, steps, tables};
 
 const SEED: u64 = 606_000;
-/// How many variables, and how many rows in the three tables; with so many runs each, followed for so many steps.
+/// How many variables, and how many rows in the three tables; with how many runs each, followed for how many steps.
 #[rustfmt::skip]
 const SIZES: [([usize; 4], usize, usize); 10] = [
     ([1, 2, 2, 1], 40, 9), ([3, 6, 6, 0], 150, 99), ([4, 12, 9, 1], 150, 99), ([5, 1, 30, 4], 150, 99), ([6, 30, 1, 0], 150, 99),
@@ -120,7 +120,7 @@ impl<'a> Ways<'a> {
         }
     }
 
-    /// The run that is continued goes on to where the others are, over the tables as they have been since it stood still; if that closes it,
+    /// The run that is continued goes on to where the others are, over the tables as they have been since it stopped; if that closes it,
     /// whatever number of steps is allowed. Half of them first, where there are several.
     fn catch_up(&mut self) -> Result<(), String> {
         let closed = u64::from(self.closed());
@@ -263,7 +263,7 @@ fn to_close(ways: &mut Ways) -> Result<(), String> {
 }
 
 /// All rows of 1 and of 2 variables beside a padding row at each station, and one replacement at every step: with the public row that is
-/// given too, and without one. Which padding stands there goes in turn.
+/// given too, and without one. Which padding is there goes in turn.
 pub fn every(circuits: &Circuits, guard: usize) -> Tally {
     let ledger = Ledger::default();
     let random = &mut Random::new(SEED);

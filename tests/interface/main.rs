@@ -1,13 +1,13 @@
 //! Tests of the library as hosts call it. Use: interface CALLS [exact]
+//!
 //! Every refusal as it was written by hand, alone and two at once, then calls at the limits of size, then rows of every shape judged and
-//! counted, then runs with index and number beside the plain ones, then runs continued in slices, then runs with the weighted choice, then the
-//! tables that take most steps, then runs whose steps tell their rules, then clauses by their own bytes, then steps where several literals are forced, then runs in which rows are replaced, whose verdicts are
-//! held to another solver's, then proofs that other solvers wrote, as they are and damaged, then runs through
-//! a whole budget, then games of two sides, held to all their
-//! plans and to another solver's verdicts, then tables by columns and back, then watch pages made, read and damaged, then random calls over
-//! all functions: each result and every lent buffer is held to the model.
-//! With `exact` each buffer has an allocation of its own of exactly its length, for a memory checker; else it stands between guards. The
-//! last line is `N passed, M failed`, and the status 0 where M is 0.
+//! counted, then runs with index and number beside the plain ones, then runs continued in slices, then runs with the weighted choice, then
+//! the tables that take most steps, then runs whose steps tell their rules, then clauses by their own bytes, then steps where several
+//! literals are forced, then runs in which rows are replaced, whose verdicts are held to another solver's, then proofs that other solvers
+//! wrote, as they are and damaged, then runs through a whole budget, then games of two sides, held to all their plans and to another
+//! solver's verdicts, then tables by columns and back, then watch pages made, read and damaged, then random calls over all functions: each
+//! result and every lent buffer is held to the model. With `exact` each buffer has an allocation of its own of exactly its length, for a
+//! memory checker; else it is between guards. The last line is `N passed, M failed`, and the status 0 where M is 0.
 
 mod calls;
 mod circuits;
@@ -22,6 +22,7 @@ mod game;
 mod indexed;
 mod judged;
 mod late;
+mod library;
 mod page;
 mod proofs;
 mod refusals;
@@ -64,7 +65,7 @@ fn cut(text: String) -> String {
 /// The written refusals: the number is the one written, and a refusal leaves every buffer as it was.
 fn refused(circuits: &Circuits, guard: usize) -> Tally {
     let ledger = Ledger::default();
-    match refusals::cases(&ALL, circuits) {
+    match refusals::cases(ALL, circuits) {
         Err(fault) => ledger.test(Some(fault)),
         Ok(cases) => {
             for case in &cases {

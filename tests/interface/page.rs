@@ -13,7 +13,7 @@ const SEED: u64 = 1_400_000;
 /// What a lent page holds before.
 const BEFORE: u8 = 7;
 
-/// A call that makes a page of the run in the words, over so many bytes.
+/// A call that makes a page of the run in the words, over the given number of bytes.
 fn making(run: Vec<u32>, shape: [u64; 2], room: usize) -> Call {
     let lent = vec![Lent::Run(run), Lent::Bytes(vec![BEFORE; room])];
     Call { function: Function::Page, numbers: shape.to_vec(), lent }
@@ -138,7 +138,7 @@ fn runs() -> Vec<(Vec<u32>, u8)> {
     vec![(run(1, 4), 0), (run(0, 4), 14), (run(2, 4), 14), (run(1, 1), 12), (run(0, 1), 12), (run(3, 4), 12)]
 }
 
-/// Rooms about that of a page of so many pilots, and whether they are enough.
+/// Rooms about that of a page of the given number of pilots, and whether they are enough.
 fn rooms(pilots: u64) -> Vec<(usize, bool)> {
     let exact = LINE * pilots.min(32) as usize;
     vec![(exact, true), (exact + 1, true), (exact.saturating_sub(1), exact == 0), (0, exact == 0)]
@@ -202,8 +202,8 @@ const PAGES: [([usize; 2], u64); 6] = [
 ];
 const BYTES: &[u8] = b" #.\n\r\t\x000123456789-x\xa0\xff";
 
-/// Each page with each byte replaced by every other of the list: 27, or the page of another model; then each page read with other numbers of
-/// pilots and watches, cut at each place, and with more behind it. For a memory checker some of these.
+/// Each page with each byte replaced by every other of the list: 27, or the page of another model; then each page read with other numbers
+/// of pilots and watches, cut at each place, and with more after it. For a memory checker some of these.
 pub fn damaged(circuits: &Circuits, guard: usize) -> Tally {
     let ledger = Ledger::default();
     for (number, (shape, model)) in PAGES.into_iter().enumerate().filter(|(k, _)| guard > 0 || *k < 2) {

@@ -158,7 +158,7 @@ pub fn made(circuits: &Circuits, guard: usize) -> Tally {
 pub fn fullest(circuits: &Circuits, guard: usize) -> Tally {
     let (ledger, random) = (Ledger::default(), &mut Random::new(SEED));
     let n = if guard > 0 { MOST[0] } else { 6 };
-    // a chain of implications, each behind the one that it needs, and no unit clause
+    // a chain of implications, each after the one that it needs, and no unit clause
     let last = n as i64;
     let mut rows: Vec<Row> = (1..last).rev().map(|v| vec![-v, v + 1]).collect();
     rows.extend([vec![-last, -1], vec![1, last], vec![1, -last]]);

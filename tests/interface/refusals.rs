@@ -209,7 +209,7 @@ fn number(k: usize, to: u64) -> Change {
     Change::new(Place::Number(k), move |call| call.numbers[k] = to)
 }
 
-/// A buffer that ends after so many elements.
+/// A buffer that ends after the given number of elements.
 fn cut(k: usize, length: usize) -> Change {
     Change::new(Place::Lent(k), move |call| match &mut call.lent[k] {
         Lent::Bytes(bytes) => bytes.truncate(length),
@@ -227,7 +227,7 @@ fn shorter(k: usize) -> Change {
     })
 }
 
-/// A buffer of words with more behind them.
+/// A buffer of words with more after them.
 fn longer(k: usize, more: &'static [u32]) -> Change {
     Change::new(Place::Lent(k), move |call| match &mut call.lent[k] {
         Lent::Words(words) => words.extend(more),
@@ -456,7 +456,7 @@ fn step_indexed(list: &mut Changes) {
     run_at(4, list);
 }
 
-/// 15, 16 and the new row's 3, behind a run's 12 and 13; the run is at place 3 and stays as it is in T and F.
+/// 15, 16 and the new row's 3, after a run's 12 and 13; the run is at place 3 and stays as it is in T and F.
 fn condition(list: &mut Changes) {
     for station in [0, 2, 3, 255, 256, 257, 65_537, 1 << 32, (1 << 32) + 1, u64::MAX] {
         add(list, &format!("station {station} and a row of the right one"), 15, number(4, station));
@@ -720,7 +720,7 @@ fn model_wanted(list: &mut Changes) {
     states(0, list);
 }
 
-/// 25 of pilots and watches, the numbers at k and behind it: products that are not 2, or are 2 as machine words alone; then 26 of the page
+/// 25 of pilots and watches, the numbers at k and after it: products that are not 2, or are 2 as machine words alone; then 26 of the page
 /// at place p.
 fn page_shape(k: usize, p: usize, list: &mut Changes) {
     for to in [0, 1, 3, 258, (1 << 32) + 2, (1 << 63) + 2, u64::MAX] {
@@ -873,7 +873,7 @@ fn by_columns(list: &mut Changes) {
     }
 }
 
-/// 3, in the rows and not behind them.
+/// 3, in the rows and not after them.
 fn columns(list: &mut Changes) {
     for at in [0, 1, 63, 64, 65] {
         for bit in [2, 31] {
@@ -946,9 +946,6 @@ fn changes(function: Function) -> Changes {
 /// Changes after which a clause is still asked for: another row, or other words in one.
 fn asked_clauses() -> Vec<(&'static str, Change)> {
     vec![
-        ("no public rows, and words of some", number(3, 0)),
-        ("no public rows, and words that would be refused", both(number(3, 0), word(2, 1, u32::MAX))),
-        ("no public rows and no words", both(number(3, 0), cut(2, 0))),
         ("the first left row", number(4, 1)),
         ("the last left row", number(4, 2)),
         ("the first right row", number(4, 3)),
@@ -962,31 +959,32 @@ fn asked_clauses() -> Vec<(&'static str, Change)> {
     ]
 }
 
-/// Changes after which the call is still taken: no public rows, with public words there or none.
+/// No public rows, with words of some, with words that would be refused and with none, where the call has tables.
+fn without_public_rows(function: Function) -> Vec<(&'static str, Change)> {
+    let none = || match function {
+        Function::StepIndexed => both(no_public_rows(), both(without_public_row(), entry(5, 0, 1))),
+        Function::ReplaceIndexed => late_without_public_rows(),
+        _ => number(3, 0),
+    };
+    let has_tables = changes(function).iter().any(|(what, _, _)| what == "bit 2 in public word 0");
+    // bytes are lent for each row there
+    if !has_tables || function == Function::CountFree {
+        return vec![];
+    }
+    vec![
+        ("no public rows, and words of some", none()),
+        ("no public rows, and words that would be refused", both(none(), word(2, 1, u32::MAX))),
+        ("no public rows and no words", both(none(), cut(2, 0))),
+    ]
+}
+
+/// Changes after which the call is still taken.
 fn harmless(function: Function) -> Vec<(String, Change)> {
     let none = || text(2, b"p cnf 2 0\n".to_vec());
     let other = |k: usize| text(k, OTHER_N.to_vec());
     let list = match function {
         Function::Sizes | Function::Generate => vec![("no public rows", number(3, 0))],
-        Function::Accept
-        | Function::Step
-        | Function::Solve
-        | Function::Index
-        | Function::Unsatisfied
-        | Function::SolveIndexed
-        | Function::StepExplained
-        | Function::StepWeighted
-        | Function::SolveWeighted
-        | Function::Pack
-        | Function::Repeat => vec![
-            ("no public rows, and words of some", number(3, 0)),
-            ("no public rows, and words that would be refused", both(number(3, 0), word(2, 1, u32::MAX))),
-            ("no public rows and no words", both(number(3, 0), cut(2, 0))),
-        ],
         Function::SolveWhole => vec![
-            ("no public rows, and words of some", number(3, 0)),
-            ("no public rows, and words that would be refused", both(number(3, 0), word(2, 1, u32::MAX))),
-            ("no public rows and no words", both(number(3, 0), cut(2, 0))),
             ("no application", number(4, 0)),
             ("one application", number(4, 1)),
             ("two applications", number(4, 2)),
@@ -1003,24 +1001,10 @@ fn harmless(function: Function) -> Vec<(String, Change)> {
             ("a refuted run", word(3, 1, 2)),
         ],
         Function::StepIndexed => {
-            let none = || both(no_public_rows(), both(without_public_row(), entry(5, 0, 1)));
-            vec![
-                ("no public rows, and words of some", none()),
-                ("no public rows, and words that would be refused", both(none(), word(2, 1, u32::MAX))),
-                ("no public rows and no words", both(none(), cut(2, 0))),
-                ("a satisfied run", word(4, 1, 1)),
-                ("a refuted run", word(4, 1, 2)),
-            ]
+            vec![("a satisfied run", word(4, 1, 1)), ("a refuted run", word(4, 1, 2))]
         }
         Function::Replace | Function::ReplaceIndexed => {
-            let none = || match function {
-                Function::Replace => number(3, 0),
-                _ => late_without_public_rows(),
-            };
             vec![
-                ("no public rows, and words of some", none()),
-                ("no public rows, and words that would be refused", both(none(), word(2, 1, u32::MAX))),
-                ("no public rows and no words", both(none(), cut(2, 0))),
                 ("the left station's padding", both(number(4, 0), number(5, 2))),
                 ("an empty new row", number(7, 0)),
                 ("padding as the new row", both(number(6, 0b11), number(7, 0b11))),
@@ -1029,9 +1013,6 @@ fn harmless(function: Function) -> Vec<(String, Change)> {
             ]
         }
         Function::Continue | Function::ContinueWeighted => vec![
-            ("no public rows, and words of some", number(3, 0)),
-            ("no public rows, and words that would be refused", both(number(3, 0), word(2, 1, u32::MAX))),
-            ("no public rows and no words", both(number(3, 0), cut(2, 0))),
             ("no steps", number(4, 0)),
             ("one step", number(4, 1)),
             ("two steps", number(4, 2)),
@@ -1072,9 +1053,6 @@ fn harmless(function: Function) -> Vec<(String, Change)> {
             let additions = |count: usize| "1 2 0\n".repeat(count);
             let long = |bytes: &[u8]| text(3, [bytes, &vec![b'\n'; TEXT_LIMIT - bytes.len()]].concat());
             vec![
-                ("no public rows, and words of some", number(3, 0)),
-                ("no public rows, and words that would be refused", both(number(3, 0), word(2, 1, u32::MAX))),
-                ("no public rows and no words", both(number(3, 0), cut(2, 0))),
                 ("no last LF", proof("1 0\n0")),
                 ("blanks, tabs, CRs and empty lines", proof("\r\n \t1 \t 0\t \r\n\n \t\n d \t1\t2 0 \r\n\t0\r")),
                 ("a literal twice", proof("1 1 0\nd 2 1 2 0\n0\n")),
@@ -1120,14 +1098,15 @@ fn harmless(function: Function) -> Vec<(String, Change)> {
         ],
         _ => vec![],
     };
-    list.into_iter().map(|(what, change)| (what.into(), change)).collect()
+    let list = without_public_rows(function).into_iter().chain(list);
+    list.map(|(what, change)| (what.into(), change)).collect()
 }
 
 // ---- Two changes at once
 
-/// Which of two refusals comes first: the lower number, but 4 before 3, a new row's 3 last, and 23 before 10; of texts whatever refuses the left one, then
-/// whatever refuses the right one, then the public one, then 4 and 6. Where tables and texts are lent, an overlong text's 5 comes first, the
-/// texts' other refusals come behind the tables' 3 and before 6, and a clause's 11 comes last.
+/// Which of two refusals comes first: the lower number, but 4 before 3, a new row's 3 last, and 23 before 10; of texts whatever refuses the
+/// left one, then whatever refuses the right one, then the public one, then 4 and 6. Where tables and texts are lent, an overlong text's 5
+/// comes first, the texts' other refusals come after the tables' 3 and before 6, and a clause's 11 comes last.
 fn order(function: Function, number: u8, change: &Change) -> u8 {
     match (function, number) {
         (Function::ReadTables, 1 | 2 | 5) => {

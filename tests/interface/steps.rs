@@ -48,7 +48,7 @@ fn full(k: usize, n: usize) -> Vec<Row> {
     (0..1 << k).map(clause).chain([padding]).collect()
 }
 
-/// A whole run that counts so many steps: with as many allowed, more, and one too few.
+/// A whole run that counts the given number of steps: with as many allowed, more, and one too few.
 fn counted(function: Function, size: Size, tables: &[Lent], count: u64, guard: usize) -> Result<(), String> {
     for (budget, expected) in [(count, [count, 2, 0]), (u64::MAX, [count, 2, 0]), (count - 1, [count - 1, 0, 0])] {
         let lent = [tables, &[Lent::Numbers(vec![7; 3])]].concat();

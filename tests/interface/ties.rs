@@ -10,7 +10,7 @@ use forkhemit_tests::report::{Ledger, Tally};
 use forkhemit_tests::{states, ties};
 
 const SEED: u64 = 505_000;
-/// How many variables, and how many rows in the three tables; with so many states each.
+/// How many variables, and how many rows in the three tables; with how many states each.
 #[rustfmt::skip]
 const SIZES: [([usize; 4], usize); 14] = [
     ([1, 1, 1, 0], 40), ([1, 1, 1, 1], 40), ([2, 1, 1, 0], 100), ([2, 1, 2, 2], 100), ([3, 2, 1, 0], 100), ([4, 2, 3, 2], 100), ([5, 3, 3, 0], 100),

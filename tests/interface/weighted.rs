@@ -66,7 +66,7 @@ enum Taken {
 
 use Taken::{Chosen, Forced};
 
-/// Worked out by hand from document 02; the weights stand behind each.
+/// Worked out by hand from document 02; the weights are after each.
 #[rustfmt::skip]
 const WRITTEN: &[Written] = &[
     Written { what: "the variable of two rows before the lowest", n: 4, tables: [&[&[1, 2, 3]], &[&[3, 4]], &[]], chosen: &[], set: &[], taken: Chosen(3) }, // 1/8 1/8 3/8 1/4
@@ -140,7 +140,7 @@ fn signed(v: usize, random: &mut Random) -> i64 {
     v as i64 * if random.once_in(2) { 1 } else { -1 }
 }
 
-/// A row of the two variables and of so many others that are free, with some literals that are false.
+/// A row of the two variables and of the given number of others that are free, with some literals that are false.
 fn row(both: &[usize], width: usize, free: &[usize], run: &Run, random: &mut Random) -> Row {
     let mut others: Vec<usize> = free.iter().copied().filter(|v| !both.contains(v)).collect();
     let mut row: Row = both.iter().map(|&v| signed(v, random)).collect();
@@ -156,8 +156,8 @@ fn row(both: &[usize], width: usize, free: &[usize], run: &Run, random: &mut Ran
     row
 }
 
-/// Tables in which two variables weigh the same, in rows of every width, but for one row of so many free literals that holds the second
-/// of them alone, or both: rows, and the one that is chosen.
+/// Tables in which two variables weigh the same, in rows of every width, but for one row of the given number of free literals that holds
+/// the second of them alone, or both: rows, and the one that is chosen.
 fn near(count: usize, run: &Run, pair: [usize; 2], width: usize, random: &mut Random) -> (Vec<Row>, usize) {
     let free: Vec<usize> = (1..=run.values.len()).filter(|&v| run.values[v - 1].is_none()).collect();
     let mut rows = vec![row(&pair, 2, &free, run, random)];
@@ -204,7 +204,7 @@ pub fn exact(guard: usize) -> Tally {
     ledger.close(&format!("choices by the last bits of exact sums, seeds from {SEED}"))
 }
 
-/// So many different variables, from 0 on, in some order.
+/// `depth` different variables, from 0 on, in some order.
 fn chosen(depth: usize, random: &mut Random) -> Vec<usize> {
     let mut all: Vec<usize> = (0..32).collect();
     (0..depth).map(|_| all.swap_remove(random.below(all.len()))).collect()
@@ -237,7 +237,7 @@ fn nearly(
 
 // ---- Runs
 
-/// Steps of a run, of which the last is closed or not: from one of them on so many times, in one call, each as the steps one by one.
+/// Steps of a run, of which the last is closed or not: from one of them on as many as given, in one call, each as the steps one by one.
 fn sliced(size: Size, tables: &[Lent], states: &[Run], guard: usize, random: &mut Random) -> Result<(), String> {
     let count = states.len() as u64 - 1;
     let closes = states[count as usize].standing != Standing::Open;

@@ -15,7 +15,7 @@ use std::collections::BTreeSet;
 const SEED: u64 = 1_111_000;
 /// Runs that stay open longer are cut: no budget here is much larger.
 const PATIENCE: u64 = 400;
-/// Elements behind those that a call uses: it must leave them.
+/// Elements after those that a call uses: it must leave them.
 const MORE: usize = 5;
 
 /// Sizes of few wires, with public rows and without.
@@ -30,7 +30,7 @@ fn size([n, left, right, public]: [usize; 4]) -> Size {
     Size { n, left, right, public }
 }
 
-/// A call over tables with buffers of so many elements more than it uses, all of them set to some number.
+/// A call over tables with buffers of the given number of elements more than it uses, all of them set to some number.
 fn call(size: Size, rows: &[Row], budget: u64, more: usize, circuits: &Circuits) -> Result<Call, String> {
     let mut lent = draw::lent_tables(size, rows, &mut Random::new(SEED));
     let inputs = memory::input_wires(size);

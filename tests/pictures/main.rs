@@ -1,4 +1,4 @@
-//! Draws the pictures of docs/pictures anew. Use: pictures ROOT
+//! Draws the pictures of docs/pictures again. Use: pictures ROOT
 
 use forkhemit_tests::pictures;
 use std::fs;

@@ -1,6 +1,6 @@
-//! Preloaded into a program under test. `read` and `write` move one byte at a time, and where the file that BREAKS names
-//! would be at its end, `read` fails instead: a program that takes a failed read for the end sees a whole text. Of the file that
-//! FALTERS names the second read fails and no other: a program that then reads on sees a text with a hole.
+//! Preloaded into a program under test. `read` and `write` move one byte at a time, and where the file that BREAKS names would be at its
+//! end, `read` fails instead: a program that takes a failed read for the end sees a whole text. Of the file that FALTERS names the second
+//! read fails and no other: a program that then reads on sees a text with a hole.
 
 use std::ffi::c_void;
 use std::os::raw::{c_int, c_long};

@@ -3,7 +3,7 @@
 
 use crate::source::{stripped, tokens, uncommented};
 
-/// Marks that stand before a name.
+/// Marks before a name.
 const MARKS: [&str; 4] = ["unfoldable", "abbrev", "axiom", "pub"];
 /// What makes a statement of a type.
 const RELATIONS: [&str; 6] = ["≡", "≤", "<", "⊥", "⊎", "¬"];
@@ -21,8 +21,10 @@ pub struct Item {
     pub around: String,
     /// Its type; of a record or data type all of it.
     pub said: String,
-    /// The clauses behind its type.
+    /// The clauses after its type.
     pub body: String,
+    /// How many lines it takes, without comments and blank lines.
+    pub lines: usize,
 }
 
 impl Item {
@@ -63,7 +65,7 @@ impl Item {
 /// The items of antt's text, those of inner modules too.
 pub fn items(text: &str) -> Vec<Item> {
     let (mut found, mut modules): (Vec<Item>, Vec<(usize, String)>) = (vec![], vec![]);
-    for (indent, text) in chunks(&stripped(text, true)) {
+    for Chunk { indent, text, lines } in chunks(&stripped(text, true)) {
         modules.retain(|(outer, _)| *outer < indent);
         if let Some(module) = text.strip_prefix("module ") {
             let parameters = module.split_once(' ').map_or("", |(_, rest)| rest);
@@ -71,32 +73,42 @@ pub fn items(text: &str) -> Vec<Item> {
             continue;
         }
         let around: Vec<&str> = modules.iter().map(|(_, text)| text.as_str()).filter(|text| !text.is_empty()).collect();
-        let begun = begun(&text, &around.join(" "));
-        if !begun.is_empty() {
+        let mut begun = begun(&text, &around.join(" "));
+        if let Some(first) = begun.first_mut() {
+            first.lines = lines;
             found.extend(begun);
         } else if let Some(item) = found.last_mut().filter(|_| !["use ", "infix"].iter().any(|w| text.starts_with(w))) {
             item.body.push_str(if item.body.is_empty() { "" } else { "; " });
             item.body.push_str(&text);
+            item.lines += lines;
         }
     }
     found
 }
 
-/// The parts of a text with the indent of each: a line with the lines behind it that are indented more. A module is its head alone.
-fn chunks(text: &str) -> Vec<(usize, String)> {
-    let mut found: Vec<(usize, String)> = vec![];
+/// A part of a text: its indent, and how many lines it takes.
+struct Chunk {
+    indent: usize,
+    text: String,
+    lines: usize,
+}
+
+/// The parts of a text: a line with the lines after it that are indented more. A module is its head alone.
+fn chunks(text: &str) -> Vec<Chunk> {
+    let mut found: Vec<Chunk> = vec![];
     for line in text.lines().filter(|line| !line.trim().is_empty()) {
         let indent = line.chars().take_while(|sign| *sign == ' ').count();
         let folded = line.split_whitespace().collect::<Vec<_>>().join(" ");
-        let open = |(outer, text): &&mut (usize, String)| {
-            indent > *outer && !(text.starts_with("module ") && text.ends_with(" where"))
+        let open = |last: &&mut Chunk| {
+            indent > last.indent && !(last.text.starts_with("module ") && last.text.ends_with(" where"))
         };
         match found.last_mut().filter(open) {
-            Some((_, text)) => {
-                text.push(' ');
-                text.push_str(&folded);
+            Some(last) => {
+                last.text.push(' ');
+                last.text.push_str(&folded);
+                last.lines += 1;
             }
-            None => found.push((indent, folded)),
+            None => found.push(Chunk { indent, text: folded, lines: 1 }),
         }
     }
     found
@@ -122,6 +134,7 @@ fn begun(text: &str, around: &str) -> Vec<Item> {
         around: around.into(),
         said: said.into(),
         body: String::new(),
+        lines: 0,
     };
     defined(&tokens).into_iter().map(item).collect()
 }

@@ -26,8 +26,9 @@ fn fault(name: &str, said: &str) -> Option<String> {
         return Some(format!("says {key}, which is not known"));
     }
     let number = words.iter().find(|(key, _)| *key == "axioms").map_or("0", |(_, number)| number);
-    // as in: axioms libc: libc::read, libc::write (2 of the 50 declared)
+    // as in: axioms libc: libc::read, libc::write (2 of the 50 declared), or: axioms os: none reached of the 10 declared
     let lists = said.lines().filter_map(|line| line.strip_prefix("axioms ")?.split_once(": "));
+    let lists = lists.filter(|(_, list)| !list.starts_with("none reached of "));
     let named = lists.flat_map(|(_, list)| list.split(" (").next().unwrap_or("").split(", "));
     let mut named: Vec<&str> = named.collect();
     named.sort_unstable();
@@ -43,6 +44,7 @@ const SAMPLES: &[(&str, &str, &str)] = &[
     ("state", "logic=proved functions=5 axioms=1 sum=09\n", "assumes 1: []"),
     ("circuit", "axioms libc: libc::read, libc::write (2 of the 50 declared)\naxioms own: own::f (1 of the 1 declared)\nlogic=proved functions=5 axioms=3 sum=09\n",
         "assumes 3: [\"libc::read\", \"libc::write\", \"own::f\"]"),
+    ("circuit", "axioms libc: libc::read, libc::write (2 of the 50 declared)\naxioms os: none reached of the 10 declared\nlogic=proved functions=5 axioms=2 sum=09\n", ""),
     ("circuit", "logic=proved functions=5 sum=09\n", "assumes 0: []"),
     ("state", "logic=proved functions=5 foreign=1 sum=09\n", "says foreign, which is not known"),
     ("state", "logic=not-proved\n", "is not proved"),

@@ -96,7 +96,7 @@ impl Circuit {
         self.gates.iter().filter(|gate| matches!(gate, Gate::And(..))).count()
     }
 
-    /// How many AND gates lie one behind the other at most.
+    /// How many AND gates come one after the other at most.
     pub fn depth(&self) -> usize {
         let mut depths = vec![0; self.inputs.iter().sum()];
         for gate in &self.gates {

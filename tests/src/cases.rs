@@ -18,8 +18,8 @@ fn source(path: &Path) -> std::io::Result<Source> {
     fs::read(path).map(Source::Text)
 }
 
-/// The test that a folder holds: the three files, and files of these names with standard input and the whole output. Where
-/// the answer is no refusal, it is held to another solver too.
+/// The test that a folder holds: the three files, and files of these names with standard input and the whole output. Where the answer is no
+/// refusal, it is held to another solver too.
 fn written(case: &Path, input: &str, output: &str) -> std::io::Result<Test> {
     let [left, right, public] = NAMES.map(|name| source(&case.join(name)));
     let files = [left?, right?, public?];

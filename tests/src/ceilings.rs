@@ -1,5 +1,5 @@
 //! What makes sources, proofs and docs/DECISIONS.md hard to read, counted: long lines and files, long ways back to a place of the code,
-//! words that say nothing, laws without a word, long cells of tables, and blocks of lines that stand in two places. Each number is held to
+//! words that say nothing, laws without a word, long cells of tables, and blocks of lines that occur in two places. Each number is held to
 //! its ceiling in tests/ceilings.txt.
 
 use crate::antt;
@@ -18,11 +18,11 @@ const LINE: usize = 140;
 const PROOF_LINE: usize = 160;
 /// Lines of a file.
 const FILE: usize = 400;
-/// So many steps back, one behind the other, are a way that should have a name.
+/// This many steps back, one after the other, are a way that should have a name.
 const STEPS_BACK: usize = 6;
 /// Characters of a table's cell.
 const CELL: usize = 300;
-/// So many lines that stand elsewhere too are a block.
+/// This many lines that occur elsewhere too are a block.
 const BLOCK: usize = 8;
 /// A line with fewer letters and digits, as a bracket or a short parameter, is no part of a block.
 const LETTERS: usize = 8;
@@ -47,7 +47,7 @@ impl File {
     }
 }
 
-/// A place where something stands that is counted, how much it counts, and what to say of it; the worst has the greatest size.
+/// A place where something is that is counted, how much it counts, and what to say of it; the worst has the greatest size.
 struct Place {
     count: usize,
     size: usize,
@@ -56,7 +56,7 @@ struct Place {
     said: String,
 }
 
-/// A kind of thing that is counted, and where it stands in these files.
+/// A kind of thing that is counted, and where it is in these files.
 struct Kind {
     name: &'static str,
     places: fn(&[File]) -> Vec<Place>,
@@ -128,7 +128,7 @@ fn empty_words(files: &[File]) -> Vec<Place> {
     found
 }
 
-/// Cells of tables over 300 characters in the page of decisions. A `|` behind a backslash is one of the cell's own.
+/// Cells of tables over 300 characters in the page of decisions. A `|` after a backslash is one of the cell's own.
 fn long_cells(files: &[File]) -> Vec<Place> {
     let mut found = vec![];
     for file in files.iter().filter(|file| file.path == DECISIONS) {
@@ -142,7 +142,7 @@ fn long_cells(files: &[File]) -> Vec<Place> {
     found
 }
 
-/// The laws that files of another crate bring by name and that no comment stands above.
+/// The laws that files of another crate bring by name and that have no comment above.
 fn unexplained(files: &[File]) -> Vec<Place> {
     let mut used = BTreeSet::new();
     for file in files.iter().filter(|file| file.path.ends_with(".antt")) {
@@ -182,11 +182,12 @@ fn telling(file: &File) -> Vec<(usize, &str)> {
     let other = ["--", "//", "use ", "ghost use ", "pub use ", "mod ", "pub mod "];
     let lines = file.text.lines().enumerate().map(|(at, line)| (at + 1, line.trim()));
     let said = lines.filter(|(_, line)| !other.iter().any(|start| line.starts_with(start)));
+    let said = said.filter(|(_, line)| !line.contains(": tie.Need-") && !line.ends_with("= search needs"));
     said.filter(|(_, line)| line.chars().filter(|sign| sign.is_alphanumeric()).count() >= LETTERS).collect()
 }
 
-/// Lines of crates in blocks of eight or more that stood before, in an earlier file or further up: what could be said once. Indents,
-/// comments and lines of few letters make no difference. The place of a block is that of the lines that stand there again.
+/// Lines of crates in blocks of eight or more that were there before, in an earlier file or further up: what could be said once. Indents,
+/// comments and lines of few letters make no difference, nor do needs that the prover names and finds by itself: `rt` prints them. The place of a block is that of the lines that are there again.
 fn repeated(files: &[File]) -> Vec<Place> {
     let all: Vec<(&File, Vec<(usize, &str)>)> =
         files.iter().filter(|file| !file.part().is_empty()).map(|file| (file, telling(file))).collect();
@@ -269,8 +270,8 @@ fn eight(word: &str) -> String {
     (1..=8).map(|number| format!("  let {word}-{number} = something {number}\n")).collect()
 }
 
-/// Files, the kind that they have something of, by its place in the list, and how much. The limits stand here as numerals, so that
-/// none of them can be moved alone.
+/// Files, the kind that they have something of, by its place in the list, and how much. The limits are here as numerals, so that none of
+/// them can be moved alone.
 #[rustfmt::skip]
 fn samples() -> Vec<(Vec<(&'static str, String)>, usize, usize)> {
     let (code, other_code, law, other_law) = ("crates/a/src/lib.rt", "crates/b/src/deep/below.rt", "crates/a/proofs/Laws.antt", "crates/b/proofs/f/Proof.antt");
@@ -306,6 +307,8 @@ fn samples() -> Vec<(Vec<(&'static str, String)>, usize, usize)> {
         (vec![(law, eight("a") + &eight("b")), (other_law, eight("a") + &eight("b"))], 6, 16),
         (vec![(law, eight("a") + &eight("b")), (other_law, eight("b") + &eight("c") + &eight("a"))], 6, 16),
         (vec![(law, eight("a") + &eight("a") + &eight("a"))], 6, 16),
+        (vec![(law, eight("a")), (other_law, eight("a").replacen("  let", "f : tie.Need-f\nf c = search needs\n  let", 3))], 6, 8),
+        (vec![(law, "f-name : tie.Need-f\nf-name c κs = search needs\n".repeat(30))], 6, 0),
         (vec![(law, "  said the same once\n".repeat(15))], 6, 0),
         (vec![(law, "  said the same once\n".repeat(16))], 6, 8),
         (vec![(law, "use lib.ListN.{length}\n".repeat(30)), (other_code, "    }\n".repeat(30))], 6, 0),

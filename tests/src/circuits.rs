@@ -1,5 +1,5 @@
-//! The circuit program. For every size that it serves its text is read, its gates are counted, and its circuit is held
-//! to the model on states of every kind and on whole runs; for the smallest sizes on every state and every table.
+//! The circuit program. For every size that it serves its text is read, its gates are counted, and its circuit is held to the model on
+//! states of every kind and on whole runs; for the smallest sizes on every state and every table.
 
 use crate::bristol::{self, Circuit};
 use crate::model::{self, Answer, Read, Row, Run, Size, Standing};
@@ -38,7 +38,7 @@ pub fn size([n, left, right, public]: [usize; 4]) -> Size {
     Size { n, left, right, public }
 }
 
-/// The size as it stands in a line.
+/// The size as it is in a line.
 fn shown(Size { n, left, right, public }: Size) -> String {
     format!("{n} {left} {right} {public}")
 }
@@ -140,8 +140,8 @@ pub fn steps(circuit: &Circuit, cases: &[(Vec<Row>, Run)], ledger: &Ledger) -> O
 
 // ---- Whole runs
 
-/// Repeats the circuit from the fresh state, each time on the wires that the last repeat gave, until the closing wire is
-/// set or the budget is reached; each repeat is held to the model. The answers that the last wires give.
+/// Repeats the circuit from the fresh state, each time on the wires that the last repeat gave, until the closing wire is set or the budget
+/// is reached; each repeat is held to the model. The answers that the last wires give.
 fn repeats(circuit: &Circuit, n: usize, cases: &[(Vec<Row>, u64)]) -> Result<Vec<Answer>, String> {
     let mut runs = vec![Run::fresh(n); cases.len()];
     let mut given: Vec<Vec<bool>> = runs.iter().map(closing).collect();
@@ -337,7 +337,7 @@ fn known_test(known: &Known, room: &Room) -> Option<String> {
 
 // ---- Lines
 
-/// What stands on standard input.
+/// What is on standard input.
 #[rustfmt::skip]
 const LINES: &[&[u8]] = &[
     b"", b"\n", b" \n", b"1\n", b"1 1\n", b"1 1 1\n", b"1 1 1 0", b"1 1 1 0\n", b"1 1 1 1\n", b"1 1 1 0 \n", b"1 1 1 \n", b" 1 1 1 0\n", b"1  1 1 0\n",

@@ -1,13 +1,13 @@
-//! What docs/PROOFS.md names is there: files, must-fail edits, definitions and laws, functions. A name that stands before a
+//! What docs/PROOFS.md names is there: files, must-fail edits, definitions and laws, functions. A name before a
 //! file, as in "`sized` (`dimensions/specs/Sizes`)", "(`held`, `solver/proofs/HeldRules`)" or "`pack-read` in `readback/proofs/RoundTrip`", is
-//! defined in that file;
-//! any other is defined somewhere in the crates. And the page leaves out nothing that must be believed: it names every file of
-//! definitions, with its lines where a column counts them, every name of the kit's that these files bring, and every type of the code's.
-//! Of what must be believed no name stands in two crates, and of the code's types none.
+//! defined in that file; any other is defined somewhere in the crates. And the page names every name of the kit's that files of definitions
+//! bring. Of what must be believed no name is in two crates, and of the code's types none. Which files and types must be believed is found by
+//! `believed` and listed by `made`.
 
 use crate::antt;
 use crate::contracts;
-use crate::page::{blocks, chain, items, lists, rows, Item};
+use crate::made;
+use crate::page::{blocks, chain, items, lists, Item};
 use crate::report::Tally;
 use crate::source;
 use std::collections::{BTreeMap, BTreeSet};
@@ -17,11 +17,11 @@ use std::path::Path;
 /// Words that the page has in quotes and that name nothing of the project's.
 #[rustfmt::skip]
 const WORDS: &[&str] = &[
-    "rt ci", "make statements", "requires", "ensures", "cc", "memcpy", "memset", "read", "write", "axioms=5", "axioms=2", "logic-built=trusted", "libraries-built=trusted", "target", "crates/NAME/src", "crates/NAME/specs",
+    "rt ci", "make statements", "make docs", "make lib", "c", "requires", "ensures", "cc", "memcpy", "memset", "read", "write", "axioms=5", "axioms=2", "logic-built=trusted", "libraries-built=trusted", "target", "crates/NAME/src", "crates/NAME/specs",
     "crates/NAME/proofs", "crates/NAME/must-fail", "×", "→", "⊥", "now", ".entry", ".exit", "use",
 ];
 
-/// What a page names: files by their paths, all else as it stands; and the names that stand with their file or folder.
+/// What a page names: files by their paths, all else as it is; and the names that come with their file or folder.
 #[derive(Default)]
 pub struct Named {
     pub items: Vec<String>,
@@ -33,12 +33,11 @@ pub struct Named {
 pub struct Index {
     pub defined: BTreeMap<String, BTreeSet<String>>,
     paths: BTreeSet<String>,
-    /// How many lines of a file of definitions are no comments, no imports and not empty; and what it defines, fields of records aside.
-    lines: BTreeMap<String, usize>,
+    /// What a file of definitions defines, fields of records aside.
     meant: BTreeMap<String, BTreeSet<String>>,
     /// What files of definitions bring from the kit, operators without the places of their arguments; and the types of the code that they bring.
     kit: BTreeSet<String>,
-    types: BTreeSet<String>,
+    pub types: BTreeSet<String>,
 }
 
 impl Index {
@@ -92,9 +91,6 @@ impl Index {
     /// Adds what a file of definitions asks a reader to believe.
     fn believe(&mut self, path: &str, text: &str) {
         let text = source::uncommented(text);
-        let marks = ["use ", "pub use ", "unfoldable pub use "];
-        let counts = |line: &&str| !line.trim().is_empty() && !marks.iter().any(|mark| line.starts_with(mark));
-        self.lines.insert(path.into(), text.lines().filter(counts).count());
         let meant = antt::definitions(&text).into_iter().filter(|definition| !definition.field);
         self.meant.insert(path.into(), meant.map(|definition| definition.name).collect());
         for source::Import { module, name, .. } in source::imports(&text) {
@@ -106,7 +102,7 @@ impl Index {
         }
     }
 
-    /// The files, among those whose path this fits, that define the name; `*` at its end stands for any end.
+    /// The files, among those whose path this fits, that define the name; `*` at its end means any end.
     fn defines(&self, name: &str, fits: impl Fn(&str) -> bool) -> bool {
         let is = |defined: &String| match name.strip_suffix('*') {
             Some(start) => defined.starts_with(start),
@@ -123,7 +119,7 @@ impl Index {
         ways.iter().chain(&others).any(|path| self.paths.contains(path))
     }
 
-    /// Whether a name without a path means something: a function, a file, a definition or law, a field behind its record or file.
+    /// Whether a name without a path means something: a function, a file, a definition or law, a field after its record or file.
     fn is_name(&self, item: &str) -> bool {
         let anywhere = |_: &str| true;
         let first = item.split(' ').next().unwrap_or("");
@@ -142,7 +138,7 @@ impl Index {
     }
 }
 
-/// Where an item stands: its path, or the name itself, and the law behind the path of its file.
+/// Where an item is: its path, or the name itself, and the law after the path of its file.
 struct Place {
     path: String,
     law: Option<String>,
@@ -197,7 +193,7 @@ pub fn unknown(block: &str, index: &Index, named: &mut Named) -> Vec<String> {
             continue;
         }
         let path = &place.path;
-        // names stand before their file, or before the first of several
+        // names come before their file, or before the first of several
         let inside = item.before == ", " && at > 0 && items[at - 1].before.ends_with('(');
         if !place.listed && (item.before.trim_start().starts_with('(') || item.before.trim() == "in" || inside) {
             beside = chain(&items[..at]);
@@ -216,37 +212,17 @@ pub fn unknown(block: &str, index: &Index, named: &mut Named) -> Vec<String> {
     faults
 }
 
-/// The files that a row begins with.
-fn files_of(cells: &[&str], index: &Index) -> Vec<String> {
+/// The files of definitions that a cell names.
+pub fn files_of(cell: &str, index: &Index) -> Vec<String> {
     let mut named = Named::default();
-    unknown(cells[1], index, &mut named);
-    named.items.into_iter().filter(|path| index.lines.contains_key(path)).collect()
+    unknown(cell, index, &mut named);
+    named.items.into_iter().filter(|path| index.meant.contains_key(path)).collect()
 }
 
-/// What is wrong with the numbers in columns that are headed `lines`: each is the sum over the files that the row begins with.
-fn miscounted(page: &str, index: &Index) -> Vec<String> {
-    let mut faults = vec![];
-    for (head, cells) in rows(page) {
-        let said = head.iter().position(|cell| *cell == "lines").and_then(|place| cells.get(place));
-        let sum: usize = files_of(&cells, index).iter().map(|path| index.lines[path]).sum();
-        if let Some(said) = said.filter(|said| **said != sum.to_string()) {
-            faults.push(format!("{} says {said} lines, and has {sum}", cells[1]));
-        }
-    }
-    faults
-}
-
-/// The files whose definitions must be believed: those of the tables that have a column `say` and a column `lines`.
-fn believed(page: &str, index: &Index) -> Vec<String> {
-    let tables = rows(page).into_iter().filter(|(head, _)| ["say", "lines"].iter().all(|cell| head.contains(cell)));
-    tables.flat_map(|(_, cells)| files_of(&cells, index)).collect()
-}
-
-/// Names that mean two things: of definitions that must be believed, and of types of the code, those that stand in two crates.
-fn homonyms(page: &str, index: &Index) -> Vec<String> {
+/// Names that mean two things: of definitions that must be believed, and of types of the code, those that are in two crates.
+fn homonyms(believed: &BTreeSet<&String>, index: &Index) -> Vec<String> {
     let mut homes: BTreeMap<&String, BTreeSet<&str>> = BTreeMap::new();
-    let files = believed(page, index);
-    let meant = index.meant.iter().filter(|(path, _)| files.contains(path));
+    let meant = index.meant.iter().filter(|(path, _)| believed.contains(path));
     let code = index.defined.iter().filter(|(path, _)| path.contains("/src/"));
     for (path, names) in meant.chain(code) {
         let crate_name = path.split('/').next().unwrap_or("");
@@ -261,13 +237,12 @@ fn homonyms(page: &str, index: &Index) -> Vec<String> {
 }
 
 /// All that is wrong with a page, and how many names it has.
-fn faults(page: &str, index: &Index) -> (Vec<String>, usize) {
+fn faults(page: &str, believed: &BTreeSet<&String>, index: &Index) -> (Vec<String>, usize) {
     let mut named = Named::default();
     let mut faults: Vec<String> = blocks(page).iter().flat_map(|block| unknown(block, index, &mut named)).collect();
-    let missing = index.lines.keys().chain(&index.kit).chain(&index.types).filter(|name| !named.items.contains(name));
+    let missing = index.kit.iter().filter(|name| !named.items.contains(name));
     faults.extend(missing.map(|name| format!("`{name}` must be believed, and is not named")));
-    faults.extend(miscounted(page, index));
-    faults.extend(homonyms(page, index));
+    faults.extend(homonyms(believed, index));
     (faults, named.items.len())
 }
 
@@ -290,7 +265,7 @@ fn small() -> Index {
 }
 
 /// What the sample pages must name.
-const BELIEVED: &str = "\n\n`a/specs/Sizes`, `Sums`; `b/specs/Other`; `+`, `ℕ`; `Box`";
+const BELIEVED: &str = "\n\n`+`, `ℕ`";
 
 /// Pages, each before what they must name, with what is wrong with them.
 #[rustfmt::skip]
@@ -311,24 +286,19 @@ const SAMPLES: &[(&str, &[&str])] = &[
     ("`b/proofs/Laws.sum-one`", &["`b/proofs/Laws.sum-one` is nothing that is there"]),
     ("`Two.right-*`", &["`Two.right-*` is nothing that is there"]),
     ("`b::old`, `Box::old`, `a::new`", &["`b::old` is nothing that is there", "`Box::old` is nothing that is there", "`a::new` is nothing that is there"]),
-    ("| definitions | lines |\n|---|---|\n| `a/specs/Sums` | 2 |\n| `a/specs/Sizes`, `Sums`: both | 5 |", &[]),
-    ("| definitions | lines |\n|---|---|\n| `a/specs/Sums` | 3 |\n\n| `a/specs/Sums` | 4 |", &["`a/specs/Sums` says 3 lines, and has 2"]),
-    ("| definitions | say | lines |\n|---|---|---|\n| `a/specs/Sums` | a | 2 |\n\n| definitions | lines |\n|---|---|\n| `b/specs/Other` | 3 |", &[]),
-    ("| definitions | say | lines |\n|---|---|---|\n| `a/specs/Sums`, `Sizes` | a | 5 |\n| `b/specs/Other` | b | 3 |", &["`sum` means two things, in {\"a\", \"b\"}"]),
 ];
 
 /// Checks the check on the samples, then the page.
 pub fn run(crates: &Path) -> std::io::Result<Tally> {
     let mut tally = Tally::default();
     let index = small();
-    let all = ["`a/specs/Sizes`", "`a/specs/Sums`", "`b/specs/Other`", "`+`", "`ℕ`", "`Box`"]
-        .map(|name| format!("{name} must be believed, and is not named"));
+    let all = ["`+`", "`ℕ`"].map(|name| format!("{name} must be believed, and is not named"));
     let mut samples: Vec<(String, Vec<String>)> = vec![(String::new(), all.to_vec())];
     for (page, expected) in SAMPLES {
         samples.push((format!("{page}{BELIEVED}"), expected.iter().map(|fault| fault.to_string()).collect()));
     }
     for (number, (page, expected)) in samples.iter().enumerate() {
-        let found = faults(page, &index).0;
+        let found = faults(page, &BTreeSet::new(), &index).0;
         tally.count(found == *expected);
         if found != *expected {
             println!("FAILED sample {number} of names: {found:?}");
@@ -337,15 +307,18 @@ pub fn run(crates: &Path) -> std::io::Result<Tally> {
     let mut two_types = Index::default();
     two_types.define("a/src/lib", "rt", "pub struct Box { }\npub fn open() { }");
     two_types.define("b/src/deep/below", "rt", "enum Box { }\npub fn open() { }");
-    tally.count(faults("", &two_types).0 == ["`Box` means two things, in {\"a\", \"b\"}"]);
+    tally.count(homonyms(&BTreeSet::new(), &two_types) == ["`Box` means two things, in {\"a\", \"b\"}"]);
+    let two = ["a/specs/Sums", "b/specs/Other"].map(String::from);
+    tally.count(homonyms(&two.iter().collect(), &index) == ["`sum` means two things, in {\"a\", \"b\"}"]);
     let page = fs::read_to_string(crates.join("../docs/PROOFS.md"))?;
-    let (faults, named) = faults(&page, &Index::new(crates)?);
+    let believed = made::believed(crates, &page)?;
+    let (faults, named) = faults(&page, &believed.files(), &Index::new(crates)?);
     faults.iter().for_each(|fault| println!("FAILED docs/PROOFS.md: {fault}"));
     tally.passed += usize::from(faults.is_empty());
     tally.failed += faults.len();
     println!(
         "{named} names in docs/PROOFS.md, {} samples first: {} passed, {} failed",
-        samples.len() + 1,
+        samples.len() + 2,
         tally.passed,
         tally.failed
     );

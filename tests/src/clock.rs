@@ -1,7 +1,8 @@
 //! Processor time, which tells more than time gone by where other work goes on beside: what waits for its turn is not charged.
 
 use std::os::raw::{c_int, c_long};
-use std::process::Child;
+use std::process::{Child, Command};
+use std::time::Instant;
 
 extern "C" {
     fn wait4(process: c_int, status: *mut c_int, options: c_int, usage: *mut [c_long; 18]) -> c_int;
@@ -10,8 +11,7 @@ extern "C" {
 
 const THREAD: c_int = 3;
 
-/// Waits for the end of a process, and gives the processor time that it took, its own and the system's for it, in
-/// microseconds.
+/// Waits for the end of a process, and gives the processor time that it took, its own and the system's for it, in microseconds.
 pub fn of_process(child: &Child) -> std::io::Result<f64> {
     let mut usage = [0; 18];
     // SAFETY: the C library's struct rusage has 18 longs on 64-bit Linux, and a null status is allowed
@@ -20,6 +20,13 @@ pub fn of_process(child: &Child) -> std::io::Result<f64> {
     }
     let [seconds, micros, system_seconds, system_micros, ..] = usage;
     Ok((seconds + system_seconds) as f64 * 1e6 + (micros + system_micros) as f64)
+}
+
+/// Runs a command to its end: the time from start to end, and the processor time, in microseconds.
+pub fn of_run(command: &mut Command) -> std::io::Result<[f64; 2]> {
+    let start = Instant::now();
+    let processor = of_process(&command.spawn()?)?;
+    Ok([start.elapsed().as_secs_f64() * 1e6, processor])
 }
 
 /// The processor time of this thread so far, in microseconds.

@@ -1,12 +1,12 @@
-//! A table by columns, as document 02 has it, literal by literal and for the tests only: which bit of the planes stands for which literal, and
-//! when a table or planes are turned back.
+//! A table by columns, as document 02 has it, literal by literal and for the tests only: which bit of the planes is which literal, and when
+//! a table or planes are refused.
 
-/// How many squares so many rows take: 32 rows each.
+/// How many squares a number of rows takes: 32 rows each.
 pub fn squares(rows: usize) -> usize {
     (rows + 31) / 32
 }
 
-/// Where a literal stands in the planes: its word, and its bit there. Rows and variables are counted from 0.
+/// Where a literal is in the planes: its word, and its bit there. Rows and variables are counted from 0.
 fn place(row: usize, negative: bool, variable: usize) -> (usize, usize) {
     let (square, plane) = (row / 32, usize::from(negative));
     (64 * square + 32 * plane + variable, row % 32)
@@ -27,7 +27,7 @@ fn counted(n: u64, rows: u64, table: usize, planes: usize) -> Result<usize, u8> 
     Ok(rows)
 }
 
-/// The planes of a table, or the number of the refusal: 1, 2, 4, 3. So many words are lent for them.
+/// The planes of a table, or the number of the refusal: 1, 2, 4, 3. `lent` words are there for them.
 pub fn planes(n: u64, rows: u64, table: &[u32], lent: usize) -> Result<Vec<u32>, u8> {
     let rows = counted(n, rows, table.len(), lent)?;
     let mut planes = vec![0; 64 * squares(rows)];
@@ -43,7 +43,7 @@ pub fn planes(n: u64, rows: u64, table: &[u32], lent: usize) -> Result<Vec<u32>,
     Ok(planes)
 }
 
-/// The table of planes, or the number of the refusal: 1, 2, 4, 24. So many words are lent for it.
+/// The table of planes, or the number of the refusal: 1, 2, 4, 24. `lent` words are there for it.
 pub fn table(n: u64, rows: u64, planes: &[u32], lent: usize) -> Result<Vec<u32>, u8> {
     let rows = counted(n, rows, lent, planes.len())?;
     let mut left: Vec<u32> = planes[..64 * squares(rows)].to_vec();
@@ -57,7 +57,7 @@ pub fn table(n: u64, rows: u64, planes: &[u32], lent: usize) -> Result<Vec<u32>,
             }
         }
     }
-    // what no literal of the table stands for
+    // bits of no literal of the table
     if left.iter().any(|&word| word != 0) {
         return Err(24);
     }

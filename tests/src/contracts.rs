@@ -1,6 +1,5 @@
-//! The contracts of exported functions: none has a `requires`; each equates the result, and every buffer lent to be
-//! written, with something that does not mention it. What is private or `pub(crate)` is free, and so is `main`. What the symbols
-//! mean is held to by `symbols`.
+//! The contracts of exported functions: none has a `requires`; each equates the result, and every buffer lent to be written, with something
+//! that does not mention it. What is private or `pub(crate)` is free, and so is `main`. What the symbols mean is held to by `symbols`.
 
 use crate::report::Tally;
 use crate::source::{self, Function};
@@ -8,7 +7,7 @@ use std::fs;
 use std::path::{Path, PathBuf};
 
 /// The crate of the functions that cannot say what they give, which bytes come from outside, and these functions.
-const UNKNOWN_INPUT: (&str, [&str; 2]) = ("input", ["read_line", "fill"]);
+const UNKNOWN_INPUT: (&str, [&str; 3]) = ("input", ["read_line", "begin", "read_on"]);
 
 /// Words that make several statements of one.
 const CONNECTIVES: [&str; 8] = ["→", "↔", "×", "⊎", "∨₁", "≡", "∀", "¬"];
@@ -39,7 +38,7 @@ fn closing(tokens: &[String]) -> usize {
     tokens.len()
 }
 
-/// The parts between the places of a sign that stands in no bracket.
+/// The parts between the places of a sign that is in no bracket.
 fn parts<'a>(tokens: &'a [String], sign: &str) -> Vec<&'a [String]> {
     let (mut parts, mut start, mut at) = (vec![], 0, 0);
     while at < tokens.len() {

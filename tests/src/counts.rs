@@ -1,5 +1,5 @@
-//! How many gates the circuit of n variables and m rows has, how many of them are AND, and how many AND gates lie one behind the
-//! other at most: the laws, and those of the circuit of the earlier rule 3, which the benchmark prints beside them.
+//! How many gates the circuit of n variables and m rows has, how many of them are AND, and how many AND gates come one after the other at
+//! most: the laws, and those of the circuit of the earlier rule 3, which the benchmark prints beside them.
 
 /// Gates, AND gates among them, and the AND depth.
 #[derive(Clone, Copy, Debug, PartialEq)]

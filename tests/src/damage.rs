@@ -30,7 +30,7 @@ const HEADERS: &[&[u8]] = &[
     b"p cnf 1 0 \t\r", b"p cnf 1 0x", b"p cnf 1 0 0", b"p cnf 32 0", b"p cnf 33 0", b"p cnf 1 0\n\n", b"p cnf 1 0\nc", b"p cnf 1 0\n0", b"p cnf 1 0\nc\n-1",
 ];
 
-/// What stands after `p cnf 2 2`, the second clause being right in most.
+/// What comes after `p cnf 2 2`, the second clause being right in most.
 #[rustfmt::skip]
 const BODIES: &[&[u8]] = &[
     b"", b"\n", b"1 0 2 0", b"1 0 2 0\n", b"1 0\n2 0\n", b"1\n0\n2\n0", b"1\r0\r2\r0\r", b"1\t0\t2\t0", b"\r\n1 0\r\n2 0\r\n", b"1 2 0 0", b"0 0", b"0",
@@ -48,7 +48,7 @@ const BODIES: &[&[u8]] = &[
     b"p cnf 2 2\n1 0 2 0", b"1 0 p 2 0", b"a 1 0\n1 0 2 0", b"e 1 0\n1 0 2 0", b"d 1 0\n1 0 2 0", b"\xff", b"1 0 2 0 \xff", b"/ 1 0 2 0", b": 0 2 0", b"1: 0",
 ];
 
-/// What stands on standard input.
+/// What is on standard input.
 #[rustfmt::skip]
 const LINES: &[&[u8]] = &[
     b"", b"\n", b"9", b"9\n", b"0\n", b"00\n", b"-0\n", b"+9\n", b"-9\n", b" 9\n", b"9 \n", b"\t9\n", b"9\t\n", b"9\r\n", b"\r9\n", b"9\0\n", b"\09\n",
@@ -100,7 +100,7 @@ fn listed() -> Vec<Test> {
     tests
 }
 
-/// A text that its last remark, which is nothing to the table, makes as long as it may be, and a byte longer; in each place.
+/// A text that its last remark, which does not change the table, makes as long as it may be, and a byte longer; in each place.
 fn overlong() -> Vec<Test> {
     let mut tests = vec![];
     let right: [&[u8]; 3] = [b"p cnf 1 1\n1 0\n", b"p cnf 1 1\n1 0\n", b"p cnf 1 0\n"];

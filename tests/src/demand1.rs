@@ -15,7 +15,7 @@ struct Declared {
     numbers: Vec<u32>,
 }
 
-/// A text without what stands in brackets.
+/// A text without what is in brackets.
 fn unbracketed(text: &str) -> String {
     let mut depth = 0;
     let mut kept = String::new();
@@ -36,7 +36,7 @@ fn numbers(text: &str) -> Vec<u32> {
     words.filter_map(|word| word.parse().ok()).collect()
 }
 
-/// The last sentence of a comment, which lists the refusals; that of the function which it refers to stands for itself.
+/// The last sentence of a comment, which lists the refusals or refers to those of another function.
 fn last_sentence(comment: &str) -> String {
     let plain = unbracketed(&comment.replace("\n *", " ")).split_whitespace().collect::<Vec<_>>().join(" ");
     plain.trim_end_matches('.').rsplit(". ").next().unwrap_or("").to_string()
@@ -65,7 +65,7 @@ fn named(every: &str) -> BTreeMap<String, String> {
     pairs.map(|(name, entry)| (name.to_string(), entry.trim().to_string())).collect()
 }
 
-/// The numbers of each entry that some definitions have; one that stands twice in a row counts once.
+/// The numbers of each entry that some definitions have; one that comes twice in a row counts once.
 fn judged(definitions: &str) -> BTreeMap<String, Vec<u32>> {
     let mut found = BTreeMap::new();
     let mut entry = None;

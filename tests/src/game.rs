@@ -134,8 +134,8 @@ fn parts(set: u32) -> impl Iterator<Item = u32> {
     (0..=set).filter(move |part| part & !set == 0)
 }
 
-/// How a game ends that both sides play by their plans: a bit for each turn and all values fixed before it. Bit 1 is the first turn's; behind
-/// bit k stand bit 2k for false and bit 2k + 1 for true.
+/// How a game ends that both sides play by their plans: a bit for each turn and all values fixed before it. Bit 1 is the first turn's;
+/// after bit k come bit 2k for false and bit 2k + 1 for true.
 fn played(game: &Game, plans: u32) -> bool {
     let (mut values, mut at) = (vec![false; game.turns.len()], 1);
     for turn in &game.turns {
@@ -180,7 +180,7 @@ pub fn prefixes(n: i64) -> Vec<Vec<Turn>> {
     all
 }
 
-/// The lines of a prefix: neighbours of one letter stand on one line, or each by itself.
+/// The lines of a prefix: neighbours of one letter are on one line, or each by itself.
 fn lines(listed: &[Turn], together: bool) -> Vec<(u8, Vec<i64>)> {
     let mut lines: Vec<(u8, Vec<i64>)> = vec![];
     for turn in listed {
@@ -242,7 +242,7 @@ pub fn spaced(n: i64, rows: &[Row], listed: &[Turn], random: &mut Random) -> Vec
     layout::remarked(&all, random)
 }
 
-/// So many rows over n variables, and some of the variables on lines in some order: all of them, some or none; each side has as many or few.
+/// m rows over n variables, and some of the variables on lines in some order: all of them, some or none; each side has as many or few.
 pub fn drawn(n: i64, m: usize, random: &mut Random) -> (Vec<Row>, Vec<Turn>) {
     let widest = random.between(1, n.min(6) as usize);
     let least = random.between(1, widest).max(random.between(1, widest));

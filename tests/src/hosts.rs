@@ -9,7 +9,7 @@ use std::path::Path;
 
 /// How many random tables.
 const TABLES: usize = 150;
-/// Runs of the published files are cut at so many steps.
+/// Runs of the published files are cut at this many steps.
 const PATIENCE: u64 = 300;
 
 /// A case as the pair program takes it, where its standard input is a budget line.

@@ -15,7 +15,7 @@ pub fn plain(n: usize, rows: &[Row]) -> Vec<u8> {
     text.into_bytes()
 }
 
-/// At least so many of some bytes, now and then a few more.
+/// At least the given number of some bytes, now and then a few more.
 fn some(random: &mut Random, bytes: &[u8], least: usize) -> Vec<u8> {
     let many = if random.once_in(4) { 3 } else { 0 };
     let count = random.between(least, least + many);

@@ -1,8 +1,9 @@
-//! The project's own tests of its programs: each is run whole, as a host would run it, and what it prints is held to
-//! files written by hand, to a model of document 01 and to another solver.
+//! The project's own tests of its programs: each is run whole, as a host would run it, and what it prints is held to files written by hand,
+//! to a model of document 01 and to another solver.
 
 pub mod antt;
 pub mod assumed;
+pub mod believed;
 pub mod bristol;
 pub mod cases;
 pub mod ceilings;
@@ -20,6 +21,7 @@ pub mod game;
 pub mod hosts;
 pub mod layout;
 pub mod links;
+pub mod made;
 pub mod memory;
 pub mod model;
 pub mod netlists;

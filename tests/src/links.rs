@@ -5,7 +5,7 @@ use std::collections::BTreeMap;
 use std::fs;
 use std::path::{Component, Path, PathBuf};
 
-/// Characters of a line of prose. Tables, code and lines that are one link have as many as they need.
+/// Characters of a line of prose. Tables, code, parts that `make docs` makes and lines that are one link have as many as they need.
 const WIDTH: usize = 120;
 
 /// Where pages are, from the project's folder on.
@@ -90,7 +90,11 @@ fn broken(pages: &Pages, from: &Path, target: &str, exists: impl Fn(&Path) -> bo
 
 /// The lines of prose that are too long.
 fn wide(page: &str) -> Vec<usize> {
-    let lines = prose(page).into_iter();
+    let mut made = false;
+    let lines = prose(page).into_iter().filter(|(_, line)| {
+        made = line.starts_with("<!-- made by") || made && !line.starts_with("<!-- end");
+        !made
+    });
     let lines = lines.filter(|(_, line)| !line.starts_with('|') && !line.starts_with("![") && !line.starts_with('#'));
     let lines = lines.filter(|(_, line)| line.chars().count() > WIDTH && line.trim_start_matches("- ").contains(' '));
     lines.map(|(at, _)| at).collect()
@@ -148,7 +152,7 @@ pub fn run(root: &Path) -> std::io::Result<Tally> {
     }
     for (length, long) in [(WIDTH, 0), (WIDTH + 1, 1)] {
         let line = format!("a {}\n", "x".repeat(length - 2));
-        let page = format!("{line}| {line}    {line}```\n{line}```\n");
+        let page = format!("{line}| {line}    {line}```\n{line}```\n<!-- made by m -->\n{line}<!-- end -->\n");
         tally.count(wide(&page).len() == long);
     }
     let mut pages = Pages::new();

@@ -10,13 +10,13 @@
 use forkhemit_tests::process::{self, Source};
 use forkhemit_tests::report::{self, Tally};
 use forkhemit_tests::{
-    assumed, cases, ceilings, circuits, citations, claims, contracts, damage, demand1, edits, hosts, links, pictures,
-    published, statements, steps, symbols, tables, ties, whole,
+    assumed, cases, ceilings, circuits, citations, claims, contracts, damage, demand1, edits, hosts, links, made,
+    pictures, published, statements, steps, symbols, tables, ties, whole,
 };
 use std::path::Path;
 use std::process::ExitCode;
 
-/// Whether a program is linked statically: such a one stands in a folder of that name.
+/// Whether a program is linked statically: it is then in a folder `static`.
 fn linked_statically(program: &Path) -> bool {
     program.parent().map_or(false, |folder| folder.ends_with("static"))
 }
@@ -72,6 +72,7 @@ fn all(arguments: &[String]) -> std::io::Result<Tally> {
     let own = Path::new(env!("CARGO_MANIFEST_DIR"));
     total.add(pictures::run(&own.join(".."))?);
     total.add(links::run(&own.join(".."))?);
+    total.add(made::run(&own.join(".."))?);
     total.add(ties::run(own)?);
     let pair = programs.iter().map(Path::new).find(|program| program.ends_with("pair"));
     for program in programs {
@@ -108,8 +109,10 @@ fn asked(arguments: &[String]) -> std::io::Result<Tally> {
 fn main() -> ExitCode {
     let arguments: Vec<String> = std::env::args().skip(1).collect();
     if let [first, crates] = arguments.as_slice() {
-        if first == "statements" {
-            return printed(statements::text(Path::new(crates)));
+        match first.as_str() {
+            "statements" => return printed(statements::text(Path::new(crates))),
+            "docs" => return printed(made::write(&Path::new(crates).join("..")).map(|()| String::new())),
+            _ => (),
         }
     }
     let total = asked(&arguments).unwrap_or_else(|error| {

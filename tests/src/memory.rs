@@ -74,8 +74,8 @@ pub fn judged([positive, negative, t, f]: [u32; 4]) -> [u64; 4] {
     [satisfied, literals, variables, in_both.or(set_right).or(free).unwrap_or(0)]
 }
 
-/// For each literal the set of rows that hold it, six words each: variables 1 to 32, then their negations. Row r from 0 is bit
-/// r mod 64 of word r / 64.
+/// For each literal the set of rows that hold it, six words each: variables 1 to 32, then their negations. Row r from 0 is bit r mod 64 of
+/// word r / 64.
 pub fn index(rows: &[Row]) -> Vec<u64> {
     let literals = (1..=32).chain((1..=32).map(|variable: i64| -variable));
     let bit = |literal: i64, row: usize| rows.get(row).map_or(false, |row| row.contains(&literal));
@@ -150,7 +150,7 @@ pub fn run_for(n: usize, words: &[u32]) -> Result<Run, u8> {
 
 // ---- Gates
 
-/// The gates behind so many inputs, or 9.
+/// The gates after the given number of inputs, or 9.
 pub fn gates(words: &[u32], inputs: usize) -> Result<Vec<Gate>, u8> {
     if words.len() % 3 != 0 {
         return Err(9);
@@ -190,7 +190,7 @@ fn bytes(wires: Vec<bool>) -> Vec<u8> {
     wires.into_iter().map(u8::from).collect()
 }
 
-/// Rows and run, a byte a wire, in so many lent bytes: 4, 3, then 10, 12, 13.
+/// Rows and run, a byte a wire, in the given number of lent bytes: 4, 3, then 10, 12, 13.
 pub fn packed(size: Size, tables: [&[u32]; 3], run: &[u32], room: usize) -> Result<Vec<u8>, u8> {
     let rows = accepted(size, tables)?;
     if room < input_wires(size) {

@@ -1,5 +1,5 @@
-//! The programs as documents 01 and 02 describe them, in plain Rust and for the tests only. Literals stay numbers and a
-//! state is a list of truth values: nothing of the product's own words, states or readers stands in here.
+//! The programs as documents 01 and 02 describe them, in plain Rust and for the tests only. Literals stay numbers and a state is a list of
+//! truth values: none of the product's own words, states or readers is in here.
 
 use std::cmp::Ordering;
 use std::ops::{Range, RangeInclusive};
@@ -47,7 +47,7 @@ impl Size {
         Ok(Size { n, left, right, public })
     }
 
-    /// So many rows as three tables: halves where two tables can hold them, else 128 of them public.
+    /// m rows as three tables: halves where two tables can hold them, else 128 of them public.
     pub fn split(n: usize, m: usize) -> Size {
         let public = if m > 256 { 128 } else { 0 };
         let left = (m - public) / 2;
@@ -79,7 +79,7 @@ pub enum Standing {
     Refuted,
 }
 
-/// The answer of a budgeted run. The model stands there with satisfiable only.
+/// The answer of a budgeted run. The model is there with satisfiable only.
 #[derive(Clone, Debug, PartialEq)]
 pub struct Answer {
     pub steps: u64,
@@ -94,7 +94,7 @@ pub fn blank(byte: u8) -> bool {
     byte == b' ' || byte == b'\t'
 }
 
-/// A byte that stands between tokens.
+/// A byte between tokens.
 pub fn separator(byte: u8) -> bool {
     blank(byte) || byte == b'\r' || byte == b'\n'
 }
@@ -107,8 +107,8 @@ pub fn line(text: &[u8]) -> (&[u8], &[u8]) {
     }
 }
 
-/// A number: an optional minus, digits without leading zeros, not −0. One of more than nine digits is as good as any
-/// other beyond every limit.
+/// A number: an optional minus, digits without leading zeros, not −0. One of more than nine digits is as good as any other beyond every
+/// limit.
 pub fn number(word: &[u8]) -> Option<i64> {
     let (sign, digits) = match word.strip_prefix(b"-") {
         Some(digits) => (-1, digits),
@@ -192,8 +192,8 @@ pub fn read(text: &[u8], counts: RangeInclusive<u64>) -> Result<Table, u8> {
     Ok(Table { n: n as usize, rows })
 }
 
-/// Where the clauses of a text stand that can be read, each from its first literal through its 0. Header and remarks are made blank,
-/// which moves nothing; then each 0 closes what began behind the one before it.
+/// Where the clauses of a text are that can be read, each from its first literal through its 0. Header and remarks are made blank, which
+/// moves nothing; then each 0 closes what began after the one before it.
 pub fn clause_places(text: &[u8]) -> Vec<Range<usize>> {
     let (mut bare, mut headed) = (vec![], false);
     for line in text.split_inclusive(|&b| b == b'\n') {
@@ -256,7 +256,7 @@ pub enum Ties {
 }
 
 impl Ties {
-    /// The literal that is taken of those forced, which stand in the order of their rows.
+    /// The literal that is taken of those forced, which are in the order of their rows.
     fn take(self, forced: &[i64]) -> Option<i64> {
         match self {
             Ties::LowestVariable => forced.iter().copied().min_by_key(|&literal| (variable(literal), literal < 0)),
@@ -265,7 +265,7 @@ impl Ties {
     }
 }
 
-/// A run: each variable true, false or free, and the levels with what stood before their choice.
+/// A run: each variable true, false or free, and the levels with what was there before their choice.
 #[derive(Clone, Debug, PartialEq)]
 pub struct Run {
     pub standing: Standing,
@@ -364,7 +364,7 @@ impl Run {
         }
     }
 
-    /// Giant steps through the one that closes the run, at most so many; how many they were.
+    /// Giant steps through the one that closes the run, at most a given number; how many they were.
     pub fn go_on(&mut self, ties: Ties, rows: &[Row], times: u64) -> u64 {
         let mut steps = 0;
         while steps < times && self.standing == Standing::Open {
@@ -398,7 +398,7 @@ impl Run {
         }
     }
 
-    /// What is answered where the run stops after so many steps.
+    /// What is answered where the run stops after the given number of steps.
     pub fn answer(&self, steps: u64) -> Answer {
         let model = match self.standing {
             Standing::Satisfied => self.values.iter().map(|&value| value == Some(true)).collect(),
@@ -459,8 +459,8 @@ pub struct Read {
     pub budget: u64,
 }
 
-/// What is read of the left, the right and the public text and of standard input, or the number of the refusal. A file
-/// that cannot be read is None.
+/// What is read of the left, the right and the public text and of standard input, or the number of the refusal. A file that cannot be read
+/// is None.
 pub fn pair([left, right, public]: [Option<&[u8]>; 3], input: &[u8]) -> Result<Read, u8> {
     let left = read(left.ok_or(5)?, STATION)?;
     let right = read(right.ok_or(5)?, STATION)?;
@@ -509,7 +509,7 @@ pub fn run_whole(n: usize, rows: &[Row], budget: u64) -> Answer {
     Answer { steps: budget, ..run(n, rows, budget) }
 }
 
-/// What the whole program reads, or the number of the refusal: behind those of the pair program 23, then 7.
+/// What the whole program reads, or the number of the refusal: after those of the pair program 23, then 7.
 pub fn whole(texts: [Option<&[u8]>; 3], input: &[u8]) -> Result<Read, u8> {
     let read = pair(texts, input)?;
     if read.budget > WHOLE_BUDGET {

@@ -1,6 +1,6 @@
-//! A page as the gate reads it: quoted items, the blocks that they stand in, and the rows of tables.
+//! A page as the gate reads it: quoted items, the blocks that they are in, and the rows of tables.
 
-/// A quoted item, with what stands between it and the one before.
+/// A quoted item, with what is between it and the one before.
 pub struct Item<'a> {
     pub before: &'a str,
     pub text: &'a str,
@@ -12,12 +12,12 @@ pub fn items(block: &str) -> Vec<Item<'_>> {
     parts.chunks_exact(2).map(|pair| Item { before: pair[0], text: pair[1] }).collect()
 }
 
-/// Whether what stands between two items only lists them.
+/// Whether what is between two items only lists them.
 pub fn lists(between: &str) -> bool {
     [",", "and", ", and", ";", ":"].contains(&between.trim())
 }
 
-/// The names that stand one behind the other at the end, the last part of each.
+/// The names one after the other at the end, the last part of each.
 pub fn chain<'a>(items: &[Item<'a>]) -> Vec<&'a str> {
     let mut names = vec![];
     for item in items.iter().rev() {

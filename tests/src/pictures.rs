@@ -1,5 +1,5 @@
-//! The pictures of folder docs/pictures, drawn from texts: which crate uses which, which section of the circuit reads which, and
-//! who runs what and sees what. Boxes stand in layers, each on one side of all that it uses.
+//! The pictures of folder docs/pictures, drawn from texts: which crate uses which, which section of the circuit reads which, and who runs
+//! what and sees what. Boxes are in layers, each on one side of all that it uses.
 
 use crate::report::Tally;
 use crate::sections::{self, Section};
@@ -139,7 +139,7 @@ impl Plan {
         count
     }
 
-    /// Sorts each layer by where its neighbours stand, to and fro, and keeps the order with the fewest crossings.
+    /// Sorts each layer by where its neighbours are, to and fro, and keeps the order with the fewest crossings.
     fn order(&mut self) {
         let mut best = (self.crossings(), self.rows.clone());
         for round in 0..40 {
@@ -210,7 +210,7 @@ impl Plan {
     }
 }
 
-/// A plan with its heights: where each spot stands on the page.
+/// A plan with its heights: where each spot is on the page.
 struct Page<'a> {
     nodes: &'a [Node],
     way: Way,
@@ -335,7 +335,8 @@ fn crates(text: &str, folder: &Path) -> Vec<Node> {
     };
     let outside =
         |name: &&String| Node { name: (*name).clone(), lines: vec!["of the kit".into()], fill: KIT, uses: vec![] };
-    own.iter().map(node).chain(kit.iter().map(outside)).collect()
+    // those that use most come first: from there the layers are sorted into a narrow picture
+    own.iter().rev().map(node).chain(kit.iter().map(outside)).collect()
 }
 
 /// What is known to be wrong in a picture's text.
@@ -345,7 +346,7 @@ fn invalid(fault: String) -> std::io::Error {
 
 const STATIONS: &str = "docs/pictures/stations.txt";
 
-/// Who runs what: a line a box, with its name, its lines parted by `/`, what it is, and the names of what it reads parted by `;`.
+/// Who runs what: a line a box, with its name, its lines separated by `/`, what it is, and the names of what it reads separated by `;`.
 fn stations(text: &str) -> Result<Vec<Node>, String> {
     let node = |line: &str| match line.split('|').map(str::trim).collect::<Vec<&str>>()[..] {
         [name, lines, kind, reads] => {

@@ -302,7 +302,7 @@ fn small_parts() -> std::io::Result<PathBuf> {
     Ok(std::env::current_exe()?.with_file_name("examples").join("libsmall_parts.so"))
 }
 
-/// Puts a file at the path, in the place of what stood there.
+/// Puts a file at the path, in the place of what was there.
 fn place(path: &Path, source: &Source) -> std::io::Result<()> {
     match fs::symlink_metadata(path) {
         Ok(there) if there.is_dir() => fs::remove_dir(path)?,
@@ -374,7 +374,7 @@ fn narrow_pipe() -> std::io::Result<(File, OwnedFd)> {
     Ok((File::from(reader), writer))
 }
 
-/// Waits until a process has taken what stands in its pipe, or has ended or is stuck.
+/// Waits until a process has taken what is in its pipe, or has ended or is stuck.
 fn await_taken(child: &mut Child, pipe: &ChildStdin) -> std::io::Result<()> {
     let (mut waiting, mut watch): (c_int, Watch) = (1, Watch::default());
     loop {
@@ -400,7 +400,7 @@ impl Watch {
     /// Looks at a process once more; what is wrong with it, if it is to be ended.
     fn look(&mut self, process: u32) -> std::io::Result<Option<String>> {
         let stat = fs::read_to_string(format!("/proc/{process}/stat"))?;
-        // behind the name, which stands in brackets: the state, and 11 numbers on the ticks, the process's own and the system's
+        // after the name, which is in brackets: the state, and 11 numbers on the ticks, the process's own and the system's
         let fields: Vec<&str> = stat.rsplit(')').next().unwrap_or("").split_whitespace().collect();
         let ticks = fields[11..13].iter().filter_map(|ticks| ticks.parse::<u64>().ok()).sum();
         self.asleep = if fields[0] == "S" && ticks == self.ticks { self.asleep + 1 } else { 0 };

@@ -1,5 +1,5 @@
 //! Proofs from other solvers as document 02 describes them: a DRAT text against rows. Literals stay numbers, and rows are taken away from
-//! the list in which they stand.
+//! the list that they are in.
 
 use crate::model::{self, Row, TEXT_LIMIT};
 use crate::random::Random;
@@ -116,8 +116,8 @@ pub fn text(lines: &[Line]) -> Vec<u8> {
     lines.iter().map(|line| spelled(line) + "\n").collect::<String>().into_bytes()
 }
 
-/// A proof by cases, variable by variable, each case closed where its clause follows: right for tables that are unsatisfiable, and else with
-/// a last case that does not follow. No more than so many lines.
+/// A proof by cases, variable by variable, each case closed where its clause follows: right for tables that are unsatisfiable, and else
+/// with a last case that does not follow. No more than a given number of lines.
 pub fn by_cases(n: usize, rows: &[Row], most: usize) -> Vec<Line> {
     fn close(n: usize, path: &mut Row, rows: &mut Vec<Row>, lines: &mut Vec<Line>, most: usize) {
         if lines.len() >= most {
@@ -140,7 +140,7 @@ pub fn by_cases(n: usize, rows: &[Row], most: usize) -> Vec<Line> {
     lines
 }
 
-/// The text with other blanks, CRs and empty lines where they may stand.
+/// The text with other blanks, CRs and empty lines where they may be.
 pub fn spaced(text: &[u8], random: &mut Random) -> Vec<u8> {
     let mut all = vec![];
     let blanks = |least: usize, random: &mut Random| -> Vec<u8> {

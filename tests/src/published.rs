@@ -7,8 +7,8 @@ use crate::report::{Group, Test};
 use std::fs;
 use std::path::Path;
 
-/// A published file: its name, its text, and what dimacs/refused.txt has for it, if anything: the refusal as a station's
-/// text, and the one as the public text.
+/// A published file: its name, its text, and what dimacs/refused.txt has for it, if anything: the refusal as a station's text, and the one
+/// as the public text.
 pub struct File {
     pub name: String,
     pub text: Vec<u8>,
@@ -60,14 +60,14 @@ impl Split {
     }
 }
 
-/// The first half of the rows left, the others right, none public. One row alone stands on both sides.
+/// The first half of the rows left, the others right, none public. A single row is on both sides.
 pub fn halves(text: &[u8]) -> Split {
     let (n, rows) = numbers(text);
     let (left, right) = if rows.len() == 1 { (&rows[..], &rows[..]) } else { rows.split_at(rows.len() / 2) };
     Split { way: "halves", n, tables: [left.to_vec(), right.to_vec(), vec![]] }
 }
 
-/// A third of the rows left, a third right, the others public. One row or two stand in each table.
+/// A third of the rows left, a third right, the others public. One row or two are in each table.
 pub fn thirds(text: &[u8]) -> Split {
     let (n, rows) = numbers(text);
     let third = rows.len() / 3;
@@ -130,7 +130,7 @@ fn turned(rows: &[Row]) -> Vec<Row> {
     rows.iter().rev().cloned().collect()
 }
 
-/// One row of so many, from the row of a number on.
+/// One row of n, from the row of a number on.
 fn every(count: usize, from: usize, rows: &[Row]) -> Vec<Row> {
     rows.iter().skip(from).step_by(count).cloned().collect()
 }
@@ -148,7 +148,7 @@ fn splits(text: &[u8]) -> Vec<Split> {
     [halves(text), thirds(text)].into_iter().chain(more).collect()
 }
 
-/// A file as it stands, in each place and in all, the other tables having padding or nothing.
+/// A file as it is, in each place and in all, the other tables having padding or nothing.
 fn whole(file: &File) -> Vec<Test> {
     let (n, rows) = numbers(&file.text);
     let (padding, none) = (layout::plain(n.max(1), &[vec![1, -1]]), layout::plain(n.max(1), &[]));
@@ -168,7 +168,7 @@ fn whole(file: &File) -> Vec<Test> {
     ]
 }
 
-/// The tests of one file: as it stands, and each split with budgets around its step count.
+/// The tests of one file: as it is, and each split with budgets around its step count.
 fn tests(file: &File) -> Vec<Test> {
     let mut tests = whole(file);
     if file.refused.is_some() {

@@ -231,7 +231,7 @@ fn unlike_others(made: &(usize, Vec<Row>), output: &[u8], room: &Room, solver: &
     let (n, rows) = made;
     let output = String::from_utf8_lossy(output);
     let satisfiable = output.lines().any(|line| line == "s SATISFIABLE");
-    // neither the order of rows nor how often one stands there is anything to the verdict
+    // neither the order of rows nor how often one is there changes the verdict
     let set: BTreeSet<&Row> = rows.iter().collect();
     let set: Vec<Row> = set.into_iter().cloned().collect();
     match room.ask(solver, &layout::plain(*n, &set)) {

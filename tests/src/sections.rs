@@ -5,8 +5,8 @@ use crate::pictures::Node;
 
 pub const SOURCE: &str = "docs/pictures/circuit.txt";
 
-/// What a letter of a count stands for, with n variables and m rows: b binary digits of n − 1, s the sum of n − 1 divided by 2^d over
-/// them, h pairs of rows.
+/// What a letter of a count means, with n variables and m rows: b binary digits of n − 1, s the sum of n − 1 divided by 2^d over them, h
+/// pairs of rows.
 fn value(letter: char, n: usize, m: usize) -> Option<i64> {
     let value = match letter {
         'n' => n,
@@ -55,7 +55,7 @@ fn sum(signs: &[char], n: usize, m: usize) -> Option<(i64, &[char])> {
     Some((total, rest))
 }
 
-/// A product in front: factors one behind the other, with or without a point between them.
+/// A product in front: factors one after the other, with or without a point between them.
 fn product(signs: &[char], n: usize, m: usize) -> Option<(i64, &[char])> {
     let (mut total, mut rest) = power(signs, n, m)?;
     loop {

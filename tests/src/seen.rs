@@ -14,7 +14,7 @@ use std::path::Path;
 const SEED: u64 = 1_111_900;
 /// How long each text is made.
 const LENGTH: usize = 400;
-/// Applications behind the later of the two closing steps.
+/// Applications after the later of the two closing steps.
 const BEHIND: u64 = 40;
 const SIZES: [[usize; 4]; 5] = [[2, 2, 2, 1], [3, 7, 7, 3], [4, 5, 5, 2], [5, 4, 4, 0], [6, 2, 2, 1]];
 
@@ -38,7 +38,7 @@ fn call(line: &str) -> Option<String> {
     Some(format!("{number}{}", words.join(" ")))
 }
 
-/// The number behind these words in what the tool says.
+/// The number after these words in what the tool says.
 fn number(said: &str, before: &str) -> Option<u64> {
     let digits = said.split_once(before)?.1.trim_start();
     let digits: String = digits.chars().take_while(|c| !c.is_whitespace()).filter(char::is_ascii_digit).collect();

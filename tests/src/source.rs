@@ -1,5 +1,5 @@
-//! Reading sources as far as the gate's own checks need it: Rattle by its tokens, functions with their contracts; antt's
-//! tokens and imports.
+//! Reading sources as far as the gate's own checks need it: Rattle by its tokens, functions with their contracts; antt's tokens and
+//! imports.
 
 /// Goes through Rattle's text. Comments, nested ones too, are passed over; what a string holds is no token.
 struct Reader {
@@ -12,7 +12,7 @@ impl Reader {
         Reader { signs: text.chars().collect(), at: 0 }
     }
 
-    /// Whether this stands here.
+    /// Whether this is here.
     fn sees(&self, text: &str) -> bool {
         text.chars().enumerate().all(|(i, sign)| self.signs.get(self.at + i) == Some(&sign))
     }
@@ -51,7 +51,7 @@ impl Reader {
         }
     }
 
-    /// Moves past what stands up to an unescaped closing sign.
+    /// Moves past all up to an unescaped closing sign.
     fn pass_quoted(&mut self, close: char) {
         self.at += 1;
         while self.at < self.signs.len() && self.signs[self.at] != close {
@@ -60,7 +60,7 @@ impl Reader {
         self.at = (self.at + 1).min(self.signs.len());
     }
 
-    /// Moves past a raw string whose signs `#` or whose quote stand here; false where there is none.
+    /// Moves past a raw string whose signs `#` or whose quote are here; false where there is none.
     fn pass_raw(&mut self) -> bool {
         let hashes = self.signs[self.at..].iter().take_while(|&&sign| sign == '#').count();
         if self.signs.get(self.at + hashes) != Some(&'"') {
@@ -100,7 +100,7 @@ impl Reader {
         Some(first.into())
     }
 
-    /// What stands between the bracket here and the one that closes it, as it is written.
+    /// What is between the bracket here and the one that closes it, as it is written.
     fn braces(&mut self) -> String {
         let (start, mut depth) = (self.at, 0);
         while self.at < self.signs.len() {
@@ -135,7 +135,7 @@ pub struct Function {
     /// Names, and which of them are lent to be written.
     pub parameters: Vec<(String, bool)>,
     pub result: bool,
-    /// The word that begins each clause, and what stands in its brackets.
+    /// The word that begins each clause, and what is in its brackets.
     pub clauses: Vec<(String, String)>,
 }
 
@@ -271,8 +271,8 @@ fn is_name(sign: char) -> bool {
     !sign.is_whitespace() && !"(){}.;,@\"«»".contains(sign)
 }
 
-/// The tokens of antt: names, with a module in front where they have one, fields with their dot, signs. An escaped name
-/// without `_` is the name.
+/// The tokens of antt: names, with a module in front where they have one, fields with their dot, signs. An escaped name without `_` is the
+/// name.
 pub fn tokens(text: &str) -> Vec<String> {
     let signs: Vec<char> = text.chars().collect();
     let mut tokens: Vec<String> = vec![];

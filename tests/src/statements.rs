@@ -3,6 +3,7 @@
 //! of the files of pins, and the contract of every exported function. A statement changes in a commit that changes that file, or the gate fails.
 
 use crate::antt::{self, Item};
+use crate::believed;
 use crate::claims::{self, Index, Named};
 use crate::contracts;
 use crate::page;
@@ -32,6 +33,8 @@ pub struct Tree {
     pub index: Index,
     files: BTreeMap<String, File>,
     functions: Vec<(String, Function)>,
+    /// All functions, those that a crate keeps to itself too.
+    pub all: Vec<(String, Function)>,
 }
 
 impl Tree {
@@ -66,6 +69,7 @@ impl Tree {
             let uses = source::ghost_uses(text);
             let imports = uses.iter().flat_map(|item| source::imports(&format!("use {item}"))).collect();
             self.files.insert(path.into(), File { items: vec![], imports });
+            self.all.extend(source::functions(text).into_iter().map(|function| (path.into(), function)));
             let exported = source::functions(text).into_iter().filter(|function| function.exported);
             self.functions.extend(exported.filter(|function| function.name != "main").map(|f| (path.into(), f)));
         }
@@ -88,6 +92,43 @@ impl Tree {
     pub fn cites(&self, path: &str, text: &str) -> BTreeSet<String> {
         let own = |name: String| self.origin(path, &name).map_or(name.clone(), |(_, there)| there.into());
         mentioned(text).into_iter().map(own).collect()
+    }
+
+    /// The file and the name there that a name in a file means, which may follow a module's; files that only hand it on are passed by.
+    pub fn place(&self, path: &str, token: &str) -> Option<(String, String)> {
+        if !self.named_in(path, token).is_empty() {
+            return Some((path.into(), token.into()));
+        }
+        let (file, name) = match token.rsplit_once('.') {
+            Some((module, name)) => {
+                let import = self.files.get(path)?.imports.iter().find(|import| import.local == module)?;
+                (module_path(&import.module)?, name)
+            }
+            None => self.origin(path, token)?,
+        };
+        self.place(&file, name).or_else(|| Some((file, name.into())))
+    }
+
+    /// The files of definitions.
+    pub fn definition_files(&self) -> Vec<String> {
+        self.files.keys().filter(|path| believed::is_definitions(path)).cloned().collect()
+    }
+
+    /// The items of a file.
+    pub fn items_of(&self, path: &str) -> &[Item] {
+        self.files.get(path).map_or(&[], |file| &file.items)
+    }
+
+    /// The items of a file with this name, or the types that have it as a constructor or a field.
+    pub fn named_in(&self, path: &str, name: &str) -> Vec<&Item> {
+        let items = self.items_of(path).iter();
+        let own: Vec<&Item> = items.clone().filter(|item| item.name == name).collect();
+        let of_type = |item: &&Item| item.is_type && source::tokens(&item.said).iter().any(|token| token == name);
+        if own.is_empty() {
+            items.filter(of_type).collect()
+        } else {
+            own
+        }
     }
 
     /// The items of a file with this name.
@@ -223,7 +264,7 @@ fn module_path(module: &str) -> Option<String> {
     Some(format!("{}/{}", crate_name.split('·').next()?, rest.replace('.', "/")))
 }
 
-/// Whether a name is this one; `*` at its end stands for any end.
+/// Whether a name is this one; `*` at its end means any end.
 fn fits(pattern: &str, name: &str) -> bool {
     pattern.strip_suffix('*').map_or(pattern == name, |start| name.starts_with(start))
 }

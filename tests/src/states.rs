@@ -1,4 +1,4 @@
-//! Well-formed states, all of them or at random, and rows that stand in every relation to a state.
+//! Well-formed states, all of them or at random, and rows in every relation to a state.
 
 use crate::model::{Row, Run, Standing, Value};
 use crate::random::Random;
@@ -6,8 +6,8 @@ use crate::random::Random;
 /// Standings in the order in which they are gone through.
 pub const STANDINGS: [Standing; 3] = [Standing::Open, Standing::Satisfied, Standing::Refuted];
 
-/// The state whose levels choose these variables in turn. Each other variable is free, or has a value from the level of
-/// a number on, the number of levels standing for the state alone. Every well-formed state is one of these, once.
+/// The state whose levels choose these variables in turn. Each other variable is free, or has a value from the level of a number on, the
+/// number of levels meaning the state alone. Every well-formed state is one of these, once.
 pub fn state(standing: Standing, chosen: &[usize], others: &[Option<(usize, bool)>]) -> Run {
     let values_at = |level: usize| -> Vec<Value> {
         let value = |v: usize| match chosen.iter().position(|&c| c == v) {
@@ -162,8 +162,9 @@ pub fn table(count: usize, values: &[Value], random: &mut Random) -> Vec<Row> {
     rows
 }
 
-/// At most so many literals of free variables, to be forced all at once: of different variables, the lowest last; of one variable
-/// with both signs, the negative one first; these two together; or any. In all but the last the first literal is not the one to take.
+/// At most the given number of literals of free variables, to be forced all at once: of different variables, the lowest last; of one
+/// variable with both signs, the negative one first; these two together; or any. In all but the last the first literal is not the one to
+/// take.
 fn forced(free: &[usize], count: usize, random: &mut Random) -> Vec<i64> {
     let mut falling: Vec<usize> = free.to_vec();
     while falling.len() > count {
@@ -184,7 +185,7 @@ fn forced(free: &[usize], count: usize, random: &mut Random) -> Vec<i64> {
     }
 }
 
-/// An open state of n variables and so many rows, two at least, of which several force a literal; the rest force none. Once in
+/// An open state of n variables and the given number of rows, two at least, of which several force a literal; the rest force none. Once in
 /// eight times one of the rest is in conflict.
 pub fn tied(n: usize, count: usize, random: &mut Random) -> (Vec<Row>, Run) {
     let (mut run, mut free) = (Run::fresh(n), vec![]);

@@ -28,7 +28,7 @@ pub fn best_known(k: usize) -> u64 {
     }
 }
 
-/// A run from the fresh state that so many steps were allowed, over the rows at its close: says where it is open though they reach so far.
+/// A run from the fresh state that was allowed these steps, over the rows at its close: says where it is open though they are enough.
 pub fn decided(rows: &[Row], allowed: u64, open: bool) -> Result<(), String> {
     let k = variables(rows);
     match open && allowed >= bound(k) {
@@ -37,7 +37,7 @@ pub fn decided(rows: &[Row], allowed: u64, open: bool) -> Result<(), String> {
     }
 }
 
-/// The same of a run that stops where it is closed, and took so many steps: says where these are more than the bound.
+/// The same of a run that stops where it is closed, and took the given number of steps: says where these are more than the bound.
 pub fn hold(rows: &[Row], allowed: u64, steps: u64, open: bool) -> Result<(), String> {
     let k = variables(rows);
     let mut seen = SEEN.lock().expect("no thread panics while it holds this");

@@ -25,7 +25,7 @@ const HOMES: &[(&str, &[&str])] = &[
 const BUILT_IN: [&str; 3] = ["now", "entry", "exit"];
 /// Signs that contracts have without a module.
 const SIGNS: [&str; 15] = ["(", ")", "{", "}", ".", ";", ",", ":", "=", "λ", "→", "×", "⌜", "⌝", "\""];
-/// Operators of the project's own, none of which stands in a contract, and where each is defined.
+/// Operators of the project's own, none of which is in a contract, and where each is defined.
 const OWN: [(&str, &str); 2] = [("_⊕_", "words/specs/Booleans.antt"), ("_·_", "demand2/proofs/Marked.antt")];
 /// A name of the library that a crate has for something else, and cites with its module in front.
 const SECOND: (&str, &str, &str) = ("sets", "state/specs/WellFormed.antt", "Rattle.state.specs.WellFormed");
@@ -141,7 +141,7 @@ fn definition_faults(path: &str, text: &str) -> Vec<String> {
     faults
 }
 
-/// What stands in a file, by its path from the crates' folder on.
+/// What is in a file, by its path from the crates' folder on.
 fn faults(path: &str, text: &str) -> Vec<String> {
     if path.ends_with(".rt") {
         source_faults(text)

@@ -104,7 +104,7 @@ fn small(public: usize, random: &mut Random) -> (usize, Vec<Row>) {
     (n, (0..count).map(row).collect())
 }
 
-/// Rows laid before the stations and the public, which gets so many of them.
+/// Rows laid before the stations and the public, which gets the given number of them.
 fn laid(rows: &[Row], public: usize, random: &mut Random) -> [Vec<Row>; 3] {
     let stations = rows.len() - public;
     let left = random.between(stations.saturating_sub(128).max(1), stations.min(129) - 1);

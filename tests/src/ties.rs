@@ -129,7 +129,7 @@ fn by_order(test: &Test) -> Option<String> {
     (answers[0] != answers[1] || answers[0] != answers[2]).then(|| format!("{}: {answers:?}", test.name))
 }
 
-/// Counts what the earlier rule's model fails: it must be one in so many at least.
+/// Counts what the earlier rule's model fails: it must be at least one in a given number.
 fn must_fail(what: &str, (failed, all): (usize, usize), share: usize, ledger: &Ledger) {
     ledger.kind(&format!("{what}: fails"), failed);
     ledger.kind(&format!("{what}: all"), all);

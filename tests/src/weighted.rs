@@ -3,7 +3,7 @@
 
 use crate::model::{padding, Answer, Row, Run, Standing};
 
-/// What a row of so many free literals adds, in 2^-32: 2 to the power minus their number.
+/// What a row of that many free literals adds, in 2^-32: 2 to the power minus their number.
 fn gain(free: usize) -> u64 {
     1 << (32 - free)
 }
@@ -61,7 +61,7 @@ pub fn step(run: &mut Run, rows: &[Row]) {
     }
 }
 
-/// Steps through the one that closes the run, at most so many; how many they were.
+/// Steps through the one that closes the run, at most a given number; how many they were.
 pub fn go_on(run: &mut Run, rows: &[Row], times: u64) -> u64 {
     let mut steps = 0;
     while steps < times && run.standing == Standing::Open {

@@ -49,7 +49,7 @@ const NOT_SERVED: [[usize; 4]; 8] = [
     [1, 20, 20, 1], [2, 10, 10, 6], [3, 6, 6, 6], [4, 6, 6, 1], [6, 2, 2, 2], [7, 1, 1, 1], [8, 1, 1, 0], [32, 128, 128, 128],
 ];
 
-/// The texts of rows, which stand in the order of the tables.
+/// The texts of rows, which are in the order of the tables.
 fn texts(size: Size, rows: &[Row]) -> [Vec<u8>; 3] {
     let (left, others) = rows.split_at(size.left);
     let (right, public) = others.split_at(size.right);
@@ -134,7 +134,7 @@ fn as_whole(test: Test) -> Test {
     }
 }
 
-/// The same for a group of them, at most so many.
+/// The same for a group of them, at most a given number.
 fn as_whole_of(group: Group<'static>, most: usize) -> Group<'static> {
     let Group { title, count, make } = group;
     let make = move |number| make(number).into_iter().map(as_whole).collect();
@@ -266,7 +266,7 @@ pub fn to_pair(size: Size, public: &[Row], random: &mut Random) -> Vec<Row> {
     rows
 }
 
-/// The three files of rows, each filled up with line ends to so many bytes.
+/// The three files of rows, each filled up with line ends to the given number of bytes.
 pub fn filled(size: Size, rows: &[Row], length: usize) -> [Source; 3] {
     texts(size, rows).map(|mut text| {
         text.resize(length, b'\n');
