@@ -49,7 +49,7 @@ module _ (ls : List (List ℕ)) (lent : List ℕ) (line : ℕ) where
   }
 
   module _ (bytes : List ℕ) (next at : ℕ) (p : Put ls lent line bytes next at) where
-    -- one line more, written over the bytes behind those that are put
+    -- one line more, written over the bytes after those that are put
     module _ (l out : List ℕ) (h : next < length ls) (e : getD ls next [] ≡ l) (f : length l ≤ length (drop at bytes))
         (o : out ≡ take at bytes ++ over l (drop at bytes)) where
       room : at + length l ≤ length lent
@@ -110,7 +110,7 @@ module _ (ls : List (List ℕ)) (lent : List ℕ) (line : ℕ) where
           sym (take-append-drop at bytes) ∙ ap₂ (λ (x y : List ℕ). x ++ y) put-text (p .kept)
           ∙ ap (λ (k : ℕ). flatten (fitting (length lent) (drop line ls)) ++ drop k lent) put-length
 
--- ---- a turn: the next line is put to the bytes behind those that are put, or it is too long
+-- ---- a turn: the next line is put to the bytes after those that are put, or it is too long
 
 module _ (d : Dimensions) (ws : List ℕ) (e : outcome (circuitChecks d ws) ≡ Taken) (line : ℕ) (lent bytes : List ℕ) (next at : ℕ)
     (p : Put (circuitLines d (gatesOf ws)) lent line bytes next at) (h : next < length (circuitLines d (gatesOf ws))) (r : WrittenLine) (out : List ℕ)

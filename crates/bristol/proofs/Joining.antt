@@ -27,12 +27,12 @@ use Rattle.bristol.proofs.Requests.{taken-lines, past-last, line-put, l
 
 -- ---- requests in a row, whatever each puts
 
--- what k requests put, from a line's number on: each from behind the lines that the last one counted
+-- what k requests put, from a line's number on: each from the line after those that the last one counted
 unfoldable pub asked : (ℕ → List ℕ) → (ℕ → ℕ) → ℕ → ℕ → List ℕ
 asked put count i zero = []
 asked put count i (suc k) = put i ++ asked put count (i + count i) k
 
--- a front of the lines and what lies behind it
+-- a front of the lines and what comes after it
 flatten-front : (k : ℕ) (ls : List (List ℕ)) → flatten (take k ls) ++ flatten (drop k ls) ≡ flatten ls
 unfolding flatten
 flatten-front zero ls = refl
@@ -112,7 +112,7 @@ abbrev pub fronts : WrittenLines → List ℕ → List ℕ
 fronts (lines.Lines k n) bytes = take n bytes
 fronts (lines.Refused r) bytes = []
 
--- the fronts of k requests, each from behind the lines that the last one put, each with lent bytes of its own
+-- the fronts of k requests, each from the line after those that the last one put, each with lent bytes of its own
 abbrev pub requestedLines : Dimensions → List ℕ → (ℕ → List ℕ) → ℕ → ℕ → List ℕ
 requestedLines d ws lent i k = asked (λ j. fronts (writtenLines d ws j (lent j)) (filledLines d ws j (lent j)))
     (λ j. counted (writtenLines d ws j (lent j))) i k

@@ -45,7 +45,7 @@ module _ (d : Dimensions) (ws : List ℕ) where
     pub refuse-gates : not (accepted (inputWires d) ws) ≡ true → Refused Gates ≡ outcome (circuitChecks d ws)
     refuse-gates e = sym (by-gates ∙ ap (λ (b : Bool). outcome (check b Gates ∷ [])) e)
 
-    -- where the sizes are taken and the words are accepted as gates behind the inputs, the circuit is taken
+    -- where the sizes are taken and the words are accepted as gates after the inputs, the circuit is taken
     pub take-circuit : not (accepted (inputWires d) ws) ≡ false → Taken ≡ outcome (circuitChecks d ws)
     take-circuit e = sym (by-gates ∙ ap (λ (b : Bool). outcome (check b Gates ∷ [])) e)
 

@@ -12,18 +12,18 @@ use Rattle.text.specs.Decimal.{decimal}
 use Rattle.text.proofs.Decimals.{decimal-digit, decimal-step}
 use Rattle.bristol_line.specs.ByValue.{circuitLineOf}
 
--- a piece written to a list from a place on: the list then, and the place behind it
+-- a piece written to a list from a place on: the list then, and the place after it
 abbrev pub Piece : List ℕ → ℕ → List ℕ → ℕ → List ℕ → Type 0
 Piece l at out end more = (end ≡ at + length more) × (out ≡ sets l at more)
 
--- a piece behind a piece
+-- a piece after a piece
 pub further : (l t out front more : List ℕ) (i at end : ℕ) → Piece l i t at front → Piece t at out end more → Piece l i out end (front ++ more)
 further l t out front more i at end p q = (
   omega (arith, length-append front more, p .0, q .0),
   q .1 ∙ ap₂ (λ (x : List ℕ) (k : ℕ). sets x k more) (p .1) (p .0) ∙ sym (sets-append front more l i),
 )
 
--- a byte behind a piece
+-- a byte after a piece
 pub byte-more : (l out front : List ℕ) (at end b : ℕ) → Piece l at out end front → Piece l at (set out end b) (end + 1) (front ++ (b ∷ []))
 byte-more l out front at end b p = further l out (set out end b) front (b ∷ []) at end (end + 1) p (refl, refl)
 
@@ -44,7 +44,7 @@ number-digit l x at h =
     let digit = sym (decimal-digit x h) in
     (ap (λ (d : List ℕ). at + length d) digit, ap (sets l at) digit)
 
--- a number's last digit behind the others
+-- a number's last digit after the others
 pub number-more : (l out : List ℕ) (x at end : ℕ) → 10 ≤ x → x < 2 ^ 64 → Piece l at out end (decimal (x / 10))
     → Piece l at (set out end (48 + x % 10)) (end + 1) (decimal x)
 number-more l out x at end h f e =

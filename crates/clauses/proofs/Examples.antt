@@ -48,7 +48,7 @@ joined-signs : reading "1-2 0" ≡ unreadable
 unfolding reading
 joined-signs = refl
 
--- a remark right behind the place, in the middle of a clause, at the end without an LF; places are the text's
+-- a remark right after the place, in the middle of a clause, at the end without an LF; places are the text's
 remarks : reading "\nc 1 0\n1\nc \r\n\nc-\n-3 0\nc 2" ≡ clause (plus 0 ∷ (minus 2 ∷ [])) 7 21 ended
 unfolding reading
 remarks = refl

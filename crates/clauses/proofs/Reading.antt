@@ -61,7 +61,7 @@ first-before n t (number s (suc i)) rest =
     (λ e. rw e (first-joined (t .at) (record { minus = s; bit = i }) rest))
     (λ e. rw e)
 
--- the reading of a token and of what stands behind it
+-- the reading of a token and of what comes after it
 abbrev tokenThen : ℕ → List ℕ → ℕ → ℕ → Reading
 tokenThen n text from to = before n (record { at = from; bytes = part from to text }) (numberRead (part from to text)) (clausesFrom n text to)
 
@@ -161,10 +161,10 @@ unfolding clauses
 clauses-below n [] = refl
 clauses-below n (t ∷ ts) = before-below n t (numberRead (t .bytes)) (clauses n ts) (clauses-below n ts)
 
--- ---- the clauses behind the first
+-- ---- the clauses after the first
 
 module _ (n : ℕ) (text : List ℕ) where
-  -- behind a token stand the tokens of the text from its end on
+  -- after a token come the tokens of the text from its end on
   tail-is : (i : ℕ) (t : Piece) (ts : List Piece) → t ∷ ts ≡ tokensPast text i → ts ≡ tokensPast text (behind t)
   tail-is i t ts e =
       let F = found text i (t .at) (behind t) (sym (ap firstOf e)) in

@@ -68,7 +68,7 @@ taken-within n rows words space words′ space′ e h k =
     let rows-in = check-passed (ltb 128 rows) RowCount _ e₁ in
     rw (n-in, rows-in, le-ltb words′ (2 * rows) h, le-ltb space′ (64 * squareCount rows) k)
 
--- one more check behind those of the sizes
+-- one more check after those of the sizes
 module _ (n rows words space : ℕ) (b : Bool) (last : Refusal) where
   pub refuse-size : (r : Refusal) → outcome (bufferChecks n rows words space) ≡ Refused r
       → Refused r ≡ outcome (bufferChecks n rows words space ++ check b last ∷ [])

@@ -70,7 +70,7 @@ planes-clean n rows table l small =
     front : List ℕ
     front = take (2 * rows) table
 
-    -- bit j of the word stands for row 32 (q / 64) + j
+    -- bit j of the word belongs to row 32 (q / 64) + j
     no-bit : (q i j : ℕ) → j < 32 → i ≡ q % 32 → room n rows q ≤ j → bit (getD (signWords front (q / 64) (q % 64 / 32)) j 0) i ≡ false
     no-bit q i j b e h =
         ap (λ (x : ℕ). bit x i) (at-tabulate (λ j. getD front (64 * (q / 64) + 2 * j + q % 64 / 32) 0) 0 32 j b

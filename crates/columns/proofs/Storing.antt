@@ -50,7 +50,7 @@ module _ (table before : List ℕ) (k : ℕ) where
     unfolding squaresFrom
     squaring-end h = let e : k - s ≡ 0 = omega arith in ap (λ (x : ℕ). sets now (64 * s) (squaresFrom table s x)) (sym e) ∙ q .stored
 
--- two planes stored one behind the other are a square stored
+-- two planes stored one after the other are a square stored
 pub two-planes : (before : List ℕ) (at : ℕ) (square : List (List ℕ)) → length square ≡ 2 → length (getD square 0 []) ≡ 32
     → sets (sets before at (getD square 0 [])) (at + 32) (getD square 1 []) ≡ sets before at (flat square)
 two-planes before at [] e h = absurd (omega arith)

@@ -158,7 +158,7 @@ module _ (d : Dimensions) (tables : Tables) (budget : ℕ) (accepted : outcome (
     unfolding allTrue
     all = demand2 d tables budget accepted .satisfiable model e
 
-    -- the rows behind the left station's
+    -- the rows after the left station's
     abbrev behind : List Row
     behind = rowsFrom (tables .right) 0 (d .right) ++ rowsFrom (tables .public) 0 (d .public)
 

@@ -73,7 +73,7 @@ module _ (d : Dimensions) where
   roomy-long = and-i (and-i (zeros-fit (inputWires d)) (zeros-fit (inputWires d + length (gatesOn d))))
       (le-leb (stateWires (d .n)) (stateWires (d .n)) (omega arith))
 
-  -- k of them behind others
+  -- k of them after others
   pub roomy-ones : (attempts : List Attempt) (k : ℕ) → k ≤ longOnes d (attempts ++ replicate k roomy)
   unfolding longOnes
   roomy-ones [] zero = omega arith
@@ -135,7 +135,7 @@ module _ (d : Dimensions) (x : Demand3 d) where
         let none : Repeat = record { run = runOf (d .n) fresh; mark = false } in
         List·getD-map (λ (r : Repeat). r .mark) whole i none ∙ ap (λ (r : Repeat). r .mark) (x .history tables acc budget attempts .each i none b)
 
-    -- every long enough attempt is a repeat until the run closes or the budget is spent, and there is none behind
+    -- every long enough attempt is a repeat until the run closes or the budget is spent, and no later one is
     pub repeats-all : longOnes d attempts ≤ answerFor d tables budget .count → length whole ≡ longOnes d attempts
     repeats-all h = omega (arith, x .history tables acc budget attempts .number)
 

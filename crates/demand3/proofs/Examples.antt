@@ -116,7 +116,7 @@ module _ (x : Demand3 small) where
       seen-is small x marked marked-accepted 9 attempts (answer 3 (Satisfiable 2)) marked-answer long (false ∷ false ∷ true ∷ [])
       (marks-are small x marked marked-accepted 9 attempts (answer 3 (Satisfiable 2)) marked-answer long (false ∷ false ∷ true ∷ []) refl marked-closes)
 
-  -- so of three behind one with nothing lent and one that is refused for another cause
+  -- the same for three after one with nothing lent and one that is refused for another cause
   pub turned-back-seen : seen small marked 9 (Lent [] [] 0 ∷ Otherwise State ∷ replicate 3 (roomy small))
       ≡ (circuitTextOf small, 3, false ∷ false ∷ true ∷ [], answerText 2 (answer 3 (Satisfiable 2)), λ i. [])
   turned-back-seen = marked-seen _ (roomy-ones small (Lent [] [] 0 ∷ Otherwise State ∷ []) 3)

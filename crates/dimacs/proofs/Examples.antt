@@ -69,7 +69,7 @@ clause-too-many : meaning "p cnf 2 1\n1 0 2 0" ≡ refusal 5
 unfolding meaning
 clause-too-many = refl
 
--- remarks right behind the header, in the middle of a clause, as the last line without an LF
+-- remarks right after the header, in the middle of a clause, as the last line without an LF
 remarks : meaning "c\np cnf 2 2\nc 1 0\n1\nc x\r\nc\n2 0\n-1 0\nc 2 0" ≡ table 2 2 3 0 0 1
 unfolding meaning
 remarks = refl

@@ -22,7 +22,7 @@ use Rattle.clauses.proofs.Unplaced.{rows-same, complete-same}
 use Rattle.dimacs.specs.Text.{refused, acceptedTable, bodyOf, fromHeader, plainTable}
 use Rattle.dimacs.specs.declared.Table.{Table}
 
--- what a header leads to, its clauses read in the text as it stands
+-- what a header leads to, its clauses read in the text as it is
 abbrev pub standing : List ℕ → ℕ → HeaderNumbers → Table
 standing text end (S.Refused r) = refused r
 standing text end (S.Of n m) = bodyOf n m (clausesFrom n text end)

@@ -20,7 +20,7 @@ pub overlong : (least : ℕ) (text : List ℕ) → 65536 < length text → table
 unfolding tableOf
 overlong least text h = rw (lt-ltb 65536 (length text) h)
 
--- any other text has its header's refusal, or the table of the clauses read behind the header in the text as it stands
+-- any other text has its header's refusal, or the table of the clauses read after the header in the text as it is
 pub by-header : (least : ℕ) (text : List ℕ) → length text ≤ 65536 → (h : Header) → h ≡ headerOf least text → (x : HeaderNumbers) → h .sizes ≡ x
     → tableOf least text ≡ standing text (h .end) x
 unfolding tableOf

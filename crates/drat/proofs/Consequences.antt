@@ -44,7 +44,7 @@ module _ (d : Dimensions) (tables : Tables) where
         enough-unsatisfiable (d .n) (always (rowsOf d tables)) budget (answerOf (d .n) (always (rowsOf d tables)) budget)
         (demand2 d tables budget accepted) enough (accepted-none d tables text h)
 
-  -- ---- lines behind the empty clause
+  -- ---- lines after the empty clause
 
   adds-behind : (front more : List ProofLine) → addsEmpty front ≡ true → addsEmpty (front ++ more) ≡ true
   unfolding addsEmpty
@@ -63,7 +63,7 @@ module _ (d : Dimensions) (tables : Tables) where
       (λ z. rw z (follow-behind ls more (rows ++ (c ∷ [])) (rw z at e) (rw z at (and-r (follows rows c) _ f)))))
   follow-behind (deleted c ∷ ls) more rows e f = follow-behind ls more (without c rows) e f
 
-  -- lines behind the empty clause are read for form only: with any well-formed ones there, up to 256 additions in all, a proof is accepted
+  -- lines after the empty clause are read for form only: with any well-formed ones there, up to 256 additions in all, a proof is accepted
   pub behind-accepted : outcome (tableChecks d tables) ≡ Taken → (text : List ℕ) → length text ≤ 65536
       → (front more : List ProofLine) → proofLines (d .n) (linesFrom text 0) ≡ some (front ++ more) → additions (front ++ more) ≤ 256
       → allFollow (rowsOf d tables) front ≡ true → addsEmpty front ≡ true → outcome (proofChecks d tables text) ≡ Taken

@@ -19,7 +19,7 @@ use Rattle.tables.specs.Rows.{rowsFrom, rowsOf}
 use Rattle.tables.specs.Acceptance.{tableChecks}
 use Rattle.drat.specs.Text.{proofLines, fewAdditions, proofOf, proofTextChecks, proofChecks}
 
--- the tables' rows, one table behind the other
+-- the tables' rows, one table after the other
 pub all-rows : (d : Dimensions) (tables : Tables) (none x y z : List Row) → none ≡ rowsFrom (tables .left) 0 0
     → x ≡ none ++ rowsFrom (tables .left) 0 (d .left) → y ≡ x ++ rowsFrom (tables .right) 0 (d .right) → z ≡ y ++ rowsFrom (tables .public) 0 (d .public)
     → z ≡ rowsOf d tables

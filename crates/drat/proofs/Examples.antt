@@ -48,7 +48,7 @@ empty-alone : code "0" ≡ 19
 unfolding code
 empty-alone = refl
 
--- an addition behind the empty clause need not follow, but is read for form
+-- lines after the empty clause are read for form only
 behind-empty : code "1 0\n0\n\nd 2 0" ≡ 0
 unfolding code
 behind-empty = refl

@@ -184,7 +184,7 @@ module _ (c : Row) (w : List ℕ) (count at : ℕ) (e : at ≡ place c (rowsFrom
 
 -- ---- a table's rows
 
--- so many rows of a table stand behind those that were there
+-- so many rows of a table follow those that were there
 pub record Appended (w₀ w : List ℕ) (count : ℕ) (table : List ℕ) (i : ℕ) : Type 0 where
   pub same-length : length w ≡ length w₀
   pub rows : rowsFrom w 0 (count + i) ≡ rowsFrom w₀ 0 count ++ rowsFrom table 0 i

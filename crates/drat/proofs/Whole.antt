@@ -59,7 +59,7 @@ module _ (n : ℕ) (text : List ℕ) where
       ∙ ap (λ (j : ℕ). lineBefore (lineSaid n (take j (drop at text))) (proofLines n (later isLineFeed (at + j) (drop j (drop at text))))) (sym e)
       ∙ ap (λ (l : List ℕ). lineBefore (lineSaid n (take k (drop at text))) (proofLines n (later isLineFeed (at + k) l))) (drop-drop k at text)
 
-  -- a line, and the lines behind it
+  -- a line, and the lines after it
   line-step : (at end : ℕ) → end ≡ runEnd inLine text at
       → proofLines n (linesFrom text at) ≡ lineBefore (lineSaid n (take (end - at) (drop at text))) (proofLines n (linesFrom text (end + 1)))
   unfolding runEnd

@@ -25,7 +25,7 @@ set-off : line " 1 \t-2  1 0 \r" ≡ Added (row 1 2)
 unfolding line
 set-off = refl
 
--- a deletion, with blanks before `d` and behind its space
+-- a deletion, with blanks before `d` and after its space
 deletion : line "\td  1 2 0" ≡ Deleted (row 3 0)
 unfolding line
 deletion = refl
@@ -70,7 +70,7 @@ d-lineBefore : line "d1 0" ≡ Malformed
 unfolding line
 d-lineBefore = refl
 
--- no 0, and more behind it
+-- no 0, and more after a 0
 no-zero : line "1 2" ≡ Malformed
 unfolding line
 no-zero = refl

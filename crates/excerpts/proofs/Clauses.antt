@@ -146,7 +146,7 @@ module _ (n : ℕ) (text : List ℕ) (start k : ℕ) where
     unfolding skip
     all-skipped h = let e : 0 ≡ k - i = omega (arith, w .within) in ap (λ (j : ℕ). first (skip j (clausesFrom n text at))) e ∙ ap first (w .left)
 
--- ---- behind the header
+-- ---- after the header
 
 module _ (text : List ℕ) (k : ℕ) (h : Header) (e : h ≡ headerOf 1 text) where
   by-sizes : (s : HeaderNumbers) → h .sizes ≡ s → skip k (behindHeader text (h .end) s) ≡ clauseOf text k

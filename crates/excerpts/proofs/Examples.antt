@@ -56,7 +56,7 @@ place t l r number = let p = placed sizes t (bytes l) (bytes r) number in placed
 
 -- ---- bytes and places
 
--- spacing and the remark stay as they stand in the text
+-- spacing and the remark stay as they are in the text
 over-lines : excerpt tables leftText rightText 1 ≡ bytes "1\t-2\r\nc 2 0\n\n  3 0"
 unfolding excerpt
 over-lines = refl

@@ -30,7 +30,7 @@ use Rattle.excerpts.proofs.Clauses.{LiesFrom, clauses-lie}
 abbrev Shown : ℕ → Reading → Row → Type 0
 Shown station x row = 1 ≤ placeIn station x row .length
 
--- behind a row's two words the next row is the first
+-- after a row's two words the next row is the first
 next-row : (p q : ℕ) (words : List ℕ) (k : ℕ) → rowAt (p ∷ (q ∷ words)) (suc k) ≡ rowAt words k
 next-row p q words k =
     let a : 2 * suc k ≡ suc (suc (2 * k)) = omega arith in

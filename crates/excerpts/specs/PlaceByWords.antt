@@ -14,7 +14,7 @@ placeHeld station (Read row from to) positive negative = cond (eqb (row .positiv
 placeHeld station End positive negative = between station 0 0
 placeHeld station Unreadable positive negative = between station 0 0
 
--- a clause ends behind its start
+-- a clause ends after its start
 abbrev pub Ordered : Clause → Type 0
 Ordered (Read row from to) = from < to
 Ordered End = Unit

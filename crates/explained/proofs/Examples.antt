@@ -68,7 +68,7 @@ was-refuted = refl
 
 -- ---- which row
 
--- two rows in conflict behind one that is satisfied
+-- two rows in conflict after one that is satisfied
 first-conflict : tells (row 1 0 ∷ row 0 1 ∷ row 0 1 ∷ []) (at 1 0) ≡ 3 ∷ 2 ∷ 0 ∷ 0 ∷ []
 unfolding tells
 first-conflict = refl

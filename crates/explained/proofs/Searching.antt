@@ -31,7 +31,7 @@ pub turn : (i m found : ℕ) → ltb i m && eqb found 0 ≡ true → (i < m) × 
 turn i m found e = (ltb-true i m (and-l (ltb i m) (eqb found 0) e), eqb-true found 0 (and-r (ltb i m) (eqb found 0) e))
 
 module _ (p : Row → Bool) where
-  -- ---- rows behind others
+  -- ---- rows after others
 
   from-append : (xs ys : List Row) (i : ℕ) → 1 ≤ i → lowestFrom i p (xs ++ ys) ≡ foundOr (lowestFrom i p xs) (lowestFrom (i + length xs) p ys)
   unfolding lowestFrom

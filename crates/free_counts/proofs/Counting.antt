@@ -50,7 +50,7 @@ module _ (words : List ℕ) (rows t f : ℕ) (before : List ℕ) (at : ℕ) wher
         let z : 0 ≡ rows - i = omega arith in
         ap (λ (y : ℕ). sets counts (at + i) (freeCounts 32 (rowsFrom words i y) t f)) z ∙ c .left
 
--- what is stored behind a table's counts
+-- what is stored after a table's counts
 counts-then : (n t f : ℕ) (words : List ℕ) (k j : ℕ) (l : List ℕ) (at : ℕ) (rest : List ℕ)
     → sets (sets l at (freeCounts n (rowsFrom words j k) t f)) (at + k) rest ≡ sets l at (freeCounts n (rowsFrom words j k) t f ++ rest)
 counts-then n t f words zero j l at rest = ap (λ (p : ℕ). sets l p rest) (add-zero at)

@@ -73,7 +73,7 @@ empty-never : answer "p cnf 1 1\na 1 0\n0\n" ≡ won 2 1 1
 unfolding answer
 empty-never = refl
 
--- the first variable stands in no row, and has its turn all the same
+-- the first variable occurs in no row, and has its turn all the same
 first-in-no-row : answer "p cnf 3 1\na 3 0\ne 1 2 0\n1 0\n" ≡ won 1 0 0
 unfolding answer
 first-in-no-row = refl

@@ -106,7 +106,7 @@ module _ (text : List ℕ) (rows : List Row) (turns : List GameTurn) (e : gameTe
   few : length turns ≤ 32
   few = omega (arith, its .few-turns)
 
-  -- what stands in the assignment before any turn is without effect
+  -- what the assignment says before any turn has no effect
   pub text-unfixed : (a : ℕ → Bool) → forced rows turns a ≡ forced rows turns unfixed
   text-unfixed a = alike (length turns) few rows low-rows turns a unfixed (λ i b no. absurd (true≢false (sym (its .each i b) ∙ no)))
 

@@ -19,12 +19,12 @@ reads m (XOR a b) = ltb a m && ltb b m
 reads m (AND a b) = ltb a m && ltb b m
 reads m (INV a) = ltb a m
 
--- gates behind m wires, each of which reads wires before its own
+-- gates after m wires, each of which reads wires before its own
 unfoldable pub ordered : ℕ → List Gate → Bool
 ordered m [] = true
 ordered m (g ∷ gs) = reads m g && ordered (suc m) gs
 
--- two lists of gates joined: ordered behind m wires just if the first is, and the second is behind these and the first list's wires
+-- two lists of gates joined: ordered after m wires just if the first is, and the second is after these and the first list's wires
 pub ordered-append : (m : ℕ) (xs ys : List Gate) → ordered m (xs ++ ys) ≡ ordered m xs && ordered (m + length xs) ys
 unfolding ordered
 ordered-append m [] ys = ap (λ (k : ℕ). ordered k ys) (sym (add-zero m))

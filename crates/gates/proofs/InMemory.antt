@@ -52,7 +52,7 @@ drives-words m (XOR a b) ws = refl
 drives-words m (AND a b) ws = refl
 drives-words m (INV a) ws = ap (λ (b : Bool). b && accepted (suc m) ws) (and-comm (ltb a m) true)
 
--- the words of gates are accepted behind m wires just if each gate reads wires before its own only
+-- the words of gates are accepted after m wires just if each gate reads wires before its own only
 pub accepted-words : (m : ℕ) (gs : List Gate) → accepted m (wordsOf gs) ≡ ordered m gs
 unfolding accepted wordsOf ordered
 accepted-words m [] = refl
@@ -75,7 +75,7 @@ words-gates m (k ∷ (a ∷ [])) e = absurd (false≢true e)
 words-gates m (k ∷ (a ∷ (b ∷ ws))) e =
     ap₂ (λ (x y : List ℕ). x ++ y) (words-gate m k a b (and-l _ _ e)) (words-gates (suc m) ws (and-r (drives m k a b) _ e))
 
--- of words accepted behind m wires, each gate reads wires before its own only
+-- of words accepted after m wires, each gate reads wires before its own only
 pub accepted-ordered : (m : ℕ) (ws : List ℕ) → accepted m ws ≡ true → ordered m (gatesOf ws) ≡ true
 accepted-ordered m ws e =
     sym (accepted-words m (gatesOf ws)) ∙ ap (λ (l : List ℕ). accepted m l) (words-gates m ws e) ∙ e

@@ -69,7 +69,7 @@ drop-three g i h =
     ∙ ap (λ (l : List ℕ). getD g (i + 1) 0 ∷ l)
     (ap (λ (j : ℕ). drop j g) e₂ ∙ drop-cons g (i + 2) 0 (omega arith) ∙ ap (λ (j : ℕ). getD g (i + 2) 0 ∷ drop j g) e₃))
 
--- words from i on, three or more: accepted behind m wires just if those three may drive wire m and the rest is accepted behind one wire more
+-- words from i on, three or more: accepted after m wires just if those three may drive wire m and the rest is accepted after one wire more
 pub accepted-at : (g : List ℕ) (i : ℕ) → i + 3 ≤ length g → (m : ℕ)
     → accepted m (drop i g) ≡ drives m (getD g i 0) (getD g (i + 1) 0) (getD g (i + 2) 0) && accepted (m + 1) (drop (i + 3) g)
 unfolding accepted

@@ -38,7 +38,7 @@ all-append P (x ∷ xs) ys h k = (h .0, all-append P xs ys (h .1) k)
 unfoldable pub size : Section → ℕ
 size s = (s .zeros + s .size * s .cells) * s .lanes
 
--- behind i inputs and gates that end at b: there, if it has lanes
+-- a section after i inputs and gates that end at b: it begins there if it has lanes
 abbrev pub Begins : ℕ → ℕ → Section → Type 0
 Begins i b s = (0 < s .lanes → s .base ≡ b) × (i ≤ s .base) × (s .base ≤ b)
 

@@ -25,7 +25,7 @@ use Rattle.generator.proofs.Placing.{row-more}
 use Rattle.generator.proofs.Chain.{size, Begins, Chain, ends, chain-at, chain-end, ends-more, chain-append, five-chained}
 use Rattle.generator.proofs.Circuit.{f, last, judged, signed, chosen, held, changed, from-digits, from-keys, from-splits, f-length, all-sections}
 
--- one more section, of f gates, behind t gates
+-- one more section, of f gates, after t gates
 step : (i t f whole r e e′ : ℕ) → whole ≡ t + f → f ≡ r → i + t ≡ e → e′ ≡ e + r → i + whole ≡ e′
 step i t f whole r e e′ h₁ h₂ h₃ h₄ = omega arith
 

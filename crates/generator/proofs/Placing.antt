@@ -73,7 +73,7 @@ pub done : (w₀ t s : List ℕ) (base p₀ : ℕ) (w : List ℕ) (p i : ℕ) �
 unfolding wordsOf
 done w₀ t s base p₀ w p i r h = rw (drop-of-length-le t h) at (r .same)
 
--- gates behind gates: q is where the second ones are stored
+-- gates after gates: q is where the second ones are stored
 pub followed-by : (A B : List Gate) (w₀ w w′ : List ℕ) (p q : ℕ) → w ≡ sets w₀ p (wordsOf A) → q ≡ p + 3 * length A
     → w′ ≡ sets w q (wordsOf B) → w′ ≡ sets w₀ p (wordsOf (A ++ B))
 followed-by A B w₀ w w′ p q e h e′ =

@@ -33,7 +33,7 @@ module _ (text : List ℕ) where
   abbrev NoLine : ℕ → Type 0
   NoLine at = (pastRemarks (linesFrom text at) ≡ []) × (keptFrom start (drop at text) ≡ [])
 
-  -- the first line that is none stands at h
+  -- the first line that is not a remark is at h
   abbrev LineAt : ℕ → ℕ → Type 0
   LineAt at h =
       (h ≤ length text) × (pastRemarks (linesFrom text at) ≡ linesFrom text h) × (getD (drop h text) 0 0 ≡ 99 → ⊥)
@@ -88,7 +88,7 @@ module _ (text : List ℕ) where
 -- ---- the header, whatever the least row count
 
 module _ (least : ℕ) (text : List ℕ) where
-  -- the text without its remarks has the same sizes in its header, and goes on behind it with what is kept of the text
+  -- the text without its remarks has the same sizes in its header, and goes on after it with what is kept of the text
   pub record Same : Type 0 where
     pub sizes : headerOf least (withoutRemarks text) .sizes ≡ headerOf least text .sizes
     pub rest : drop (headerOf least (withoutRemarks text) .end) (withoutRemarks text) ≡ keptFrom further (drop (headerOf least text .end) text)
@@ -109,7 +109,7 @@ module _ (least : ℕ) (text : List ℕ) where
       same [] (record { sizes = Refused Text; end = 0 }) (record { sizes = Refused Text; end = length text })
       (kept-is text ∙ k) refl (ap (headed least text) e) refl (sym (rw (drop-of-length-le {A = ℕ} text {i = length text} (omega arith))))
 
-  -- a text whose header's line stands at h
+  -- a text whose header's line is at h
   found : (h : ℕ) → LineAt text 0 h → Same
   unfolding headerOf runEnd
   found h (within, e, c, k) =
@@ -130,6 +130,6 @@ module _ (least : ℕ) (text : List ℕ) where
       (let i : 0 + run inLine v ≡ width = omega (arith, line-run rest) in
       ap (λ (x : ℕ). drop x v) i ∙ line-drop rest ∙ ap (keptFrom further) (drop-drop width h text))
 
-  -- whatever the least row count, a text without its remarks has the same sizes in its header, and behind the header what is kept of the text
+  -- whatever the least row count, a text without its remarks has the same sizes in its header, and after the header what is kept of the text
   pub header-same : Same
   header-same = ⊎-elim none (λ n. found (n .0) (n .1)) (search-from text (length text) 0 (omega arith) (omega arith))

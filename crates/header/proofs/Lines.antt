@@ -33,7 +33,7 @@ line-remark b bs =
     (λ e. rw e)
 
 module _ (text : List ℕ) (at : ℕ) where
-  -- the first line from a place on, and those behind it
+  -- the first line from a place on, and those after it
   lines-first : linesFrom text at
       ≡ record { at = at; bytes = take (run inLine (drop at text)) (drop at text) }
       ∷ later isLineFeed (runEnd inLine text at) (drop (runEnd inLine text at) text)

@@ -46,7 +46,7 @@ module _ (least : ℕ) (line : List ℕ) where
           pub both-names : same (part f fe line) (bytes "cnf") ≡ true → headerParts least (partsAt 0) ≡ twoNumbers least (partsAt fe)
           both-names b = named ∙ rw (eq-eqb p 0 z, a, b)
 
-  -- ---- the parts behind the names
+  -- ---- the parts after the names
 
   module _ (at : ℕ) where
     pub no-size : partsAt at ≡ [] → twoNumbers least (partsAt at) ≡ Refused Text

@@ -31,7 +31,7 @@ fn condition_of(station: u64, row: u64, positive: u32, negative: u32) -> Conditi
 }
 
 // Puts a row of these two words in the place of the station's padding row of that number, while the run in the lent words is open; 1, 2, 4,
-// 3, 12, 13, 15, 16, or 3 for the new row, where it is turned back.
+// 3, 12, 13, 15, 16, or 3 for the new row, where it is refused.
 #[no_mangle]
 pub extern "C" fn forkhemit_replace(
     n: u64,
@@ -64,7 +64,7 @@ pub extern "C" fn forkhemit_replace(
 }
 
 // The same with a lent index and a lent number of unsatisfied rows, which are then those of the new tables; 12 too where they were not
-// right. Turned back, the number is the one that was lent.
+// right. Where it is refused, the number is the one that was lent.
 #[no_mangle]
 pub extern "C" fn forkhemit_replace_indexed(
     n: u64,

@@ -12,7 +12,7 @@ ghost use Rattle.host_repeats.specs.Repeats.{repeatIn, repeatStored, rep
 
 // Repeats the circuit, which it writes over the front of the gate words, on the run until that is closed, at most so many times. The bytes
 // then hold the last repeat's inputs, the wires its wires, and the numbers are how many repeats there were and the last mark; 1, 2, 4, 3,
-// 7, 10, 12 or 13 where it is turned back, and then nothing is written.
+// 7, 10, 12 or 13 where it is refused, and then nothing is written.
 #[no_mangle]
 pub extern "C" fn forkhemit_repeat(
     n: u64,

@@ -111,7 +111,7 @@ pub extern "C" fn forkhemit_fresh(n: u64, run: &mut [u32; 101]) -> u8
     codes::code(outcome)
 }
 
-// One giant step of the run in the lent words; 1, 2, 4, 3, 12 or 13 where it is turned back, and then no word changes.
+// One giant step of the run in the lent words; 1, 2, 4, 3, 12 or 13 where it is refused, and then no word changes.
 #[no_mangle]
 pub extern "C" fn forkhemit_step(
     n: u64,

@@ -10,7 +10,7 @@ ghost use Rattle.lent.specs.Lent.{numbersOr};
 
 // The answer of a fresh run by the circuit, which is written over the front of the gate words and applied as many times as the budget says,
 // closed or not: the budget, verdict, model. The bytes and the wires that it used are zeros then, so that no closing wire and no row is
-// left; 1, 2, 4, 3, 7, 23 or 10 where it is turned back, and then nothing is written.
+// left; 1, 2, 4, 3, 7, 23 or 10 where it is refused, and then nothing is written.
 #[no_mangle]
 pub extern "C" fn forkhemit_solve_whole(
     n: u64,

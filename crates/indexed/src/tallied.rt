@@ -24,7 +24,7 @@ pub(crate) struct Reached {
 }
 
 // One giant step: the rule is read off the tally, and a newly set variable leads to its own rows only. After a removed level all sets are
-// made anew.
+// made again.
 pub(crate) fn advance(
     words: &[u32; 768],
     rows: usize,

@@ -47,6 +47,6 @@ goes-on xs i b h e u ys = ap (λ (l : List ℕ). lineOf (l ++ ys)) (stored xs i 
 pub ends : (xs : List ℕ) (i b : ℕ) → i < length xs → Unended (take i xs) → lineOf (take (i + 1) (set xs i b)) ≡ take (i + 1) (set xs i b)
 ends xs i b h u = ap lineOf (stored xs i b h) ∙ one-last (take i xs) b u ∙ sym (stored xs i b h)
 
--- the bytes behind are left
+-- the bytes after it are left as they were
 pub rest-left : (xs ys : List ℕ) (i b : ℕ) → drop i xs ≡ drop i ys → drop (i + 1) (set xs i b) ≡ drop (i + 1) ys
 rest-left xs ys i b h = drop-set-lt (i + 1) xs i b (omega arith) ∙ sym (drop-drop 1 i xs) ∙ ap (λ (l : List ℕ). drop 1 l) h ∙ drop-drop 1 i ys

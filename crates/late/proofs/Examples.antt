@@ -18,7 +18,7 @@ use Rattle.state.specs.WellFormed.{disjoint, wellFormed}
 use Rattle.late.specs.declared.Condition.{Condition}
 use Rattle.late.specs.Replacement.{lateChecks, tablesAfter}
 
--- rows 1 and 2: (1 2), (1 -1) | rows 3 and 4: (2 -2), (-1) | row 5, public: (1 -1); a word behind each station's rows
+-- rows 1 and 2: (1 2), (1 -1) | rows 3 and 4: (2 -2), (-1) | row 5, public: (1 -1); a word after each station's rows
 abbrev d : Dimensions
 d = dimensions 2 2 2 1
 

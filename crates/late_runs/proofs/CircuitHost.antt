@@ -35,7 +35,7 @@ use Rattle.late_runs.proofs.Host.{open-replaces, at-once}
 use Rattle.late_runs.proofs.CircuitCalls.{call-taken, call-refused, further, taken-goes, refused-goes, counts-add-up}
 use Rattle.demand3.proofs.Histories.{closed-open}
 
--- an attempt that is turned back gives the same, whichever accepted tables it read
+-- an attempt that is refused gives the same, whichever accepted tables it read
 pub turned-alike : (d : Dimensions) (t t′ : Tables) → Accepts d t → Accepts d t′ → (s : State) → wellFormedState (d .n) s ≡ true
     → (a : Attempt) → longEnough d a ≡ false → attempted d t (runOf (d .n) s) a ≡ attempted d t′ (runOf (d .n) s) a
 turned-alike d t t′ acc acc′ s w (Lent bytes wires handed) e = short-turned d t acc s w bytes wires handed e
@@ -110,7 +110,7 @@ module _ (d : Dimensions) where
         further : Run → List Repeat
         further r = repeats d (laterTables (tablesAt d t (conditionsIn d 1 more))) rest r (attemptsIn d more)
 
-    -- an attempt that is turned back comes to nothing, whatever accepted tables it reads
+    -- an attempt that is refused comes to nothing, whatever accepted tables it reads
     mixed-short : longEnough d a ≡ false → mixed t (suc rest) s (Try a ∷ more) ≡ mixed t (suc rest) s more
     unfolding repeats attemptsIn conditionsIn
     mixed-short e =
@@ -162,7 +162,7 @@ module _ (d : Dimensions) where
   module _ (t : Tables) (acc : Accepts d t) (bytes wires : List ℕ) (long : longEnough d (whole d bytes wires) ≡ true) (more : List Turn)
       (follow : (budget : ℕ) (s : State) → wellFormedState (d .n) s ≡ true → closed s ≡ false
       → repeatsBy d t budget (runOf (d .n) s) more ≡ mixed t budget s more) where
-    -- k repeats of the call, and the turns behind it
+    -- k repeats of the call, and the turns after it
     abbrev calls : ℕ → State → List Repeat
     calls k s = repeats d (λ i. t) k (runOf (d .n) s) (replicate k (whole d bytes wires))
 

@@ -295,7 +295,7 @@ module _ (d : Dimensions) (tables : Tables) (acc : Accepts d tables) (actions : 
   abbrev pub fallen : List Dated
   fallen = conditionsOf 0 actions
 
-  -- the rows as they stand at each step
+  -- the rows as they are at each step
   abbrev pub hostRows : ℕ → List Row
   hostRows = rowsAt d tables fallen
 

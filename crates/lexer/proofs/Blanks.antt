@@ -35,7 +35,7 @@ unfolding blanked
 separator-stays true b bs e = rw (separator-no-c b e)
 separator-stays false b bs e = refl
 
--- whether a line starts behind some bytes
+-- whether a line starts after some bytes
 abbrev behind : Bool → List ℕ → ℕ → Bool
 behind t bs zero = t
 behind t bs (suc j) = isLineFeed (getD bs j 0)
@@ -58,7 +58,7 @@ separators-stay t (b ∷ bs) =
     (behind-more t b bs (run isSeparator bs))))
     (λ e. rw e (sym (zero-add _)))
 
--- ---- a token or a remark behind them
+-- ---- a token or a remark after them
 
 token-stops : (t : Bool) (b : ℕ) (bs : List ℕ) → isSeparator b ≡ false → eqb b 99 && t ≡ false → run isSeparator (blanked (opens t) (b ∷ bs)) ≡ 0
 unfolding run blanked
@@ -80,7 +80,7 @@ remark-passes b bs e = rw e (ap suc (remark-run bs) ∙ sym (suc-add _ _))
 
 -- ---- the next token from a place on
 
--- a line starts right behind separators where the byte before is an LF that is not before `at`
+-- a line starts right after separators where the byte before is an LF that is not before `at`
 behind-is : (text : List ℕ) (at k : ℕ) → behind false (drop at text) k ≡ ltb at (at + k) && isLineFeed (getD text (at + k - 1) 0)
 behind-is text at zero = rw (le-ltb at (at + 0) (omega arith))
 behind-is text at (suc j) =
@@ -124,7 +124,7 @@ module _ (text : List ℕ) (at from : ℕ) (e : from ≡ runEnd isSeparator text
         (λ l. let z : getD text from 0 ≡ 99 = eqb-true (getD text from 0) 99 (and-l (eqb (getD text from 0) 99) fresh c) in
         absurd (omega (arith, z, List·getD-eq-default text 0 (ltb-false from (length text) l))))
 
-    -- a remark: what stands behind it
+    -- a remark: what comes after it
     pub passes : tokenStart text at ≡ tokenStart text (runEnd inLine text from)
     unfolding tokenStart runEnd
     passes =

@@ -26,7 +26,7 @@ pub no-run : (p : ℕ → Bool) (b : ℕ) (bs : List ℕ) → run p (b ∷ bs) �
 unfolding run
 no-run p b bs h = on (p b) (λ e. absurd (let z : suc (run p bs) ≡ 0 = rw e at h in omega arith)) (λ e. e)
 
--- the pieces behind the first
+-- the pieces after the first
 abbrev pub later : (ℕ → Bool) → ℕ → List ℕ → List Piece
 later p at [] = []
 later p at (b ∷ bs) = cut p (suc at) bs
@@ -43,7 +43,7 @@ cut-first p at (b ∷ bs) =
     (λ e. rw (e, add-zero at))
     (λ e. rw (e, cut-first p (suc at) bs, add-suc, suc-add))
 
--- what is behind a piece has the pieces of the text that follows it
+-- after a piece come the pieces of the text that follows it
 filled-later : (p : ℕ → Bool) (at : ℕ) (bs : List ℕ) → run (λ b. not (p b)) bs ≡ 0 → notEmpty (later p at bs) ≡ notEmpty (cut p at bs)
 unfolding cut notEmpty
 filled-later p at [] h = refl
@@ -69,7 +69,7 @@ one-piece p at b bs e =
     rw (cut-first p at (b ∷ bs), e) (ap (λ (l : List Piece). record { at = at; bytes = b ∷ take (run (λ b. not (p b)) bs) bs } ∷ l)
     (filled-later p _ _ (rw e at o)))
 
--- the place behind a piece
+-- the place after a piece
 pub behind-part : (text : List ℕ) (s e : ℕ) → s ≤ e → e ≤ length text → s + length (part s e text) ≡ e
 behind-part text s e h k = simp (length-take, length-drop) (omega arith)
 
@@ -84,7 +84,7 @@ module _ (p : ℕ → Bool) (text : List ℕ) (at : ℕ) where
   unfolding notEmpty cut partsFrom
   none-left h = skipped ∙ rw (drop-of-length-le text h)
 
-  -- where a run ends within the text, a byte stands that does not pass
+  -- where a run ends within the text, there is a byte that does not pass
   pub stops : runEnd p text at < length text → p (getD text (runEnd p text at) 0) ≡ false
   unfolding runEnd
   stops h =
@@ -140,7 +140,7 @@ abbrev pub Found : (ℕ → Bool) → List ℕ → ℕ → ℕ → ℕ → Type 
 Found p text at s e = FoundBy (partsFrom p text) text at s e
 
 module _ (p : ℕ → Bool) (text : List ℕ) (at : ℕ) where
-  -- where the first piece from a place on is answered by two places, it is found there: it stands between them, and the pieces from its end on follow
+  -- where the first piece from a place on is answered by two places, it is found there: it is between them, and the pieces from its end on follow
   pub found : (s e : ℕ) → firstOf (partsFrom p text at) ≡ At s e → Found p text at s e
   found s e f =
       let i = runEnd p text at in

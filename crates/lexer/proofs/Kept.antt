@@ -18,7 +18,7 @@ leftOut start b = eqb b 99
 leftOut further b = false
 leftOut remark b = true
 
--- bytes without the remarks among them, from where the first stands
+-- bytes without the remarks among them, by where in a line the first is
 unfoldable pub keptFrom : LinePlace → List ℕ → List ℕ
 keptFrom s [] = []
 keptFrom s (b ∷ bs) = cond (leftOut s b) (keptFrom (placeBehind s b) bs) (b ∷ keptFrom (placeBehind s b) bs)
@@ -30,12 +30,12 @@ abbrev firstKept : List (List ℕ) → List ℕ
 firstKept [] = []
 firstKept (l ∷ ls) = l ++ kept ls
 
--- what is kept of the lines behind the first
+-- what is kept of the lines after the first
 abbrev laterKept : List (List ℕ) → List ℕ
 laterKept [] = []
 laterKept (l ∷ ls) = kept ls
 
--- what is left of lines is left of bytes, wherever the first byte stands: at a line's start, further on, or in a remark
+-- what is left of lines is left of bytes, wherever the first byte is: at a line's start, further on, or in a remark
 abbrev Left : List (List ℕ) → List ℕ → Type 0
 Left ls bs = (kept ls ≡ keptFrom start bs) × (firstKept ls ≡ keptFrom further bs) × (laterKept ls ≡ keptFrom remark bs)
 
@@ -62,7 +62,7 @@ unfolding linesOf kept keptFrom
 left [] = (refl, refl, refl)
 left (b ∷ bs) = one-more b (linesOf bs) bs (left bs)
 
--- a text without its remark lines is what is kept of it byte by byte, the first byte standing at a line's start
+-- a text without its remark lines is what is kept of it byte by byte, with the first byte at a line's start
 pub kept-is : (text : List ℕ) → withoutRemarks text ≡ keptFrom start text
 unfolding withoutRemarks
 kept-is text = left text .0
@@ -108,7 +108,7 @@ unfolding keptFrom run
 past-remark [] = refl
 past-remark (b ∷ bs) = on (eqb b 10) (λ e. rw e) (λ e. rw e (past-remark bs))
 
--- where the first byte of a line is `c`, what is kept is what is kept of the bytes behind the line's LF
+-- where the first byte of a line is `c`, what is kept is what is kept of the bytes after the line's LF
 pub remark-kept : (bs : List ℕ) → getD bs 0 0 ≡ 99 → keptFrom start bs ≡ keptFrom start (drop (suc (run inLine bs)) bs)
 unfolding keptFrom run
 remark-kept [] h = refl

@@ -20,7 +20,7 @@ use Rattle.lexer.proofs.Cuts.{run-over, no-run, skip-run, one-piece, be
 abbrev inWord : ℕ → Bool
 inWord b = not (isSeparator b)
 
--- ---- a token's bytes are the text's, and its line goes on behind it
+-- ---- a token's bytes are the text's, and its line goes on after it
 
 word-run : (bs : List ℕ) → run inWord (blanked further bs) ≡ run inWord bs
 unfolding blanked run
@@ -46,7 +46,7 @@ word-drop (b ∷ bs) =
     (λ e. rw (eqb-true b 10 e) refl)
     (λ e. on (inWord b) (λ w. rw (w, e) (word-drop bs)) (λ w. rw (w, blanked) refl))
 
--- behind separators and remarks a token stands as further on in a line
+-- after separators and remarks, what follows is blanked as further on in a line
 separators-drop : (s : LinePlace) (bs : List ℕ)
     → drop (run isSeparator (blanked s bs)) (blanked s bs) ≡ blanked further (drop (run isSeparator (blanked s bs)) bs)
 unfolding blanked run

@@ -23,7 +23,7 @@ bounded-rest : (d : Option ℕ) (text rest : List ℕ) (v : ℕ) → bounded d t
 bounded-rest none text rest v e = cc
 bounded-rest (some w) text rest v e = on (ltb w (2 ^ 64)) (λ q. let f = rw q at e in cc) (λ q. let f = rw q at e in cc)
 
--- a field's rest starts behind the closing byte
+-- a field's rest starts after the closing byte
 closed-rest : (closing : ℕ) (ds text rest : List ℕ) (v : ℕ) → closedField closing ds text ≡ field v rest → drop 1 text ≡ rest
 closed-rest closing [] text rest v e = cc
 closed-rest closing (d ∷ ds) [] rest v e = cc
@@ -50,7 +50,7 @@ field-below : (closing : ℕ) (text rest : List ℕ) (v : ℕ) → fieldOf closi
 unfolding fieldOf
 field-below closing text rest v e = closed-below closing (take (run isDigit text) text) (drop (run isDigit text) text) rest v e
 
--- what is left of a line stands as far from its end as it is long
+-- what is left of a line begins as far from its end as it is long
 left-behind : (line : List ℕ) (k : ℕ) → drop (length line - length (drop k line)) line ≡ drop k line
 left-behind line k =
     on (ltb k (length line))
@@ -62,12 +62,12 @@ left-behind line k =
     let far : length line ≤ length line - length (drop k line) = omega (arith, length-drop k line) in
     drop-of-length-le line far ∙ sym (drop-of-length-le line past))
 
--- a field of a line from `at` on, with the place behind it
+-- a field of a line from `at` on, with the place after it
 pub record Found (line : List ℕ) (at closing v end : ℕ) : Type 0 where
   pub reads : fieldOf closing (drop at line) ≡ field v (drop end line)
   pub behind : length line - length (drop end line) ≡ end
 
--- the rest of a field of a line stands in the line
+-- the rest of a field of a line is the end of the line
 rest-in : (line : List ℕ) (at closing v : ℕ) (rest : List ℕ) → fieldOf closing (drop at line) ≡ field v rest → drop (length line - length rest) line ≡ rest
 unfolding fieldOf
 rest-in line at closing v rest e =

@@ -28,7 +28,7 @@ use Rattle.netlist.proofs.Counts.{selects-length, levelsT-length, level
 use Rattle.netlist.proofs.Counts.{next-assignment-length, next-depth-length, next-level-length, next-levels-length, judging-length, weighing-length}
 use Rattle.netlist.proofs.Counts.{choosing-length, holding-length, changing-length}
 
--- gates from wire x on, and behind them gates from wire y on
+-- gates from wire x on, and after them gates from wire y on
 followed : (x y : ℕ) (xs ys : List Gate) → x + length xs ≡ y → ordered x xs ≡ true → ordered y ys ≡ true → ordered x (xs ++ ys) ≡ true
 followed x y xs ys e p q = append-ordered x xs ys p (ap (λ (k : ℕ). ordered k ys) e ∙ q)
 
@@ -199,7 +199,7 @@ module _ (n m b : ℕ) (room : n ≤ 2 ^ b) (a-row : 0 < m) where
   unfolding ordered
   next-standing-ordered = cell-ordered (Sections.nextStanding a .slots) _ refl (omega arith) Templates.standing refl
 
-  -- ---- one section behind the other
+  -- ---- one section after the other
 
   judging-ordered : ordered (a .inputs) (judging a) ≡ true
   judging-ordered =

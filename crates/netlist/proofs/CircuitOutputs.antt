@@ -49,7 +49,7 @@ module _ (n b : ℕ) (rows : List Row) (s : State) (a-row : 0 < length rows) (ro
   abbrev w : Second.Wires
   w = secondWires (wire list) a
 
-  -- the gates' wires, behind rows and state
+  -- the gates' wires, after rows and state
   abbrev rest : List Bool
   rest = wires-behind inputs (circuit a) .0
 

@@ -38,7 +38,7 @@ module _ (a : Addresses) where
   -- ---- either count, by sections and by groups of sections
 
   module _ (c : Count) where
-    -- k cells behind z gates that are 0
+    -- k cells after z gates that are 0
     abbrev inLane : ℕ → List Gate → ℕ → ℕ
     inLane z t k = c .of Templates.sum * z + c .of t * k
 
@@ -244,7 +244,7 @@ module _ (a : Addresses) where
         splits-ands b,
       )
 
--- the circuit's wires begin behind the inputs and end where the addresses say
+-- the circuit's wires begin after the inputs and end where the addresses say
 pub circuit-length : (n m b : ℕ) → addressesOf n m b .inputs + length (circuit (addressesOf n m b)) ≡ addressesOf n m b .wires
 circuit-length n m b =
     let a = addressesOf n m b in

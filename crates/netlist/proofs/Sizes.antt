@@ -75,7 +75,7 @@ module _ (c : Count) where
 
 -- ---- all gates
 
--- n circuits of one size, one behind the other, have n times that many gates
+-- n circuits of one size, one after the other, have n times that many gates
 pub rows-length : (f : ℕ → List Gate) (size : ℕ) → ((i : ℕ) → length (f i) ≡ size) → (n : ℕ) → length (rows f n) ≡ size * n
 rows-length = rows-count allGates
 

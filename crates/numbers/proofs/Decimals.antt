@@ -141,7 +141,7 @@ module _ (word : List ℕ) (bytes : length word ≡ 0 → ⊥) where
           go (some (suc x)) e = ap (Value true) (let i : held (suc x) ≡ v = cc in i)
           go none e = absurd (let q : _≡_ {A = ℕ} 0 1 = cc in omega arith)
 
--- ---- what a held number stands for
+-- ---- what a held number means
 
 -- a number held with a sign and a value is well-formed: it has that sign, and its own value, held up to 1000, is that value
 pub held-value : (x : N.Number) (s : Bool) (v : ℕ) → numberHeld x ≡ Value s v → (w : ℕ) × (x ≡ N.number s w) × (held w ≡ v)

@@ -20,7 +20,7 @@ row positive negative = record { positive = positive; negative = negative }
 abbrev three : List Row
 three = rowsOf (dimensions 2 1 1 1) (allTables (1 ∷ 0 ∷ []) (2 ∷ 1 ∷ []) (2 ∷ 2 ∷ []))
 
--- all 384 words: 1 stands in row 0, 2 in rows 1 and 2, -1 in row 1, -2 in row 2. Each literal has six words, the negative ones theirs from 192 on
+-- all 384 words: 1 occurs in row 0, 2 in rows 1 and 2, -1 in row 1, -2 in row 2. Each literal has six words, the negative ones theirs from 192 on
 whole : indexOf three ≡ set (set (set (set (replicate 384 0) 0 1) 6 6) 192 2) 198 4
 unfolding indexOf at bit wordOf
 whole = refl

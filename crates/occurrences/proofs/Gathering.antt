@@ -17,7 +17,7 @@ use Rattle.tables.proofs.Accepted.{Accepted, accepted}
 use Rattle.occurrences.specs.Index.{indexOf}
 use Rattle.occurrences.specs.RowWords.{tableWords, allWords, gathered}
 
--- the same words give the same rows, wherever they stand
+-- the same words give the same rows, wherever they are
 rows-cong : (k : ℕ) (v w : List ℕ) (i j : ℕ) → ((n : ℕ) → n < 2 * k → getD v (2 * i + n) 0 ≡ getD w (2 * j + n) 0) → rowsFrom v i k ≡ rowsFrom w j k
 rows-cong zero v w i j h = refl
 rows-cong (suc k) v w i j h =
@@ -43,7 +43,7 @@ rows-split w (suc a) i b =
     ap (λ (k : ℕ). rowsFrom w i k) e
     ∙ ap (λ (rs : List Row). rowAt w i ∷ rs) (rows-split w a (suc i) b ∙ ap (λ (k : ℕ). rowsFrom w (suc i) a ++ rowsFrom w k b) z)
 
--- a table's words, and others behind them
+-- a table's words, and others after them
 module _ (rows : ℕ) (words rest : List ℕ) (h : 2 * rows ≤ length words) where
   abbrev own : List ℕ
   own = tableWords rows words

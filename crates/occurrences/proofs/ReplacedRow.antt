@@ -120,7 +120,7 @@ last-at q rows x i =
     or-none true = refl
     or-none false = refl
 
--- row r of these words behind the rows before it
+-- row r of these words, added to the rows before it
 pub row-added : (words : List ℕ) (r left : ℕ) (index : List ℕ) → left ≡ literalsOf (rowAt words r) → index ≡ indexOf (rowsFrom words 0 r)
     → turned (bit left) r index ≡ indexOf (rowsFrom words 0 (r + 1))
 row-added words r left index e q =
@@ -145,7 +145,7 @@ set-at q (x ∷ xs) (suc i) new zero h = sym (ap (λ (b : Bool). q x ⊕ (b && (
 set-at q (x ∷ xs) (suc i) new (suc k) h =
     set-at q xs i new k (le-of-suc-le-suc h) ∙ ap (λ (b : Bool). at q xs k ⊕ (b && (q (getD xs i empty) ⊕ q new))) (sym (eqb·suc-suc k i))
 
--- the sets of all rows become those of the rows as they stand then
+-- the sets of all rows become those of the rows as they are then
 pub replaced-index : (rows : List Row) (i : ℕ) (new : Row) → i < length rows → replacedSets (indexOf rows) i (getD rows i empty) new ≡ indexOf (set rows i new)
 unfolding replacedSets
 replaced-index rows i new h =

@@ -30,7 +30,7 @@ module _ (p : Row → Bool) where
   at-past (x ∷ xs) zero h = absurd (not-suc-le-zero h)
   at-past (x ∷ xs) (suc i) h = at-past xs i (le-of-suc-le-suc h)
 
-  -- each other row is tested, whatever stands for one past the last
+  -- each other row is tested, whatever is taken for one past the last
   pub at-row : (z : Row) (rows : List Row) (i : ℕ) → i < length rows → at p rows i ≡ p (getD rows i z)
   unfolding at
   at-row z [] i h = absurd (not-suc-le-zero h)

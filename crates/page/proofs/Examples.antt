@@ -51,7 +51,7 @@ read-again : says 6 2 3 two-by-three ≡ 0 ∷ 35 ∷ []
 unfolding says two-by-three
 read-again = refl
 
--- bytes behind the page are not looked at
+-- bytes after the page are not looked at
 read-before : says 6 2 3 (two-by-three ++ bytes "x") ≡ 0 ∷ 35 ∷ []
 unfolding says two-by-three
 read-before = refl

@@ -89,7 +89,7 @@ unfolding watchMarks
 marks-length zero v m = refl
 marks-length (suc k) v m = length-append (mark (bit m v)) (watchMarks k (suc v) m) ∙ omega (arith, mark-length (bit m v), marks-length k (suc v) m)
 
--- a space in each even place, and behind it the mark
+-- a space in each even place, and after it the mark
 pub marks-at : (k v m c : ℕ) → c < 2 * k → getD (watchMarks k v m) c 0 ≡ cond (eqb (c % 2) 0) 32 (markByte (bit m (v + c / 2)))
 unfolding watchMarks
 marks-at zero v m c h = absurd (omega arith)

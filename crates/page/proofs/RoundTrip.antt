@@ -32,7 +32,7 @@ use Rattle.page.proofs.Lines.{markByte, line-odd, page-length, page-at}
 use Rattle.page.proofs.Shapes.{Shape, shape-taken}
 use Rattle.page.proofs.Answering.{shown, read-model, model-read}
 
--- a mark is `#` exactly where it stands for true
+-- a mark is `#` exactly where it means true
 mark-tells : (b : Bool) → eqb (markByte b) 35 ≡ b
 mark-tells true = refl
 mark-tells false = refl

@@ -86,7 +86,7 @@ module _ (rows : List Row) where
     pub in-f : Within 32 f (x .f)
     pub ended : x .conflict ≡ false → Ended t f rs x
 
-  -- behind a row in conflict
+  -- after a row in conflict
   stopped : (t f : ℕ) (r : Row) (rs : List Row) → In r rows → Apart t f → unsatisfiedWith 0 32 t f r ≡ true
       → Behind t f (r ∷ rs) (record { conflict = true; t = t; f = f })
   stopped t f r rs m a c = record {
@@ -98,7 +98,7 @@ module _ (rows : List Row) where
     ended = λ q. absurd (true≢false q);
   }
 
-  -- behind a row with one free literal, and then others
+  -- after a row with one free literal, and then others
   module _ (t f : ℕ) (r : Row) (rs : List Row) (m : In r rows) (a : Apart t f) (u : unsatisfiedWith 1 32 t f r ≡ true) where
     abbrev v : ℕ
     v = lowest (λ i. freeIn r t f i) 32
@@ -134,7 +134,7 @@ module _ (rows : List Row) where
         go (inl (e, s)) = inr (rw e (fewer t f v b (hit .0) is-free))
         go (inr l) = inr (let k = fewer t f v b (hit .0) is-free in omega (arith, l, k))
 
-  -- behind a row that is neither, and then others
+  -- after a row that is neither, and then others
   module _ (t f : ℕ) (r : Row) (rs : List Row) (c : unsatisfiedWith 0 32 t f r ≡ false) (u : unsatisfiedWith 1 32 t f r ≡ false) where
     passed : (x : Propagated) → Behind t f rs x → Behind t f (r ∷ rs) x
     unfolding allRows

@@ -63,7 +63,7 @@ turns-lt (k ∷ ks) e =
     let v : k .variable < 16 = ltb-true (k .variable) 16 (and-l (ltb (k .variable) 16) (allSmall ks) e) in
     omega (arith, unit-more (length ks), digit-small (k .universal) (k .variable) v, turns-lt ks (and-r (ltb (k .variable) 16) (allSmall ks) e))
 
--- a turn behind others
+-- a turn after others
 pub turns-more : (ks : List GameTurn) (t : GameTurn)
     → turnsWord (ks ++ t ∷ []) ≡ turnsWord ks + turnDigit (t .universal) (t .variable) * 2 ^ (5 * length ks)
 unfolding turnsWord

@@ -96,7 +96,7 @@ no-number : meaning "p cnf 3 1\na 03 0\n1 0\n" ≡ 5 ∷ []
 unfolding meaning numbersOf turnNumbers
 no-number = refl
 
--- ---- 22, behind 5
+-- ---- 22, after 5
 
 twice : meaning "p cnf 2 1\na 1 0\ne 1 0\n1 0\n" ≡ 22 ∷ []
 unfolding meaning numbersOf turnNumbers
@@ -118,7 +118,7 @@ five-first : meaning "p cnf 2 1\na 3 0\n1\n" ≡ 5 ∷ []
 unfolding meaning numbersOf turnNumbers
 five-first = refl
 
--- ---- 21, behind 1 and 2 and before 5
+-- ---- 21, after 1 and 2 and before 5
 
 twenty-one-first : meaning "p cnf 13 1\nx" ≡ 21 ∷ []
 unfolding meaning numbersOf turnNumbers

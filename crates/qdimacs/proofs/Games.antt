@@ -42,7 +42,7 @@ use Rattle.qdimacs.proofs.Prefixes.{walkedAs, walked-is, Holds, holds-a
 
 -- ---- the header
 
--- what a header leads to in the text as it stands
+-- what a header leads to in the text as it is
 abbrev pub standing : List ℕ → ℕ → HeaderNumbers → GameText
 standing text end (S.Refused r) = noGame r
 standing text end (S.Of n m) = standingGame n m text end
@@ -68,14 +68,14 @@ module _ (text : List ℕ) where
   unfolding gameText
   overlong h = rw (lt-ltb 65536 (length text) h)
 
-  -- any other text has its header's refusal, or the game behind the header in the text as it stands
+  -- any other text has its header's refusal, or the game after the header in the text as it is
   pub by-header : length text ≤ 65536 → (h : Header) → h ≡ headerOf 1 text → (x : HeaderNumbers) → h .sizes ≡ x → gameText text ≡ standing text (h .end) x
   unfolding gameText
   by-header short h e x q =
       rw (le-ltb 65536 (length text) short)
       (as-it-stands ∙ ap (λ (y : Header). standing text (y .end) (y .sizes)) (sym e) ∙ ap (standing text (h .end)) q)
 
--- ---- behind it
+-- ---- after it
 
 module _ (n m : ℕ) (text : List ℕ) (end : ℕ) where
   pub too-many : 12 < n → standingGame n m text end ≡ noGame GameVariables
@@ -95,7 +95,7 @@ module _ (n m : ℕ) (text : List ℕ) (end : ℕ) where
         go none e = refl
         go (some bs) e = absurd (let z : _≡_ {A = ℕ} 0 1 = cc in omega arith)
 
-    -- the prefix is read: its variables, as they are held, and the clauses behind it
+    -- the prefix is read: its variables, as they are held, and the clauses after it
     pub record Ended (p : Prefix) (at : ℕ) : Type 0 where
       pub variables : List Bound
       pub held : Holds n p variables

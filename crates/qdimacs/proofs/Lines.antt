@@ -110,7 +110,7 @@ module _ where
       go [] e = ap (λ (x : List (List ℕ)). x ++ wordsOn ls) (sym e)
       go (q ∷ qs) e = ap (λ (x : List (List ℕ)). x ++ wordsOn ls) (sym (line-words l)) ∙ sym (bytes-append (tokensFrom l 0) (tokensOn ls))
 
-  -- the words of a first line and of the lines behind it
+  -- the words of a first line and of the lines after it
   abbrev lineWords : LineCut → Words
   lineWords c = record { word = words sep (c .line) .word; later = words sep (c .line) .later ++ wordsOn (c .later) }
 
@@ -137,7 +137,7 @@ module _ where
       byte true more same = ap (λ (ls : List (List ℕ)). record { word = []; later = ls }) more
       byte false more same = ap (withByte false b) same
 
--- where a line ends, the tokens from there on are those of the lines behind it
+-- where a line ends, the tokens from there on are those of the lines after it
 pub tokens-past : (text : List ℕ) (at : ℕ) → lineCut passedBy (drop at text) .line ≡ []
     → bytesOf (tokensPast text at) ≡ bytesOf (tokensOn (linesPast text at))
 unfolding words tokensPast
@@ -148,7 +148,7 @@ tokens-past text at e =
     ∙ ap all (cut-words (keptFrom further bs) ∙ ap lineWords (kept-lines bs))
     ∙ ap (λ (l : List ℕ). all (lineWords (record { line = l; later = lineCut passedBy bs .later }))) e
 
--- ---- in the text as it stands
+-- ---- in the text as it is
 
 cut-line : (out : List ℕ → Bool) (bs : List ℕ) → lineCut out bs .line ≡ take (run inLine bs) bs
 unfolding lineCut run
@@ -160,7 +160,7 @@ unfolding lineCut run
 cut-later out [] = refl
 cut-later out (b ∷ bs) = on (eqb b 10) (λ e. rw (e, lineCut) (rw e)) (λ e. rw e (cut-later out bs))
 
--- the lines behind a place are those behind the end of its line
+-- the lines after a place are those after the end of its line
 pub past-end : (text : List ℕ) (at end : ℕ) → end ≡ runEnd inLine text at → linesPast text end ≡ linesPast text at
 unfolding runEnd
 past-end text at end e =
@@ -192,7 +192,7 @@ module _ (text : List ℕ) (at : ℕ) where
     unfolding lineCut
     feed-first = ap (λ (l : List ℕ). lineCut passedBy l .line) at-feed
 
-    -- the line behind an LF, and those behind it
+    -- the line after an LF, and those after it
     pub next-line : (end : ℕ) → end ≡ runEnd inLine text (at + 1)
         → linesPast text at ≡ unless (passedBy (part (at + 1) end text)) (part (at + 1) end text) (linesPast text end)
     unfolding lineCut runEnd
@@ -225,7 +225,7 @@ module _ (n : ℕ) (p : Prefix) (l : List ℕ) (ls : List (List ℕ)) where
       go false true (some bs) e = e
       go false false o e = e
 
--- The lines behind `from` lead with no variable read to what the lines behind `at`, where a line ends, lead to with those read so far.
+-- The lines after `from` lead with no variable read to what the lines after `at`, where a line ends, lead to with those read so far.
 pub record Walking (text : List ℕ) (n from : ℕ) (p : Prefix) (at : ℕ) : Type 0 where
   pub ended : at < length text → getD text at 0 ≡ 10
   pub whole : walked n p (linesPast text at) ≡ walked n noVariable (linesPast text from)

@@ -27,7 +27,7 @@ use Rattle.qdimacs.proofs.Bindings.{withThis, beyond-spoils, again-spoi
 
 -- ---- the lines of a prefix
 
--- what a prefix and the lines behind it come to
+-- what a prefix and the lines after it come to
 abbrev pub walkedAs : ℕ → Prefix → Option (List Bound) → List (List ℕ) → Option Walked
 walkedAs n p none rest = none
 walkedAs n p (some bs) rest = some (record { prefix = boundAll n p bs; rest = rest })
@@ -54,7 +54,7 @@ walked-is n p (l ∷ ls) =
     line none h = refl
     line (some bs) h = h (boundAll n p bs) ∙ joined bs (prefixOf ls)
 
--- ---- one variable behind others
+-- ---- one variable after others
 
 on-line-more : (v : ℕ) (fs : List Bound) (b : Bound) → onLine v (fs ++ b ∷ []) ≡ onLine v fs || eqb (b .value) v
 on-line-more v [] b = agree-eq (taut1 (λ x. agree (x || false) (false || x)) refl (eqb (b .value) v))

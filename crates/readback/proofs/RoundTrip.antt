@@ -140,7 +140,7 @@ module _ (d : Dimensions) (tables : Tables) (run : Run) (bytes : List ℕ) (e : 
       (map-append digit (rowsBits (d .n) (rowsOf d tables)) (stateBits (d .n) (stateOf run)))
       ∙ append-assoc rowBytes stateBytes _
 
-  -- behind the rows, a packed run is read back
+  -- after the rows, a packed run is read back
   pub read-behind-rows : length (run .levels) ≡ 32
       → readBack (d .n) (drop (2 * d .n * rowCount d) (packed d tables run bytes)) ≡ record { outcome = Taken; run = run }
   read-behind-rows room =
@@ -157,7 +157,7 @@ module _ (d : Dimensions) (tables : Tables) (run : Run) (bytes : List ℕ) (e : 
           length-map (rowsBits (d .n) (rowsOf d tables)) digit ∙ rows-length (d .n) (rowsOf d tables)
           ∙ ap (λ (k : ℕ). (d .n + d .n) * k) (tables-length d tables) ∙ twice (d .n) (rowCount d)
 
-  -- a run that was read from some bytes puts those bytes behind the rows
+  -- a run that was read from some bytes puts those bytes after the rows
   pub pack-read : (from : List ℕ) → Held (d .n) from run → packed d tables run bytes ≡ over (rowBytes ++ take (stateWires (d .n)) from) bytes
   unfolding inputBits
   pack-read from h =

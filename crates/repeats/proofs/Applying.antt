@@ -56,7 +56,7 @@ module _ (d : Dimensions) where
   unfolding circuitWords
   words-third = omega (arith, words-length (gatesOn d))
 
-  -- where the checks on the sizes are passed, the circuit's words are accepted as gates behind the inputs
+  -- where the checks on the sizes are passed, the circuit's words are accepted as gates after the inputs
   pub words-accepted : outcome (sizeChecks d) ≡ Taken → Memory.accepted (inputWires d) (circuitWords d) ≡ true
   unfolding circuitWords
   words-accepted fits = gates-accepted d fits

@@ -39,7 +39,7 @@ use Rattle.netlist.specs.Outputs.{outputsIn}
 use Rattle.repeats.specs.declared.Applied.{Applied}
 use Rattle.repeats.specs.Application.{turnedBack, nextRun, inputs, applicationOutcome, wiresAfter, applied}
 
--- behind a state's wires there is room for the closing one: a row of each station has two wires at least
+-- after a state's wires there is room for the closing one: a row of each station has two wires at least
 pub outputs-fit : (d : Dimensions) (tables : Tables) → Accepted d tables → stateWires (d .n) + 4 ≤ inputWires d
 outputs-fit d tables a =
     let z = a .size in

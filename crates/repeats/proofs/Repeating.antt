@@ -31,7 +31,7 @@ use Rattle.repeats.specs.Repeating.{whole, made, runBefore, bytesLeft, w
 use Rattle.repeats.proofs.Buffers.{Agree, agree-refl, Ready, packed-agrees, filled-agrees, next, applied-is, next-fine, ready-same, packed-same}
 use Rattle.repeats.proofs.Buffers.{filled-same}
 
--- ---- one repeat more behind others
+-- ---- one more repeat after others
 
 last-more : (run : Run) (h : List Repeat) (r : Repeat) → lastRun run (h ++ (r ∷ [])) ≡ r .run
 unfolding lastRun

@@ -89,7 +89,7 @@ module _ (n : ℕ) (l : Level) (t f : ℕ) where
   unfolding chain
   chain-head ls e = precedes-e (and-l (precedes n l t f) _ e)
 
-  -- where a list of levels is a chain before T and F, the levels behind its first are a chain before the T and F of that level
+  -- where a list of levels is a chain before T and F, the levels after its first are a chain before the T and F of that level
   pub chain-tail : (ls : List Level) → chain n t f (l ∷ ls) ≡ true → chain n (l .t) (l .f) ls ≡ true
   unfolding chain
   chain-tail ls e = and-r (precedes n l t f) _ e

@@ -49,7 +49,7 @@ module _ (d : Dimensions) (tables : Tables) (i : ℕ) where
       List·getD-append leftRows (rightRows ++ publicRows d tables) empty i (omega (arith, table-length (tables .left) 0 (d .left)))
       ∙ row-from (tables .left) (d .left) 0 i b ∙ ap (rowAt (tables .left)) plain
 
-  -- the right station's behind them
+  -- the right station's after them
   pub right-row : i < d .right → getD (rowsOf d tables) (d .left + i) empty ≡ rowAt (tables .right) i
   right-row b =
       ap (λ (k : ℕ). getD (rowsOf d tables) (k + i) empty) (sym (table-length (tables .left) 0 (d .left)))

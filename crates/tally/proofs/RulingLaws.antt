@@ -26,7 +26,7 @@ module _ (p : ℕ → Bool) (v : ℕ) (none : (k : ℕ) → k < v → p k ≡ fa
   pub lowest-past : v ≤ 32 → 32 ≤ v → 32 ≡ lowest p 32
   lowest-past g h = sym (lowest-none p 32 (λ k b. none k (omega arith)))
 
--- ---- rows of a word that a variable stands in
+-- ---- rows of a word that a variable occurs in
 
 pub touched-is : (part p q : ℕ) → part < 2 ^ 64 → not (eqb (bitAnd part (bitOr p q)) 0) ≡ any (λ j. bit part j && (bit p j || bit q j)) 64
 touched-is part p q h =

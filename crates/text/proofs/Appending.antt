@@ -20,7 +20,7 @@ appended-join t (x ∷ xs) ys = appended-join (pushed t x) xs ys
 pub appended-then : (t : Text) (xs ys : List ℕ) (r s : Text) → r ≡ appended t xs → s ≡ appended r ys → s ≡ appended t (xs ++ ys)
 appended-then t xs ys r s e h = h ∙ ap (λ (x : Text). appended x ys) e ∙ appended-join t xs ys
 
--- a byte pushed behind what was appended
+-- a byte pushed after what was appended
 pub appended-push : (t : Text) (xs : List ℕ) (b : ℕ) → pushed (appended t xs) b ≡ appended t (xs ++ (b ∷ []))
 unfolding appended
 appended-push t xs b = appended-join t xs (b ∷ [])
@@ -31,7 +31,7 @@ unfolding appended
 appended-next t xs i h = ap (λ (l : List ℕ). appended t l) (drop-cons xs i 0 h)
     ∙ ap (λ (k : ℕ). appended (pushed t (getD xs i 0)) (drop k xs)) (sym (add-one i))
 
--- a store behind the bytes is at the first zero
+-- a store right after the bytes is at the first zero
 set-behind : (xs : List ℕ) (k b : ℕ) → set (xs ++ (0 ∷ replicate k 0)) (length xs) b ≡ xs ++ (b ∷ replicate k 0)
 set-behind [] k b = refl
 set-behind (x ∷ xs) k b = ap (λ (l : List ℕ). x ∷ l) (set-behind xs k b)

@@ -87,7 +87,7 @@ decimal-four x h = omega (arith, one-more x (omega arith), one-more (x / 10) (om
 
 -- ---- back from digits
 
--- the number that digits spell, behind those of a
+-- the number that digits spell, after those of a
 abbrev valueAfter : ℕ → List ℕ → ℕ
 valueAfter a [] = a
 valueAfter a (d ∷ ds) = valueAfter (a * 10 + (d - 48)) ds

@@ -18,7 +18,7 @@ use Rattle.scan.specs.Rules.{unsatisfiedWith}
 use Rattle.truth.proofs.TruthLaws.{literal}
 use Rattle.truth.proofs.RuleLaws.{Forces, with-unsatisfied, with-count}
 
--- ---- one variable: p, q say whether it stands positive, negative; t, f whether it is in T, in F; a is its value
+-- ---- one variable: p, q say whether it occurs positive, negative; t, f whether it is in T, in F; a is its value
 
 -- the value is as T and F have it
 abbrev pub agreed : Bool → Bool → Bool → Bool

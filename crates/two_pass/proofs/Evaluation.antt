@@ -17,7 +17,7 @@ use Rattle.gates.proofs.Circuits.{ordered}
 use Rattle.gates.proofs.InMemory.{words-length, gates-words, accepted-words, bits-bytes, bitsOf-bytesOf}
 
 module _ (g s w : List ℕ) where
-  -- words not accepted behind the inputs are refused as gates, and the buffer stays as it was
+  -- words not accepted after the inputs are refused as gates, and the buffer stays as it was
   pub no-gates : accepted (length s) g ≡ false → (Refused Gates ≡ outcome (evaluationChecks g s w)) × (w ≡ filledWires g s w)
   no-gates e = rw e (refl, refl)
 

@@ -86,7 +86,7 @@ module _ {form : List Bool → List ℕ} {s : List Bool} {g w₀ : List ℕ} {n 
   pub front-length : m ≡ length (form (r .values))
   front-length = sym (length-take-le m w fits) ∙ ap length (r .front)
 
-  -- what the whole comes to, by the gate at i and by what is left behind it
+  -- what the whole comes to, by the gate at i and by what is left after it
   pub judged-at : m < n + length g / 3
       → accepted n g ≡ drives m (getD g i 0) (getD g (i + 1) 0) (getD g (i + 2) 0) && accepted (m + 1) (drop (i + 3) g)
   judged-at h = sym (r .judged) ∙ accepted-at g i (whole h) m

@@ -110,7 +110,7 @@ module _ (d : Dimensions) (tables : Tables) (acc : Accepts d tables) (budget : �
   -- ---- a call
 
   module _ (gates bytes wires : List ℕ) where
-    -- what the checks behind the tables' say
+    -- the checks after those of the tables
     abbrev later : List Check
     later = check (ltb (length gates) (3 * ceiling d)) refusal.GateBuffer
         ∷ (check (ltb mostBudget budget) refusal.WholeBudget ∷ wireChecks d (length bytes) (length wires))

@@ -78,7 +78,7 @@ module _ (n : ℕ) (rows : List Row) (rest : List Bool) where
   pub negative-at : (j i : ℕ) → j < length rows → i < n → wire (rowsBits n rows ++ rest) ((n + n) * j + (n + i)) ≡ bit (rowOf rows j .negative) i
   negative-at j i h b = row-at j (n + i) h (omega arith) ∙ upto-past _ n _ i ∙ upto-at _ n i b
 
-  -- with the rows' wires in front, 2n for each row, the wires behind them are those of the rest
+  -- with the rows' wires in front, 2n for each row, the wires after them are those of the rest
   pub rows-past : (k : ℕ) → wire (rowsBits n rows ++ rest) ((n + n) * length rows + k) ≡ wire rest k
   rows-past k =
       ap (λ (l : List Bool). wire (l ++ rest) ((n + n) * length rows + k)) (rows-joined n rows)
@@ -90,7 +90,7 @@ module _ (n : ℕ) (b : Bits) where
   abbrev level : ℕ → List Bool
   level l = upto (b .levelT l) n ++ (upto (b .levelF l) n ++ upto (b .chosen l) n)
 
-  -- the parts, with the rest behind them
+  -- the parts, with the rest after them
   parts : (rest : List Bool) → inOrder n b ++ rest ≡ upto (b .T) n
       ++ (upto (b .F) n ++ (upto (b .depth) (suc n) ++ (joined level n ++ (b .satisfied ∷ (b .refuted ∷ rest)))))
   unfolding inOrder

@@ -68,7 +68,7 @@ input-length d tables s =
     ∙ ap₂ _+_ (rows-length (d .n) (rowsOf d tables) ∙ ap (λ (k : ℕ). (d .n + d .n) * k) (tables-length d tables)
     ∙ twice (d .n) (rowCount d)) (state-length (d .n) s)
 
--- left rows, right rows, public rows and state, one behind the other
+-- left rows, right rows, public rows and state, one after the other
 pub input-parts : (d : Dimensions) → inputWires d ≡ (d .n + d .n) * d .left + (d .n + d .n) * d .right + (d .n + d .n) * d .public + stateWires (d .n)
 input-parts d =
     ap (λ (k : ℕ). k + stateWires (d .n))

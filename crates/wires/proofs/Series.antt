@@ -23,7 +23,7 @@ upto-at f zero i h = absurd (not-suc-le-zero h)
 upto-at f (suc n) zero h = refl
 upto-at f (suc n) (suc i) h = upto-at (λ i. f (suc i)) n i (le-of-suc-le-suc h)
 
--- in the first part, and behind it
+-- in the first part, and after it
 pub upto-here : (f : ℕ → Bool) (n : ℕ) (r : List Bool) (i : ℕ) → i < n → getD (upto f n ++ r) i false ≡ f i
 upto-here f n r i h = List·getD-append (upto f n) r false i (rw (length-upto f n) h) ∙ upto-at f n i h
 
@@ -37,7 +37,7 @@ upto-cong f g zero h = refl
 upto-cong f g (suc n) h = ap₂ (λ (x : Bool) (l : List Bool). x ∷ l) (h zero (omega arith))
     (upto-cong (λ i. f (suc i)) (λ i. g (suc i)) n (λ i b. h (suc i) (omega arith)))
 
--- one more behind
+-- one more at the end
 pub upto-more : (f : ℕ → Bool) (n : ℕ) → upto f (suc n) ≡ upto f n ++ (f n ∷ [])
 unfolding upto
 upto-more f zero = refl

@@ -27,7 +27,7 @@ stored-append b at v w =
     ∙ sets-append (bytesOf v) (bytesOf w) b at
     ∙ ap (λ (k : ℕ). sets (stored b at v) (at + k) (bytesOf w)) (length-map v digit)
 
--- what is stored behind what was stored
+-- what is stored after what was stored
 pub stored-then : (b : List ℕ) {c d : List ℕ} (at next : ℕ) (v w : List Bool) → c ≡ stored b at v → next ≡ at + length v
     → d ≡ stored c next w → d ≡ stored b at (v ++ w)
 stored-then b at next v w e k f = f ∙ ap₂ (λ (l : List ℕ) (p : ℕ). stored l p w) e k ∙ sym (stored-append b at v w)
@@ -46,7 +46,7 @@ stored-wire b at f c i x e h =
 pub stored-two : (b : List ℕ) (at : ℕ) (p q : Bool) (x y : ℕ) → x ≡ digit p → y ≡ digit q → set (set b at x) (at + 1) y ≡ stored b at (p ∷ (q ∷ []))
 stored-two b at p q x y e f = ap (λ (k : ℕ). set (set b at x) k y) (add-one at) ∙ ap₂ (λ (u v : ℕ). set (set b at u) (suc at) v) e f
 
--- what is stored behind n wires
+-- what is stored after n wires
 pub upto-then : (b : List ℕ) {c d : List ℕ} (at next : ℕ) (f : ℕ → Bool) (n : ℕ) (w : List Bool)
     → c ≡ stored b at (upto f n) → next ≡ at + n → d ≡ stored c next w → d ≡ stored b at (upto f n ++ w)
 upto-then b at next f n w e k h = stored-then b at next (upto f n) w e (k ∙ ap (λ (m : ℕ). at + m) (sym (length-upto f n))) h

@@ -42,7 +42,7 @@ table-joined n words k =
     front : (j : ℕ) → j ≡ 0 + j
     front j = omega arith
 
--- left rows, right rows, public rows and state, stored one behind the other at the front
+-- left rows, right rows, public rows and state, stored one after the other at the front
 pub inputs-stored : (d : Dimensions) (tables : Tables) (run : Run) (b b₁ b₂ b₃ b₄ : List ℕ) (p q r : ℕ)
     → b₁ ≡ stored b 0 (rowsBits (d .n) (rowsFrom (tables .left) 0 (d .left))) → p ≡ 0 + (d .n + d .n) * d .left
     → b₂ ≡ stored b₁ p (rowsBits (d .n) (rowsFrom (tables .right) 0 (d .right))) → q ≡ p + (d .n + d .n) * d .right

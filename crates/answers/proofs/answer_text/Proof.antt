@@ -9,7 +9,7 @@ use borrow.Author.Needs.{needs}
 use Rattle.answers.proofs.answer_text.Statement.{statement}
 use Rattle.answers.proofs.answer_text.Tie as tie
 
--- ---- the places of the code, each from the one behind it
+-- ---- the places of the code, each from the one after it
 
 abbrev begun : tie.After-append → tie.After-empty
 begun c = c .before .before

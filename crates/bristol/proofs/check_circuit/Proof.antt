@@ -12,7 +12,7 @@ use borrow.Author.Needs.{needs}
 use Rattle.bristol.proofs.check_circuit.Statement.{statement}
 use Rattle.bristol.proofs.check_circuit.Tie as tie
 
--- ---- the places of the code, each from the one behind it
+-- ---- the places of the code, each from the one after it
 
 abbrev start : tie.After-check → tie.Start
 start c = c .before .before
@@ -45,7 +45,7 @@ accepted-requires c κs = search needs
 sized : (c : tie.After-accepted) → outcome (sizeChecks (start (checked c) .args .d)) ≡ Taken
 sized c = sym (checked c .check .ensures .0) ∙ c .before .before .enum-told .given .1
 
--- the gates are judged behind the inputs
+-- the gates are judged with the inputs before them
 judged : (c : tie.After-accepted) → let s = start (checked c) in c .accepted .result ≡ accepted (inputWires (s .args .d)) (now (s .args .gates))
 judged c =
     let s = start (checked c) in

@@ -28,7 +28,7 @@ accepted c = taken-accepted (c .args .d) (now (c .args .gates)) (c .pre .0)
 few : (c : tie.Start) → inputWires (c .args .d) ≤ 27747
 few c = inputs-small (c .args .d) (taken-within (c .args .d) (now (c .args .gates)) (c .pre .0))
 
--- a line behind the blank one
+-- a line after the blank one
 behind : (c : tie.At-match-rest) → 4 ≤ c .before .before .before .args .line
 behind c = omega (arith, c .match .rest .1, c .match .rest .0 .1, c .match .rest .0 .0 .1, c .match .rest .0 .0 .0 .1)
 

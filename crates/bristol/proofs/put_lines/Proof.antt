@@ -23,7 +23,7 @@ Inv-loop d gates line bytes₀ next₀ at₀ bytes next at = Put (circuitLines d
 abbrev μ-loop : tie.MeasureT-loop
 μ-loop d gates line bytes₀ next₀ at₀ bytes next at = 4 + length gates / 3 - next
 
--- ---- the places of the code, each from the one behind it
+-- ---- the places of the code, each from the one after it
 
 abbrev start : tie.At-loop Inv-loop μ-loop → tie.Start Inv-loop μ-loop
 start c = c .before .before .before

@@ -10,7 +10,7 @@ use borrow.Author.Needs.{needs}
 use Rattle.bristol.proofs.write_line.Statement.{statement}
 use Rattle.bristol.proofs.write_line.Tie as tie
 
--- ---- the places of the code, each from the one behind it
+-- ---- the places of the code, each from the one after it
 
 abbrev start : tie.After-check-circuit → tie.Start
 start c = c .before .before .before

@@ -6,7 +6,7 @@ use borrow.Author.Needs.{needs}
 use Rattle.bristol.proofs.write_lines.Statement.{statement}
 use Rattle.bristol.proofs.write_lines.Tie as tie
 
--- ---- the places of the code, each from the one behind it
+-- ---- the places of the code, each from the one after it
 
 abbrev start : tie.After-check-circuit → tie.Start
 start c = c .before .before .before

@@ -17,7 +17,7 @@ Inv-loop text at n start start-end row₀ from₀ to₀ row from to = Begun n te
 abbrev μ-loop : tie.MeasureT-loop
 μ-loop text at n start start-end row₀ from₀ to₀ row from to = length text - to
 
--- ---- the places of the code, each from the one behind it
+-- ---- the places of the code, each from the one after it
 
 abbrev turn : tie.After-read-number Inv-loop μ-loop → tie.At-loop Inv-loop μ-loop
 turn c = c .before .before

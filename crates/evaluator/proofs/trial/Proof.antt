@@ -20,7 +20,7 @@ Inv-loop gates inputs scratch₀ values stop i₀ m₀ scratch i m = Run trialBy
 abbrev μ-loop : tie.MeasureT-loop
 μ-loop gates inputs scratch₀ values stop i₀ m₀ scratch i m = stop - m
 
--- ---- the places of the code, each from the one behind it
+-- ---- the places of the code, each from the one after it
 
 abbrev turning : tie.After-shared-slice-known3 Inv-loop μ-loop → tie.In-loop Inv-loop μ-loop
 turning c = c .before .before .before

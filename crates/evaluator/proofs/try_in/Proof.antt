@@ -11,7 +11,7 @@ use Rattle.evaluator.proofs.TrialBytes.{loaded, stored, given-so}
 use Rattle.evaluator.proofs.try_in.Statement.{statement}
 use Rattle.evaluator.proofs.try_in.Tie as tie
 
--- ---- the places of the code, each from the one behind it
+-- ---- the places of the code, each from the one after it
 
 abbrev start : tie.After-load-inputs-arg → tie.Start
 start c = c .before .before .before .before .before

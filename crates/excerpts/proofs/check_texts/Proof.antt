@@ -6,7 +6,7 @@ use borrow.Author.Needs.{needs}
 use Rattle.excerpts.proofs.check_texts.Statement.{statement}
 use Rattle.excerpts.proofs.check_texts.Tie as tie
 
--- ---- the places of the code, each from the one behind it
+-- ---- the places of the code, each from the one after it
 
 abbrev start : tie.After-enum-told → tie.Start
 start c = c .before .before

@@ -1,4 +1,4 @@
--- `all_gates` meets its contract: what is left of the words is judged, behind m wires, as the whole is.
+-- `all_gates` meets its contract: what is left of the words is judged, after m wires, as the whole is.
 use borrow.Author.Needs.{needs}
 use mathlib.Core.Path.{_≡_, refl, sym, _∙_}
 use mathlib.Core.Bool.{_&&_}

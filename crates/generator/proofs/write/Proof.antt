@@ -18,7 +18,7 @@ use borrow.Author.Needs.{needs}
 use Rattle.generator.proofs.write.Statement.{statement}
 use Rattle.generator.proofs.write.Tie as tie
 
--- ---- the places of the code, each from the one behind it
+-- ---- the places of the code, each from the one after it
 
 abbrev start : tie.After-of → tie.Start
 start c = c .before .before

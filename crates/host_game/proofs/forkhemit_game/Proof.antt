@@ -11,7 +11,7 @@ use borrow.Author.Needs.{needs}
 use Rattle.host_game.proofs.forkhemit_game.Statement.{statement}
 use Rattle.host_game.proofs.forkhemit_game.Tie as tie
 
--- a winner's numbers take the place of what stood there
+-- a winner's numbers replace what was there
 put-in : (w : Winner) (lent : List ℕ) → winnerNumbers w ≡ numbersOr (winnerNumbers w) lent
 put-in (Existential o) lent = refl
 put-in (Universal o) lent = refl

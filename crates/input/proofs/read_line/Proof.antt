@@ -15,7 +15,7 @@ Inv-loop fd buf₀ done₀ buf done = (done ≤ length buf) × (length buf ≡ l
 abbrev μ-loop : tie.MeasureT-loop
 μ-loop fd buf₀ done₀ buf done = length buf - done
 
--- ---- the places of the code, each from the one behind it
+-- ---- the places of the code, each from the one after it
 
 abbrev start : tie.At-loop Inv-loop μ-loop → tie.Start Inv-loop μ-loop
 start c = c .before .before

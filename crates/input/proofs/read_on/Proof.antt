@@ -24,7 +24,7 @@ within files room e =
     let rest = both (leb (files .right) (files .public)) (leb (files .public) room) (first .1) in
     (leb-true _ _ (first .0), leb-true _ _ (rest .0), leb-true _ _ (rest .1))
 
--- bytes read behind place p, in a buffer's first k, leave those below a
+-- bytes read from place p on, in a buffer's first k, leave those below a
 kept : (a p k : ℕ) (xs ys ws : List ℕ) → a ≤ p → p ≤ k → p ≤ length ys → take p ys ≡ take p (take k xs) → take a xs ≡ take a ws
     → take a (ys ++ drop k xs) ≡ take a ws
 kept a p k xs ys ws h i j e f =

@@ -15,7 +15,7 @@ use Rattle.late.proofs.check_condition.Tie as tie
 abbrev tables : tie.Start → Tables
 tables s = allTables (s .args .left .now) (s .args .right .now) (s .args .public .now)
 
--- ---- the places of the code, each from the one behind it
+-- ---- the places of the code, each from the one after it
 
 abbrev start : tie.After-accept → tie.Start
 start c = c .before .before .before .before

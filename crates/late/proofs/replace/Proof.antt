@@ -17,7 +17,7 @@ use Rattle.late.proofs.replace.Tie as tie
 abbrev tables : tie.Start → Tables
 tables s = allTables (s .args .left .now) (s .args .right .now) (s .args .public .now)
 
--- ---- the places of the code, each from the one behind it
+-- ---- the places of the code, each from the one after it
 
 abbrev lent : tie.After-check-condition → tie.After-shared-slice-known
 lent c = c .before .before .before

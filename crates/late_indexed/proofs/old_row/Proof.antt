@@ -10,7 +10,7 @@ use borrow.Author.Needs.{needs}
 use Rattle.late_indexed.proofs.old_row.Statement.{statement}
 use Rattle.late_indexed.proofs.old_row.Tie as tie
 
--- ---- the places of the code, each from the one behind it
+-- ---- the places of the code, each from the one after it
 
 abbrev start : tie.After-struct-known2 → tie.Start
 start c = c .before .before .before .before

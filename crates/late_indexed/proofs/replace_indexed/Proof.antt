@@ -19,7 +19,7 @@ use borrow.Author.Needs.{needs}
 use Rattle.late_indexed.proofs.replace_indexed.Statement.{statement}
 use Rattle.late_indexed.proofs.replace_indexed.Tie as tie
 
--- ---- the places of the code, each from the one behind it
+-- ---- the places of the code, each from the one after it
 
 abbrev tables-known : tie.After-check-indexed → tie.After-shared-slice-known
 tables-known c = c .before .before .before .before

@@ -21,7 +21,7 @@ Inv-loop line at closing value₀ i₀ value i =
 abbrev μ-loop : tie.MeasureT-loop
 μ-loop line at closing value₀ i₀ value i = length line - i
 
--- ---- the places of the code, each from the one behind it
+-- ---- the places of the code, each from the one after it
 
 abbrev entered : tie.At-loop Inv-loop μ-loop → tie.Start Inv-loop μ-loop
 entered c = c .before .before

@@ -16,7 +16,7 @@ use borrow.Author.Needs.{needs}
 use Rattle.lines.proofs.read_dimensions.Statement.{statement}
 use Rattle.lines.proofs.read_dimensions.Tie as tie
 
--- ---- the places of the code, each from the one behind it
+-- ---- the places of the code, each from the one after it
 
 abbrev firstOf : tie.After-left → tie.After-n
 firstOf c = c .before .before .before .before
@@ -27,7 +27,7 @@ secondOf c = c .before .before .before .before
 abbrev thirdOf : tie.After-public → tie.After-right
 thirdOf c = c .before .before .before .before
 
--- ---- what is known once a field is found: the line, the numbers so far, the place behind them
+-- ---- what is known once a field is found: the line, the numbers so far, the place after them
 
 abbrev lineOf : tie.After-n → List ℕ
 lineOf c = c .before .before .before .before .args .input .now

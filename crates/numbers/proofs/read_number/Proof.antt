@@ -6,7 +6,7 @@ use Rattle.numbers.proofs.Decimals.{number-empty, plain-value, plain-no
 use Rattle.numbers.proofs.read_number.Statement.{statement}
 use Rattle.numbers.proofs.read_number.Tie as tie
 
--- ---- the places of the code, each from the one behind it
+-- ---- the places of the code, each from the one after it
 
 abbrev filled : tie.After-shared-slice-known2 → tie.Else1
 filled c = c .before

@@ -5,7 +5,7 @@ use borrow.Author.Needs.{needs}
 use Rattle.occurrences.proofs.row_words.Statement.{statement}
 use Rattle.occurrences.proofs.row_words.Tie as tie
 
--- the places behind the calls
+-- the places of the code, each from the one after it
 abbrev start : tie.After-store → tie.Start
 start c = c .before .before .before .before .before
 

@@ -19,7 +19,7 @@ small c = c .before .before .before .before
 abbrev start : tie.After-known-told → tie.Start
 start c = small c .before .before
 
--- the clauses behind it
+-- the clauses after it
 abbrev reading : tie.After-known-told → Reading
 reading c = clausesFrom (start c .args .n) (start c .args .text .now) (c .before .p .given .0 .1 .0)
 

@@ -15,7 +15,7 @@ use borrow.Author.Needs.{needs}
 use Rattle.readback.proofs.gives.Statement.{statement}
 use Rattle.readback.proofs.gives.Tie as tie
 
--- ---- the places of the code, each from the one behind it
+-- ---- the places of the code, each from the one after it
 
 abbrev start : tie.After-pack-state → tie.Start
 start c = c .before .before .before

@@ -13,7 +13,7 @@ use borrow.Author.Needs.{needs}
 use Rattle.readback.proofs.read_back.Statement.{statement}
 use Rattle.readback.proofs.read_back.Tie as tie
 
--- ---- the places of the code, each from the one behind it
+-- ---- the places of the code, each from the one after it
 
 abbrev tests : tie.After-state-wires-of → tie.After-variables-outside
 tests c = c .before .before

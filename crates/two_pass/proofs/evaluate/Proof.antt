@@ -12,7 +12,7 @@ use Rattle.two_pass.proofs.Evaluation.{no-gates, no-room, no-bits, take
 use Rattle.two_pass.proofs.evaluate.Statement.{statement}
 use Rattle.two_pass.proofs.evaluate.Tie as tie
 
--- ---- the places of the code, each from the one behind it
+-- ---- the places of the code, each from the one after it
 
 abbrev start : tie.After-accepted → tie.Start
 start c = c .before .before .before .before

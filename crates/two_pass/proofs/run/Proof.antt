@@ -20,7 +20,7 @@ Inv-loop gates wires₀ n values end i₀ m₀ wires i m = Run bytesOf (bitsOf (
 abbrev μ-loop : tie.MeasureT-loop
 μ-loop gates wires₀ n values end i₀ m₀ wires i m = end - m
 
--- ---- the places of the code, each from the one behind it
+-- ---- the places of the code, each from the one after it
 
 abbrev entered : tie.At-loop Inv-loop μ-loop → tie.Start Inv-loop μ-loop
 entered c = c .before .before .before

@@ -7,7 +7,7 @@ use Rattle.sections.proofs.InOrder.{if-digit, no-digit}
 use Rattle.sections.proofs.weighing.digit.Statement.{statement}
 use Rattle.sections.proofs.weighing.digit.Tie as tie
 
--- the thresholds are behind the first variable
+-- no threshold is before the first variable
 product : (c : tie.After-digits-to) → c .before .before .power .result * c .before .thresholds .result ≤ c .before .before .before .before .before .args .a .n
 product c = rw (c .before .before .power .ensures .0) (c .before .thresholds .ensures .1 .1)
 
