@@ -1,5 +1,5 @@
 -- The budget line and the dimension line: document 01, refusal 8.
--- Ask: Which bytes may a line hold, and which come behind it?
+-- Ask: Which bytes may a line hold, and which come after it?
 use Prim.Native.Nat.{ℕ, _-_, _^_}
 use mathlib.Core.Bool.{Bool, cond}
 use mathlib.Core.List.{List, [], _∷_}

@@ -1,6 +1,6 @@
 -- The repeats of a circuit over three tables: document 01, "Circuit", second paragraph; each reads the rows as they are when it begins
 -- (document 02, Req 06).
--- Ask: Is a repeat the run that it returned and its mark? Is an attempt that is turned back, for whatever cause, none?
+-- Ask: Is a repeat the run that it returned and its mark? Is an attempt that is refused, for whatever cause, none?
 use Prim.Native.Nat.{ℕ, zero, suc, _+_}
 use mathlib.Core.Path.{_≡_}
 use mathlib.Core.Bool.{Bool, false, _||_, _&&_, cond}
