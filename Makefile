@@ -4,12 +4,12 @@
 # make examples: builds the example hosts and runs them. make bench: compares with other solvers and with plain Rust.
 # make checktime: how long each crate's check takes, from nothing. make pictures: draws docs/pictures.
 # make statements: writes tests/statements.txt, in a commit that changes what is proved. make docs: writes the tables of documents that are made.
-# make fmt: puts every file in its layout. make fmt-check: says which are not.
+# make fmt: puts every file in its layout. make fmt-check: says which are not, but for those of crates.
 # make drill: two stations and a back end, each in a folder of its own, on the example.
 # make dist: target/dist/forkhemit-VERSION-x86_64-linux.tar.gz, what make install copies, with checksums; to unpack anywhere, without the kit.
 # make help: this text. README.md has a table with what each command needs.
 .PHONY: all test run lib install absolute uninstall examples drill dist help bench checktime pictures docs statements fmt fmt-check
-# `rt` keeps notes in target: one call at a time.
+# `rt` works in a crate's folder: one call at a time.
 .NOTPARALLEL:
 
 PROGRAMS := pair circuit whole
@@ -28,16 +28,23 @@ test:
 	$(KIT)
 	.ci/run
 
-$(PROGRAMS:%=target/obj/%.o): target/obj/%.o: crates.txt $(shell find crates -name '*.rt' -o -name '*.antt')
-	$(KIT)
-	rt check $*
-	touch $@
+# what a proof reads; `rt` puts what it makes into crates/NAME/out
+SOURCES := crates.txt $(shell find crates -name out -prune -o -name '*.rt' -print -o -name '*.antt' -print)
 
-# Linked statically, with the kit's C code that opens files: to load a shared C library takes longer than to solve.
+$(PROGRAMS:%=target/obj/%.o): target/obj/%.o: $(SOURCES)
+	$(KIT)
+	.ci/compile $* $@
+
+# Linked statically, with the kit's C code: to load a shared C library takes longer than to solve.
 $(PROGRAMS:%=target/static/%): target/static/%: target/obj/%.o
 	$(KIT)
 	mkdir -p target/static
-	cc -static -o $@ $< $(dir $(shell rt doc))../lib/libos_c.a
+	cc -static -o $@ $< $(dir $(shell rt doc))c/libos_c.a $(dir $(shell rt doc))c/liblibc_c.a
+
+# the same, linked by `rt` to the shared C library
+$(PROGRAMS:%=target/bin/%): target/bin/%: target/obj/%.o
+	mkdir -p target/bin
+	cp crates/$*/out/$* $@
 
 run: target/static/pair
 	cd examples/harbour && ../../target/static/pair <budget
@@ -45,17 +52,10 @@ run: target/static/pair
 # declared in include/forkhemit.h
 lib: target/lib/libforkhemit.a
 
-# what the library has, a crate for each group of functions
-HOSTS := host_runs host_indexed host_solve host_late host_explained host_circuits host_repeats host_texts host_excerpts host_lines
-HOSTS += host_proofs host_game host_weighted host_whole host_columns host_page host_version
-
-# One after the other: two calls of `rt staticlib` at once spoil each other's notes on the crates that both use. In the crates' object files
-# all names are local but those of the functions that hosts call, so all files fit into one archive.
-target/lib/libforkhemit.a: crates.txt $(shell find crates -name '*.rt' -o -name '*.antt')
+# The crate forkhemit exports the functions of the crates host_*.
+target/lib/libforkhemit.a: $(SOURCES)
 	$(KIT)
-	for crate in $(HOSTS); do rt staticlib $$crate || exit 1; done
-	mkdir -p target/lib
-	printf '%s\n' 'create $@' $(HOSTS:%='addlib target/staticlib/lib%.a') save end | ar -M
+	.ci/compile forkhemit $@
 
 # ---- make install
 
@@ -206,14 +206,14 @@ statements:
 	tests/target/release/check statements crates >tests/statements.new
 	mv tests/statements.new tests/statements.txt
 
+# `rt` lays out the crate that it is called in.
 fmt:
 	$(KIT)
-	rt fmt
+	for crate in crates/*/; do (cd $$crate && rt fmt) || exit 1; done
 	cargo fmt --manifest-path tests/Cargo.toml
 	rustfmt --edition 2021 --config-path tests/rustfmt.toml examples/host/host.rs
 
+# What `rt fmt` lays out is checked by `rt ci`.
 fmt-check:
-	$(KIT)
-	rt fmt --check
 	cargo fmt --check --manifest-path tests/Cargo.toml
 	rustfmt --check --edition 2021 --config-path tests/rustfmt.toml examples/host/host.rs

@@ -128,7 +128,7 @@ done
 
 trial 'it has the functions of the header and no other symbol' prints "$(declared "$prefix/include/forkhemit.h")" exported "$library.so"
 trial "it needs C's library alone" prints libc.so.6 libraries "$library.so"
-trial 'and of that two functions' prints $'memcpy\nmemset' wanted "$library.so"
+trial 'and of that three functions' prints $'memcpy\nmemmove\nmemset' wanted "$library.so"
 cp tests/unset.c "$room"
 trial 'calls over unset buffers are built' cc -std=c11 "${strict[@]}" -o "$room/unset" "$room/unset.c" "${linked[@]}"
 trial 'no unset byte decides anything' valgrind --quiet --error-exitcode=9 "$room/unset"

@@ -1,6 +1,7 @@
 //! What must be believed: the definitions that entries' contracts and theorems' statements come to, by the names that these mention. And of
 //! every other file of definitions, which exported functions come to it.
 
+use crate::exports::EXPORTS;
 use crate::source::{self, Function};
 use crate::statements::Tree;
 use std::collections::{BTreeMap, BTreeSet};
@@ -40,7 +41,7 @@ pub fn crate_of(path: &str) -> &str {
 /// The type of the code that a module of a crate's definitions declares.
 fn declared(path: &str) -> Option<Within> {
     let (crate_name, behind) = path.split_once("/specs/declared/")?;
-    Some((crate_name.into(), behind.split('/').next()?.into()))
+    Some((crate_name.into(), behind.split('/').find(|part| part.starts_with(char::is_uppercase))?.into()))
 }
 
 /// Whether hosts or programs call it.
@@ -70,7 +71,7 @@ impl Met {
     fn go_on(&mut self, tree: &Tree, mut open: Vec<Within>, characterised: &BTreeSet<String>) {
         while let Some((path, text)) = open.pop() {
             for token in source::tokens(&text) {
-                let place = tree.place(&path, &token).or_else(|| tree.place(&path, &format!("_{token}_")));
+                let place = tree.place(&path, &token).or_else(|| tree.place(&path, &format!("◌{token}◌")));
                 let (file, name) = match place.filter(|(file, _)| !characterised.contains(file)) {
                     Some(place) => place,
                     None => continue,
@@ -134,10 +135,12 @@ impl Met {
     }
 }
 
-/// The exported functions by crate and name, each with the files that its contract comes to.
+/// The exported functions by crate and name, each with the files that its contract comes to. What the crate for hosts exports is there by its
+/// own crate.
 fn exported(tree: &Tree) -> Vec<(Within, BTreeSet<String>)> {
     let mut found = vec![];
-    for function in tree.all.iter().filter(|(_, function)| function.exported) {
+    let once = |path: &str| crate_of(path) != EXPORTS;
+    for function in tree.all.iter().filter(|(path, function)| function.exported && once(path)) {
         let mut met = Met::default();
         met.go_on(tree, clauses(function), &BTreeSet::new());
         let name = (crate_of(&function.0).to_string(), function.1.name.clone());
@@ -150,16 +153,16 @@ fn exported(tree: &Tree) -> Vec<(Within, BTreeSet<String>)> {
 /// what a theorem characterises.
 #[rustfmt::skip]
 const FILES: &[(&str, &str, &str)] = &[
-    ("a/specs/Sums", "antt", "use Rattle·b.specs.Shown.{rows}\npub sum : ℕ → ℕ\nsum n = n ⊕ rows n\npub _⊕_ : ℕ → ℕ → ℕ\nn ⊕ m = n\npub spare : ℕ\nspare = 0\n"),
-    ("b/specs/Shown", "antt", "unfoldable pub use Rattle·b·specs.specs.Rows.{rows}\n"),
-    ("b/specs/Rows", "antt", "use Rattle·c.specs.Gates.{gates}\nuse Rattle·b.specs.declared.Row.{Row}\npub rows : Row → ℕ\nrows r = gates\n"),
+    ("a/specs/Sums", "antt", "use Rattle.b.specs.Shown.{rows}\npub sum : ℕ → ℕ\nsum n = n ⊕ rows n\npub ◌⊕◌ : ℕ → ℕ → ℕ\nn ⊕ m = n\npub spare : ℕ\nspare = 0\n"),
+    ("b/specs/Shown", "antt", "unfoldable pub use Rattle.b.specs.Rows.{rows}\n"),
+    ("b/specs/Rows", "antt", "use Rattle.c.specs.Gates.{gates}\nuse Rattle.b.specs.declared.deep.Row.{Row}\npub rows : Row → ℕ\nrows r = gates\n"),
     ("b/specs/Held", "antt", "pub held : ℕ\nheld = 1\n"),
     ("b/specs/Own", "antt", "pub own : ℕ\nown = 1\n"),
     ("b/specs/Stated", "antt", "pub record Stated (n : ℕ) : Type 0 where\n  pub said : n ≡ 0\n"),
     ("c/specs/Gates", "antt", "pub gates : ℕ\ngates = 3\n"),
     ("d/specs/Laws", "antt", "pub law : ℕ\nlaw = 0\n"),
-    ("a/src/lib", "rt", "ghost use Rattle·a·specs.specs.Sums.{sum};\npub extern \"C\" fn forkhemit_sum(n: u8) -> u8\n    ensures { λ r. ⌜ r ≡ sum n ⌝ }\n{ n }"),
-    ("b/src/lib", "rt", "ghost use Rattle·b·specs.specs.Held as Held;\nghost use Rattle·b·specs.specs.Own.{own};\npub fn hold() -> u8\n    ensures { λ r. ⌜ r ≡ Held.held ⌝ }\n{ 1 }\nfn keep() -> u8\n    ensures { λ r. ⌜ r ≡ own ⌝ }\n{ 1 }"),
+    ("a/src/lib", "rt", "ghost use Rattle.a.specs.Sums.{sum};\npub extern \"C\" fn forkhemit_sum(n: u8) -> u8\n    ensures { result ≡ sum n }\n{ n }"),
+    ("b/src/lib", "rt", "ghost use Rattle.b.specs.Held as Held;\nghost use Rattle.b.specs.Own.{own};\npub fn hold() -> u8\n    ensures { result ≡ Held.held }\n{ 1 }\nfn keep() -> u8\n    ensures { result ≡ own.size }\n{ 1 }"),
 ];
 
 /// Whether what is found in the samples is what is to be found.
@@ -168,7 +171,7 @@ pub fn samples() -> bool {
     let within =
         |pairs: &[(&str, &str)]| pairs.iter().map(|(a, b)| (a.to_string(), b.to_string())).collect::<BTreeSet<_>>();
     let believed = [
-        ("a/specs/Sums", "_⊕_"),
+        ("a/specs/Sums", "◌⊕◌"),
         ("a/specs/Sums", "sum"),
         ("b/specs/Rows", "rows"),
         ("b/specs/Stated", "Stated"),

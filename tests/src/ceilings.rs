@@ -4,6 +4,7 @@
 
 use crate::antt;
 use crate::contracts;
+use crate::exports::EXPORTS;
 use crate::report::Tally;
 use crate::source;
 use std::collections::{BTreeSet, HashMap};
@@ -147,9 +148,9 @@ fn unexplained(files: &[File]) -> Vec<Place> {
     let mut used = BTreeSet::new();
     for file in files.iter().filter(|file| file.path.ends_with(".antt")) {
         for source::Import { module, name, .. } in source::imports(&file.text) {
-            if let Some((owner, within)) =
-                module.strip_prefix("Rattle·").and_then(|module| module.split_once(".proofs."))
-            {
+            let place =
+                source::own_module(&module).and_then(|(owner, path)| Some((owner, path.strip_prefix("proofs.")?)));
+            if let Some((owner, within)) = place {
                 if owner != file.home() && !name.is_empty() {
                     used.insert((format!("crates/{owner}/proofs/{}.antt", within.replace('.', "/")), name));
                 }
@@ -182,15 +183,16 @@ fn telling(file: &File) -> Vec<(usize, &str)> {
     let other = ["--", "//", "use ", "ghost use ", "pub use ", "mod ", "pub mod "];
     let lines = file.text.lines().enumerate().map(|(at, line)| (at + 1, line.trim()));
     let said = lines.filter(|(_, line)| !other.iter().any(|start| line.starts_with(start)));
-    let said = said.filter(|(_, line)| !line.contains(": tie.Need-") && !line.ends_with("= search needs"));
+    let said = said.filter(|(_, line)| !line.contains(": goal.") && !line.ends_with("= search rules"));
     said.filter(|(_, line)| line.chars().filter(|sign| sign.is_alphanumeric()).count() >= LETTERS).collect()
 }
 
 /// Lines of crates in blocks of eight or more that were there before, in an earlier file or further up: what could be said once. Indents,
-/// comments and lines of few letters make no difference, nor do needs that the prover names and finds by itself: `rt` prints them. The place of a block is that of the lines that are there again.
+/// comments and lines of few letters make no difference, nor do goals that the prover names and finds by itself: `rt` prints them. Exports
+/// state their functions' contracts again, which `exports` compares. The place of a block is that of the lines that are there again.
 fn repeated(files: &[File]) -> Vec<Place> {
-    let all: Vec<(&File, Vec<(usize, &str)>)> =
-        files.iter().filter(|file| !file.part().is_empty()).map(|file| (file, telling(file))).collect();
+    let counted = files.iter().filter(|file| !file.part().is_empty() && file.home() != EXPORTS);
+    let all: Vec<(&File, Vec<(usize, &str)>)> = counted.map(|file| (file, telling(file))).collect();
     let mut first: HashMap<Vec<&str>, (usize, usize)> = HashMap::new();
     let mut found = vec![];
     for (number, (file, lines)) in all.iter().enumerate() {
@@ -274,7 +276,7 @@ fn eight(word: &str) -> String {
 /// them can be moved alone.
 #[rustfmt::skip]
 fn samples() -> Vec<(Vec<(&'static str, String)>, usize, usize)> {
-    let (code, other_code, law, other_law) = ("crates/a/src/lib.rt", "crates/b/src/deep/below.rt", "crates/a/proofs/Laws.antt", "crates/b/proofs/f/Proof.antt");
+    let (code, other_code, law, other_law) = ("crates/a/src/lib.rt", "crates/b/src/deep/below.rt", "crates/a/proofs/Laws.antt", "crates/b/proofs/f/Answers.antt");
     let long = |size: usize| format!("{}\n", "λ".repeat(size));
     let back = |steps: usize| format!("returns c = c{} .inv\n", " .before".repeat(steps));
     let row = |size: usize| format!("| point | choice |\n|---|---|\n| a | {} |\n", "x".repeat(size));
@@ -307,18 +309,19 @@ fn samples() -> Vec<(Vec<(&'static str, String)>, usize, usize)> {
         (vec![(law, eight("a") + &eight("b")), (other_law, eight("a") + &eight("b"))], 6, 16),
         (vec![(law, eight("a") + &eight("b")), (other_law, eight("b") + &eight("c") + &eight("a"))], 6, 16),
         (vec![(law, eight("a") + &eight("a") + &eight("a"))], 6, 16),
-        (vec![(law, eight("a")), (other_law, eight("a").replacen("  let", "f : tie.Need-f\nf c = search needs\n  let", 3))], 6, 8),
-        (vec![(law, "f-name : tie.Need-f\nf-name c κs = search needs\n".repeat(30))], 6, 0),
+        (vec![(law, eight("a")), (other_law, eight("a").replacen("  let", "pub f : goal.f\nf c = search rules\n  let", 3))], 6, 8),
+        (vec![(law, "pub f-name : goal.f-name\nf-name c = search rules\n".repeat(30))], 6, 0),
         (vec![(law, "  said the same once\n".repeat(15))], 6, 0),
         (vec![(law, "  said the same once\n".repeat(16))], 6, 8),
         (vec![(law, "use lib.ListN.{length}\n".repeat(30)), (other_code, "    }\n".repeat(30))], 6, 0),
         (vec![("tests/src/a.rs", eight("a")), ("tests/src/b.rs", eight("a"))], 6, 0),
-        (vec![(law, "-- why\npub one : A\none = a\n".into()), (other_law, "use Rattle·a.proofs.Laws.{one}\n".into())], 7, 0),
-        (vec![(law, "pub one two : A\n".into()), (other_law, "use Rattle·a.proofs.Laws.{one as first, two}\n".into())], 7, 2),
-        (vec![(law, "-- why\n\npub one : A\n".into()), (other_law, "use Rattle·a.proofs.Laws.{one}\n".into())], 7, 1),
-        (vec![(law, "pub one : A\n".into()), ("crates/a/specs/M.antt", "use Rattle·a.proofs.Laws.{one}\n".into())], 7, 0),
-        (vec![(law, "pub one : A\n".into()), (other_law, "use Rattle·a.proofs.f.Met.{met}\nuse lib.Laws.{one}\n".into())], 7, 0),
-        (vec![(law, "-- why\none : A\n".into()), (other_law, "use Rattle·a.proofs.Laws.{one}\n".into())], 7, 1),
+        (vec![(code, eight("a")), ("crates/forkhemit/src/a.rt", eight("a"))], 6, 0),
+        (vec![(law, "-- why\npub one : A\none = a\n".into()), (other_law, "use Rattle.a.proofs.Laws.{one}\n".into())], 7, 0),
+        (vec![(law, "pub one two : A\n".into()), (other_law, "use Rattle.a.proofs.Laws.{one as first, two}\n".into())], 7, 2),
+        (vec![(law, "-- why\n\npub one : A\n".into()), (other_law, "use Rattle.a.proofs.Laws.{one}\n".into())], 7, 1),
+        (vec![(law, "pub one : A\n".into()), ("crates/a/specs/M.antt", "use Rattle.a.proofs.Laws.{one}\n".into())], 7, 0),
+        (vec![(law, "pub one : A\n".into()), (other_law, "use Rattle.a.proofs.f.Met.{met}\nuse lib.Laws.{one}\n".into())], 7, 0),
+        (vec![(law, "-- why\none : A\n".into()), (other_law, "use Rattle.a.proofs.Laws.{one}\n".into())], 7, 1),
         (vec![(law, "\n".repeat(400)), (code, "\n".repeat(400)), ("tests/src/a.rs", "\n".repeat(900))], 8, 0),
         (vec![(law, "\n".repeat(401)), (code, "\n".repeat(900))], 8, 2),
     ]

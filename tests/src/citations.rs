@@ -120,29 +120,29 @@ fn rows(page: &str, tree: &Tree) -> Vec<(String, Vec<String>)> {
 /// The samples' files, and rows of tables with what is wrong with them.
 #[rustfmt::skip]
 const FILES: &[(&str, &str, &str)] = &[
-    ("a/specs/Said", "antt", "pub modelOf : ℕ → ℕ\nmodelOf r = r\npub modelCode : ℕ → ℕ\nmodelCode r = 0\npub modelNumbers : ℕ → List ℕ\nmodelNumbers r = r ∷ []\n"),
-    ("b/specs/Host", "antt", "use Rattle·a.specs.Said.{modelNumbers as numbers}\npub numbersThen : ℕ → List ℕ\nnumbersThen r = numbers r\n"),
-    ("a/src/lib", "rt", "ghost use Rattle·a·specs.specs.Said.{modelOf, modelCode, modelNumbers};\npub fn model(x: u8) -> u8\n    ensures { λ r. ⌜ r ≡ modelOf x ⌝ }\n    ensures { λ r. ⌜ modelCode r ∷ modelNumbers r ≡ x ⌝ }\n{ x }\npub fn half(x: u8) -> u8\n    ensures { λ r. ⌜ r ≡ modelCode x ⌝ }\n{ x }\npub fn other(x: u8) -> u8\n    ensures { λ r. ⌜ r ≡ x ⌝ }\n{ x }"),
-    ("b/src/lib", "rt", "ghost use Rattle·a.specs.Said as Said;\nghost use Rattle·b·specs.specs.Host.{numbersThen};\npub extern \"C\" fn forkhemit_model(x: u8) -> u8\n    ensures { λ r. ⌜ r ≡ Said.modelCode x ⌝ }\n    ensures { λ _. ⌜ now (x .exit) ≡ numbersThen x ⌝ }\n{ x }\npub extern \"C\" fn forkhemit_half(x: u8) -> u8\n    ensures { λ r. ⌜ r ≡ Said.modelCode x ⌝ }\n{ x }"),
+    ("a/specs/Said", "antt", "pub model_of : ℕ → ℕ\nmodel_of r = r\npub model_code : ℕ → ℕ\nmodel_code r = 0\npub model_numbers : ℕ → List ℕ\nmodel_numbers r = r ∷ []\n"),
+    ("b/specs/Host", "antt", "use Rattle.a.specs.Said.{model_numbers as numbers}\npub numbers_then : ℕ → List ℕ\nnumbers_then r = numbers r\n"),
+    ("a/src/lib", "rt", "ghost use Rattle.a.specs.Said.{model_of, model_code, model_numbers};\npub fn model(x: u8) -> u8\n    ensures { result ≡ model_of x }\n    ensures { model_code result ∷ model_numbers result ≡ x }\n{ x }\npub fn half(x: u8) -> u8\n    ensures { result ≡ model_code x }\n{ x }\npub fn other(x: u8) -> u8\n    ensures { result ≡ x }\n{ x }"),
+    ("b/src/lib", "rt", "ghost use Rattle.a.specs.Said as Said;\nghost use Rattle.b.specs.Host.{numbers_then};\npub extern \"C\" fn forkhemit_model(x: u8) -> u8\n    ensures { result ≡ Said.model_code x }\n    ensures { x.new ≡ numbers_then x }\n{ x }\npub extern \"C\" fn forkhemit_half(x: u8) -> u8\n    ensures { result ≡ Said.model_code x }\n{ x }"),
 ];
 #[rustfmt::skip]
 const SAMPLES: &[(&str, &str, &[&str])] = &[
-    ("`a::model`", "`modelOf` (`a/specs/Said`)", &[]),
-    ("`a::model`, `half`", "`modelOf`, `modelCode`", &[]),
-    ("`a::model`, `half`", "`modelOf`", &["`half` cites none of modelOf"]),
-    ("`a::half`, `other`", "`modelCode`, `modelOf`", &["`other` cites none of modelCode, modelOf", "no function of `a::half`, `other` cites `modelOf`"]),
-    ("`forkhemit_model`, `half`", "`modelCode`, `modelNumbers` by `numbersThen`", &[]),
-    ("`a::gone`", "`modelOf`", &["`gone` cites none of modelOf", "no function of `a::gone` cites `modelOf`"]),
+    ("`a::model`", "`model_of` (`a/specs/Said`)", &[]),
+    ("`a::model`, `half`", "`model_of`, `model_code`", &[]),
+    ("`a::model`, `half`", "`model_of`", &["`half` cites none of model_of"]),
+    ("`a::half`, `other`", "`model_code`, `model_of`", &["`other` cites none of model_code, model_of", "no function of `a::half`, `other` cites `model_of`"]),
+    ("`forkhemit_model`, `half`", "`model_code`, `model_numbers` by `numbers_then`", &[]),
+    ("`a::gone`", "`model_of`", &["`gone` cites none of model_of", "no function of `a::gone` cites `model_of`"]),
 ];
 #[rustfmt::skip]
 const ENUM_SAMPLES: &[(&str, &str, &[&str])] = &[
-    ("`modelCode`; `modelNumbers`: the model", "`a::model`", &[]),
-    ("`modelCode`; `modelNumbers`", "`a::model`, `half`", &["`half` cites none of modelNumbers"]),
-    ("`modelCode`, or `modelNumbers`", "`a::model`, `half`", &[]),
-    ("`modelCode`; `modelNumbers`", "`a::model`, `forkhemit_model`", &["`forkhemit_model` cites none of modelNumbers"]),
-    ("`modelCode`; `modelNumbers`", "`a::model`, `forkhemit_model`, by `numbersThen`", &[]),
-    ("`modelCode`; `modelNumbers`", "`forkhemit_half`, by `numbersThen`", &["`forkhemit_half` cites none of modelNumbers"]),
-    ("`modelOf`; `modelCode`", "`a::half` with `model`", &[]),
+    ("`model_code`; `model_numbers`: the model", "`a::model`", &[]),
+    ("`model_code`; `model_numbers`", "`a::model`, `half`", &["`half` cites none of model_numbers"]),
+    ("`model_code`, or `model_numbers`", "`a::model`, `half`", &[]),
+    ("`model_code`; `model_numbers`", "`a::model`, `forkhemit_model`", &["`forkhemit_model` cites none of model_numbers"]),
+    ("`model_code`; `model_numbers`", "`a::model`, `forkhemit_model`, by `numbers_then`", &[]),
+    ("`model_code`; `model_numbers`", "`forkhemit_half`, by `numbers_then`", &["`forkhemit_half` cites none of model_numbers"]),
+    ("`model_of`; `model_code`", "`a::half` with `model`", &[]),
 ];
 
 /// Checks the check on the samples.

@@ -17,8 +17,8 @@ use std::path::Path;
 /// Words that the page has in quotes and that name nothing of the project's.
 #[rustfmt::skip]
 const WORDS: &[&str] = &[
-    "rt ci", "make statements", "make docs", "make lib", "c", "requires", "ensures", "cc", "memcpy", "memset", "read", "write", "axioms=5", "axioms=2", "logic-built=trusted", "libraries-built=trusted", "target", "crates/NAME/src", "crates/NAME/specs",
-    "crates/NAME/proofs", "crates/NAME/must-fail", "×", "→", "⊥", "now", ".entry", ".exit", "use",
+    "rt ci", "make statements", "make docs", "make lib", "c", "requires", "ensures", "cc", "memcpy", "memmove", "memset", "read", "write", "axioms=32", "axioms=5", "logic-built=trusted", "libraries-built=trusted", "statements=trusted", "crates/NAME/src", "crates/NAME/specs",
+    "crates/NAME/proofs", "crates/NAME/must-fail", "×", "→", "⊥", "result", ".now", ".old", ".new", ".entry", ".exit", "use", "out",
 ];
 
 /// What a page names: files by their paths, all else as it is; and the names that come with their file or folder.
@@ -94,9 +94,9 @@ impl Index {
         let meant = antt::definitions(&text).into_iter().filter(|definition| !definition.field);
         self.meant.insert(path.into(), meant.map(|definition| definition.name).collect());
         for source::Import { module, name, .. } in source::imports(&text) {
-            if !module.starts_with("Rattle·") {
-                self.kit.insert(name.trim_matches('_').into());
-            } else if module.contains(".declared.") && !module.ends_with(".the-variants") {
+            if source::own_module(&module).is_none() {
+                self.kit.insert(name.trim_matches('◌').into());
+            } else if module.contains(".declared.") && !module.ends_with(".TheVariants") {
                 self.types.insert(name);
             }
         }
@@ -253,7 +253,7 @@ fn small() -> Index {
     index.define(
         "a/specs/Sums",
         "antt",
-        "-- a sum\nuse Prim.Native.Nat.{_+_, ℕ}\nuse Rattle·b.specs.declared.Box.{Box}\n\npub sum : ℕ\nsum = 1 + 1\n",
+        "-- a sum\nuse Rattle.std.specs.Prelude.{◌+◌, ℕ}\nuse Rattle.b.specs.declared.Box.{Box}\n\npub sum : ℕ\nsum = 1 + 1\n",
     );
     index.define("b/specs/Other", "antt", "pub sum : ℕ\npub record Three : Type 0 where\n  pub left-one : ℕ\n");
     index.define("b/proofs/Laws", "antt", "module _ (n : ℕ) where\n  pub sum-zero : sum 0 ≡ 0\n");

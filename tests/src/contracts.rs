@@ -10,7 +10,7 @@ use std::path::{Path, PathBuf};
 const UNKNOWN_INPUT: (&str, [&str; 3]) = ("input", ["read_line", "begin", "read_on"]);
 
 /// Words that make several statements of one.
-const CONNECTIVES: [&str; 8] = ["→", "↔", "×", "⊎", "∨₁", "≡", "∀", "¬"];
+const CONNECTIVES: [&str; 9] = ["→", "↔", "×", "⊎", "∨₁", "≡", "≢", "∀", "¬"];
 /// Statements that say nothing.
 const EMPTY: [&str; 4] = ["⊤", "Unit", "⊤₀", "True"];
 
@@ -72,59 +72,50 @@ fn says_nothing(statement: &[String]) -> bool {
     })
 }
 
-/// An `ensures`: the name of the result, or None where it is not named, and the statement.
-fn ensured(clause: &str) -> Option<(Option<String>, Vec<String>)> {
-    let tokens = source::tokens(clause);
-    let dot = tokens.iter().position(|token| token == ".")?;
-    let (binders, rest) = (&tokens[..dot], &tokens[dot + 1..]);
-    if binders.first()? != "λ" || rest.first()? != "⌜" || rest.last()? != "⌝" {
-        return None;
-    }
-    let result = binders.last().filter(|name| *name != "_" && *name != "λ").cloned();
-    Some((result, rest[1..rest.len() - 1].to_vec()))
+/// The word for what a function gives.
+const RESULT: &str = "result";
+
+/// Whether a token is of the result, or of what is left in a buffer.
+fn is_of_after(token: &String) -> bool {
+    let mut parts = token.split('.');
+    parts.next() == Some(RESULT) || parts.any(|part| part == "new")
 }
 
-/// Whether a statement equates these tokens with others that mention neither the result nor what is left in a buffer.
-fn equates(statement: &[String], tokens: &[&str], result: Option<&String>) -> bool {
+/// Whether a statement equates a token with others that mention neither the result nor what is left in a buffer.
+fn equates(statement: &[String], token: &str) -> bool {
     let sides = parts(statement, "≡");
     let single = |side: &[String]| CONNECTIVES.iter().all(|sign| parts(side, sign).len() == 1);
-    sides.len() == 2
-        && sides[0] == tokens
-        && single(sides[1])
-        && !sides[1].iter().any(|token| Some(token) == result || token.starts_with(".exit"))
+    sides.len() == 2 && sides[0] == [token] && single(sides[1]) && !sides[1].iter().any(is_of_after)
 }
 
 /// What is wrong with the contract of an exported function.
 fn fault(function: &Function) -> Option<String> {
     let kind = |kind: &'static str| function.clauses.iter().filter(move |clause| clause.0 == kind);
-    if kind("requires").next().is_some() {
+    if kind("requires").next().is_some() || kind("requires*").next().is_some() {
         return Some("has a requires".into());
+    }
+    if kind("ensures*").next().is_some() {
+        return Some("has an ensures that is no plain fact".into());
     }
     if kind("ensures").next().is_none() {
         return Some("has no ensures".into());
     }
+    if function.parameters.iter().any(|(name, _)| name == RESULT) {
+        return Some("has a parameter with the result's name".into());
+    }
     if function.clauses.iter().any(|(_, text)| ["--", "{-", "//", "/*"].iter().any(|sign| text.contains(sign))) {
         return Some("has a comment in its contract".into());
     }
-    let mut statements = vec![];
-    for (_, text) in kind("ensures") {
-        match ensured(text) {
-            None => return Some("has an ensures that is no statement λ r. ⌜ .. ⌝".into()),
-            Some((_, statement)) if says_nothing(&statement) => return Some("has an ensures that says nothing".into()),
-            Some(statement) => statements.push(statement),
-        }
+    let statements: Vec<Vec<String>> = kind("ensures").map(|(_, text)| source::tokens(text)).collect();
+    if statements.iter().any(|statement| says_nothing(statement)) {
+        return Some("has an ensures that says nothing".into());
     }
-    let result = |(name, statement): &(Option<String>, Vec<String>)| match name {
-        Some(r) => equates(statement, &[r], Some(r)) || equates(statement, &["now", r], Some(r)),
-        None => false,
-    };
-    if function.result && !statements.iter().any(result) {
+    let equated = |token: &str| statements.iter().any(|statement| equates(statement, token));
+    if function.result && !equated(RESULT) && !equated(&format!("{RESULT}.now")) {
         return Some("does not equate its result".into());
     }
-    let unequated = function.parameters.iter().filter(|parameter| parameter.1).find(|(name, _)| {
-        let left = ["now", "(", name, ".exit", ")"];
-        !statements.iter().any(|(result, statement)| equates(statement, &left, result.as_ref()))
-    });
+    let mut lent = function.parameters.iter().filter(|parameter| parameter.1);
+    let unequated = lent.find(|(name, _)| !equated(&format!("{name}.new")));
     unequated.map(|(name, _)| format!("does not equate what it leaves in {name}"))
 }
 
@@ -138,57 +129,64 @@ fn exported(source: &str) -> Vec<(String, Option<String>)> {
 /// Sources with what is wrong with each exported function, "" where nothing is: what this check is held to.
 #[rustfmt::skip]
 const SAMPLES: &[(&str, &[(&str, &str)])] = &[
-    ("pub fn f(x: u8) -> u8\n    ensures { λ r. ⌜ r ≡ x ⌝ }\n{\n    x\n}", &[("f", "")]),
+    ("pub fn f(x: u8) -> u8\n    ensures { result ≡ x }\n{\n    x\n}", &[("f", "")]),
     ("pub fn f(x: u8) -> u8 { x }", &[("f", "has no ensures")]),
-    ("pub fn f(x: u8) -> [u8; 4]\n    ensures { λ r. ⌜ r ≡ replicate 4 x ⌝ }\n{ [x; 4] }", &[("f", "")]),
+    ("pub fn f(x: u8) -> [u8; 4]\n    ensures { result ≡ replicate 4 x }\n{ [x; 4] }", &[("f", "")]),
     ("pub fn f(x: u8) -> [u8; 4]\n{ [x; 4] }", &[("f", "has no ensures")]),
-    ("pub fn f(x: u8) -> u8\n    requires { ⌜ x < 9 ⌝ }\n    ensures { λ r. ⌜ r ≡ x ⌝ }\n{ x }", &[("f", "has a requires")]),
-    ("pub fn f(x: u8) -> u8\n    ensures { λ r. ⌜ r ≡ record { a = x } ⌝ }\n    requires { ⌜ x < 9 ⌝ }\n{ x }", &[("f", "has a requires")]),
-    ("pub fn f(x: u8) -> u8\n    // ensures { λ r. ⌜ r ≡ x ⌝ }\n{ x }", &[("f", "has no ensures")]),
-    ("pub fn f(x: u8) -> u8\n    /* ensures { λ r. ⌜ r ≡ x ⌝ } */\n{ x }", &[("f", "has no ensures")]),
-    ("pub fn f(x: u8) -> u8\n    /* a /* b */ ensures { λ r. ⌜ r ≡ x ⌝ } */\n{ x }", &[("f", "has no ensures")]),
-    ("pub fn f(x: u8) -> u8\n    /* // */ ensures { λ r. ⌜ r ≡ x ⌝ }\n{ x }", &[("f", "")]),
-    ("pub fn f(x: u8) -> u8\n    // /*\n    ensures { λ r. ⌜ r ≡ x ⌝ } // */\n{ x }", &[("f", "")]),
+    ("pub fn f(x: u8) -> u8\n    requires { x < 9 }\n    ensures { result ≡ x }\n{ x }", &[("f", "has a requires")]),
+    ("pub fn f(x: u8) -> u8\n    ensures { result ≡ record { a = x } }\n    requires { x < 9 }\n{ x }", &[("f", "has a requires")]),
+    ("pub fn f(x: u8) -> u8\n    // ensures { result ≡ x }\n{ x }", &[("f", "has no ensures")]),
+    ("pub fn f(x: u8) -> u8\n    /* ensures { result ≡ x } */\n{ x }", &[("f", "has no ensures")]),
+    ("pub fn f(x: u8) -> u8\n    /* a /* b */ ensures { result ≡ x } */\n{ x }", &[("f", "has no ensures")]),
+    ("pub fn f(x: u8) -> u8\n    /* // */ ensures { result ≡ x }\n{ x }", &[("f", "")]),
+    ("pub fn f(x: u8) -> u8\n    // /*\n    ensures { result ≡ x } // */\n{ x }", &[("f", "")]),
     ("const A: &[u8] = b\"/*\";\npub fn f(x: u8) -> u8 { b'\"' }\nconst B: &[u8] = b\"*/\\\" ensures { }\";\npub fn g() { '/' }", &[("f", "has no ensures"), ("g", "has no ensures")]),
     ("const A: &str = r#\"\" /* \"#;\npub fn f(x: u8) -> u8 { x }", &[("f", "has no ensures")]),
     ("/* pub fn f(x: u8) { } */ pub fn g<'a>(x: &'a u8) -> &'a u8 { x }", &[("g", "has no ensures")]),
-    ("pub fn f(x: u8) -> u8\n    ensures { λ r. ⌜ r ≡ 1 -- + 6\n ⌝ }\n{ 1 }", &[("f", "has a comment in its contract")]),
-    ("pub fn f(x: u8) -> u8\n    ensures { λ r. ⌜ r ≡ {- 7 -} 1 ⌝ }\n{ 1 }", &[("f", "has a comment in its contract")]),
-    ("pub fn f(x: u8) -> u8\n    ensures { λ r. ⌜ r ≡ r ⌝ }\n{ x }", &[("f", "has an ensures that says nothing")]),
-    ("pub fn f(x: u8) -> u8\n    ensures { λ r. ⌜ r ≡ (r) ⌝ }\n{ x }", &[("f", "has an ensures that says nothing")]),
-    ("pub fn f(x: u8) -> u8\n    ensures { λ r. ⌜ r ≡ x ⌝ }\n    ensures { λ _. ⌜ (x + 1) ≡ x + 1 ⌝ }\n{ x }", &[("f", "has an ensures that says nothing")]),
-    ("pub fn f(x: u8) -> u8\n    ensures { λ r. ⌜ ⊤ ⌝ }\n{ x }", &[("f", "has an ensures that says nothing")]),
-    ("pub fn f(x: u8) -> u8\n    ensures { λ r. ⌜ (Unit) ⌝ }\n{ x }", &[("f", "has an ensures that says nothing")]),
-    ("pub fn f(x: u8) -> u8\n    ensures { λ r. ⌜ r ≡ x → (x ≡ 1 → r ≡ r) ⌝ }\n{ x }", &[("f", "has an ensures that says nothing")]),
-    ("pub fn f(x: u8) -> u8\n    ensures { λ r. ⌜ (r ≡ x) ⊎ ⊤ ⌝ }\n{ x }", &[("f", "has an ensures that says nothing")]),
-    ("pub fn f(x: u8) -> u8\n    ensures { λ r. ⌜ 0 ≤ r ⌝ }\n{ x }", &[("f", "has an ensures that says nothing")]),
-    ("pub fn f(x: u8) -> u8\n    ensures { λ r. ⌜ r ≡ cond true r x ⌝ }\n{ x }", &[("f", "does not equate its result")]),
-    ("pub fn f(x: u8) -> u8\n    ensures { λ r. ⌜ r ≤ x ⌝ }\n{ x }", &[("f", "does not equate its result")]),
-    ("pub fn f(x: u8) -> u8\n    ensures { λ r. ⌜ x ≡ 1 → r ≡ x ⌝ }\n{ x }", &[("f", "does not equate its result")]),
-    ("pub fn f(x: u8) -> u8\n    ensures { λ r. ⌜ r ≡ x → x ≡ 1 ⌝ }\n{ x }", &[("f", "does not equate its result")]),
-    ("pub fn f(x: u8) -> u8\n    ensures { λ x. ⌜ 1 ≡ 2 ⌝ }\n{ x }", &[("f", "does not equate its result")]),
-    ("pub fn f(x: u8) -> u8\n    ensures { True }\n{ x }", &[("f", "has an ensures that is no statement λ r. ⌜ .. ⌝")]),
-    ("pub fn f(b: &[u8]) -> &[u8]\n    ensures { λ r. ⌜ now r ≡ take 2 (now (b .entry)) ⌝ }\n{ b }", &[("f", "")]),
-    ("pub fn f(b: &mut [u8])\n    ensures { λ _. ⌜ now (b .exit) ≡ cleared (now (b .entry)) ⌝ }\n{ }", &[("f", "")]),
-    ("pub fn f(b: &mut [u8]) -> u8\n    ensures { λ r. ⌜ r ≡ 0 ⌝ }\n{ 0 }", &[("f", "does not equate what it leaves in b")]),
-    ("pub fn f(b: &mut [u8])\n    ensures { λ _. ⌜ now (b .exit) ≡ drop 0 (now (b .exit)) ⌝ }\n{ }", &[("f", "does not equate what it leaves in b")]),
-    ("pub fn f(a: &mut [u8; 4], c: u8, b: &'a mut [u8])\n    ensures { λ _. ⌜ now (a .exit) ≡ now (a .entry) ⌝ }\n{ }", &[("f", "does not equate what it leaves in b")]),
-    ("pub fn f()\n    ghost { ℕ }\n    ensures kept { λ m r. ⌜ length m ≡ 0 ⌝ }\n{ }\nfn g() { }\npub(crate) fn h() requires { ⌜ ⊥ ⌝ } { }", &[("f", "")]),
-    ("#[no_mangle]\npub extern \"C\" fn f(x: u8) -> u8 { x }", &[("f", "has no ensures")]),
+    ("pub fn f(x: u8) -> u8\n    ensures { result ≡ 1 -- + 6\n }\n{ 1 }", &[("f", "has a comment in its contract")]),
+    ("pub fn f(x: u8) -> u8\n    ensures { result ≡ {- 7 -} 1 }\n{ 1 }", &[("f", "has a comment in its contract")]),
+    ("pub fn f(x: u8) -> u8\n    ensures { result ≡ result }\n{ x }", &[("f", "has an ensures that says nothing")]),
+    ("pub fn f(x: u8) -> u8\n    ensures { result ≡ (result) }\n{ x }", &[("f", "has an ensures that says nothing")]),
+    ("pub fn f(x: u8) -> u8\n    ensures { result ≡ x }\n    ensures { (x + 1) ≡ x + 1 }\n{ x }", &[("f", "has an ensures that says nothing")]),
+    ("pub fn f(x: u8) -> u8\n    ensures { ⊤ }\n{ x }", &[("f", "has an ensures that says nothing")]),
+    ("pub fn f(x: u8) -> u8\n    ensures { (Unit) }\n{ x }", &[("f", "has an ensures that says nothing")]),
+    ("pub fn f(x: u8) -> u8\n    ensures { result ≡ x → (x ≡ 1 → result ≡ result) }\n{ x }", &[("f", "has an ensures that says nothing")]),
+    ("pub fn f(x: u8) -> u8\n    ensures { (result ≡ x) ⊎ ⊤ }\n{ x }", &[("f", "has an ensures that says nothing")]),
+    ("pub fn f(x: u8) -> u8\n    ensures { 0 ≤ result }\n{ x }", &[("f", "has an ensures that says nothing")]),
+    ("pub fn f(x: u8) -> u8\n    ensures { result ≡ cond true result x }\n{ x }", &[("f", "does not equate its result")]),
+    ("pub fn f(x: u8) -> u8\n    ensures { result ≤ x }\n{ x }", &[("f", "does not equate its result")]),
+    ("pub fn f(x: u8) -> u8\n    ensures { x ≡ 1 → result ≡ x }\n{ x }", &[("f", "does not equate its result")]),
+    ("pub fn f(x: u8) -> u8\n    ensures { result ≡ x → x ≡ 1 }\n{ x }", &[("f", "does not equate its result")]),
+    ("pub fn f(x: u8) -> u8\n    ensures { 1 ≡ 2 }\n{ x }", &[("f", "does not equate its result")]),
+    ("pub fn f(x: u8) -> u8\n    ensures { True }\n{ x }", &[("f", "has an ensures that says nothing")]),
+    ("pub fn f(x: u8) -> u8\n    ensures* { result ≡ x }\n{ x }", &[("f", "has an ensures that is no plain fact")]),
+    ("pub fn f(x: u8) -> u8\n    ensures* value { result ≡ x }\n{ x }", &[("f", "has an ensures that is no plain fact")]),
+    ("pub fn f(result: u8) -> u8\n    ensures { result ≡ 1 }\n{ 1 }", &[("f", "has a parameter with the result's name")]),
+    ("pub fn f(x: u8) -> Two\n    ensures { result ≡ swap result.left x }\n{ x }", &[("f", "does not equate its result")]),
+    ("pub fn f(x: u8, b: &mut [u8]) -> u8\n    ensures value { result ≡ x }\n    ensures after { b.new ≡ take 2 b.old }\n{ x }", &[("f", "")]),
+    ("pub fn f(x: u8, b: &mut [u8]) -> u8\n    ensures value { result ≡ length b.new }\n    ensures after { b.new ≡ b.old }\n{ x }", &[("f", "does not equate its result")]),
+    ("pub fn f<F: Fn(u8) -> u8, I: Read>(f: F, b: &mut I) -> u8\n    ensures { result ≡ 7 }\n{ 7 }", &[("f", "does not equate what it leaves in b")]),
+    ("pub fn f(b: &[u8]) -> &[u8]\n    ensures { result.now ≡ take 2 b.old }\n{ b }", &[("f", "")]),
+    ("pub fn f(b: &mut [u8])\n    ensures { b.new ≡ cleared b.old }\n{ }", &[("f", "")]),
+    ("pub fn f(b: &mut [u8]) -> u8\n    ensures { result ≡ 0 }\n{ 0 }", &[("f", "does not equate what it leaves in b")]),
+    ("pub fn f(b: &mut [u8])\n    ensures { b.new ≡ drop 0 b.new }\n{ }", &[("f", "does not equate what it leaves in b")]),
+    ("pub fn f(a: &mut [u8; 4], c: u8, b: &'a mut [u8])\n    ensures { a.new ≡ a.old }\n{ }", &[("f", "does not equate what it leaves in b")]),
+    ("pub fn f()\n    ghost { ℕ }\n    ensures kept { length m ≡ 0 }\n{ }\nfn g() { }\npub(crate) fn h() requires { ⊥ } { }", &[("f", "")]),
+    ("#[unsafe(no_mangle)]\npub extern \"C\" fn f(x: u8) -> u8 { x }", &[("f", "has no ensures")]),
     ("pub struct S { pub at: usize }\nimpl S {\n    const N: u8 = 3;\n    pub fn new() -> S { S { at: 0 } }\n    fn own(self) -> u8 { 1 }\n}", &[("new", "has no ensures")]),
-    ("impl S {\n    pub fn a<'a>(s: &'a [u8; 4]) -> &'a [u8]\n        ensures kept { λ r. ⌜ r ≡ s ⌝ }\n    { s }\n    pub fn b(&mut self)\n        ensures { λ _. ⌜ now (self .exit) ≡ s ⌝ }\n    { }\n    pub fn c(self) { }\n}",
+    ("impl S {\n    pub fn a<'a>(s: &'a [u8; 4]) -> &'a [u8]\n        ensures kept { result ≡ s }\n    { s }\n    pub fn b(&mut self)\n        ensures { self.new ≡ s }\n    { }\n    pub fn c(self) { }\n}",
         &[("a", ""), ("b", ""), ("c", "has no ensures")]),
     ("pub fn main() { }\nfn f() { }", &[]),
 ];
 
-/// The files below a folder with this ending, in the order of their paths.
+/// The files below a folder with this ending, in the order of their paths. What `rt` makes, `out`, is none of it.
 pub fn files(folder: &Path, ending: &str) -> std::io::Result<Vec<PathBuf>> {
     let (mut folders, mut found) = (vec![folder.to_owned()], vec![]);
     while let Some(folder) = folders.pop() {
         for entry in fs::read_dir(folder)? {
             let path = entry?.path();
             if path.is_dir() {
-                folders.push(path);
+                folders.extend(Some(path).filter(|path| !path.ends_with("out")));
             } else if path.extension().map_or(false, |extension| extension == ending) {
                 found.push(path);
             }

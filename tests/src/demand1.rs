@@ -60,8 +60,8 @@ fn declared(header: &str) -> Vec<Declared> {
 
 /// The entry of each function, as a text of `Every` names it.
 fn named(every: &str) -> BTreeMap<String, String> {
-    let fields = every.lines().filter_map(|line| line.trim().strip_prefix("pub «"));
-    let pairs = fields.filter_map(|field| field.split_once("» : Demand1 "));
+    let fields = every.lines().filter_map(|line| line.trim().strip_prefix("pub "));
+    let pairs = fields.filter_map(|field| field.split_once(" : Demand1 "));
     pairs.map(|(name, entry)| (name.to_string(), entry.trim().to_string())).collect()
 }
 
@@ -107,25 +107,25 @@ fn faults(header: &str, every: &str, definitions: &str) -> Vec<String> {
 const SAMPLES: [(&str, &str, &str, usize); 4] = [
     (
         "/* a: b. 1, 2 (c. 7). */\nuint8_t forkhemit_a(int n);",
-        "  pub «forkhemit_a» : Demand1 a\n",
+        "  pub forkhemit_a : Demand1 a\n",
         "abbrev pub a : Entry ℕ\n  numbers = 1 ∷ 2 ∷ 2 ∷ [];\n",
         0,
     ),
     (
         "/* a. 1, 2. */\nuint8_t forkhemit_a(int n);",
-        "  pub «forkhemit_b» : Demand1 a\n",
+        "  pub forkhemit_b : Demand1 a\n",
         "abbrev pub a : Entry ℕ\n  numbers = 1 ∷ 2 ∷ [];\n",
         1,
     ),
     (
         "/* a. 1, 2. */\nuint8_t forkhemit_a(int n);",
-        "  pub «forkhemit_a» : Demand1 a\n",
+        "  pub forkhemit_a : Demand1 a\n",
         "abbrev pub a : Entry ℕ\n  numbers = 2 ∷ 1 ∷ [];\n",
         1,
     ),
     (
         "/* a. 1, 2. */\nuint8_t forkhemit_a(int n);",
-        "  pub «forkhemit_a» : Demand1 a\n",
+        "  pub forkhemit_a : Demand1 a\n",
         "abbrev pub a : Entry ℕ\n  numbers = 1 ∷ [];\n",
         1,
     ),

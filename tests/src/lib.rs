@@ -17,6 +17,7 @@ pub mod counts;
 pub mod damage;
 pub mod demand1;
 pub mod edits;
+pub mod exports;
 pub mod game;
 pub mod hosts;
 pub mod layout;

@@ -31,7 +31,9 @@ fn groups(text: &str) -> Vec<Group> {
         if let Some((name, holds)) = line.strip_prefix("## ").and_then(|line| line.split_once(": ")) {
             groups.push(Group { name: name.into(), holds: holds.into(), crates: vec![] });
         } else if let Some((name, _)) = line.split_once(':').filter(|_| !line.starts_with('#')) {
-            groups.last_mut().expect("a group begins before its crates").crates.push(name.trim().into());
+            // `staticlib` may follow the name
+            let name = name.split_whitespace().next().unwrap_or("");
+            groups.last_mut().expect("a group begins before its crates").crates.push(name.into());
         }
     }
     groups

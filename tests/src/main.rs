@@ -4,14 +4,14 @@
 //! `pair`, `circuit`, `whole`, `host-c` or `host-rust`. `whole` and the hosts are held to the pair program, which must be given too. A
 //! program in a folder `static` is linked statically: nothing can be loaded before it that cuts what it reads into parts, and those
 //! tests are left out.
-//! `edits` reads what each must-fail edit was refused for, after `rt ci`; `statements` prints tests/statements.txt as the crates have it.
+//! `edits` reads what each must-fail edit was refused for, in what `rt ci` said (target/log/ci); `statements` prints tests/statements.txt as the crates have it.
 //! The last line is `N passed, M failed`, and the status 0 where M is 0.
 
 use forkhemit_tests::process::{self, Source};
 use forkhemit_tests::report::{self, Tally};
 use forkhemit_tests::{
-    assumed, cases, ceilings, circuits, citations, claims, contracts, damage, demand1, edits, hosts, links, made,
-    pictures, published, statements, steps, symbols, tables, ties, whole,
+    assumed, cases, ceilings, circuits, citations, claims, contracts, damage, demand1, edits, exports, hosts, links,
+    made, pictures, published, statements, steps, symbols, tables, ties, whole,
 };
 use std::path::Path;
 use std::process::ExitCode;
@@ -68,6 +68,7 @@ fn all(arguments: &[String]) -> std::io::Result<Tally> {
     total.add(statements::run(Path::new(crates))?);
     total.add(citations::run(Path::new(crates))?);
     total.add(demand1::run(Path::new(crates))?);
+    total.add(exports::run(Path::new(crates))?);
     total.add(ceilings::run(Path::new(crates))?);
     let own = Path::new(env!("CARGO_MANIFEST_DIR"));
     total.add(pictures::run(&own.join(".."))?);

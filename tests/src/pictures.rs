@@ -325,8 +325,10 @@ const KIT: &str = "#eeeeee";
 /// Every crate, and the kit's libraries that they use.
 fn crates(text: &str, folder: &Path) -> Vec<Node> {
     let lines = text.lines().filter(|line| !line.starts_with('#')).filter_map(|line| line.split_once(':'));
+    // `staticlib` may follow the name
+    let name = |head: &str| head.split_whitespace().next().unwrap_or("").to_string();
     let own: Vec<(String, Vec<String>)> =
-        lines.map(|(name, uses)| (name.trim().into(), uses.split_whitespace().map(String::from).collect())).collect();
+        lines.map(|(head, uses)| (name(head), uses.split_whitespace().map(String::from).collect())).collect();
     let kit: BTreeSet<&String> =
         own.iter().flat_map(|(_, uses)| uses).filter(|name| !own.iter().any(|(own, _)| own == *name)).collect();
     let node = |(name, uses): &(String, Vec<String>)| {

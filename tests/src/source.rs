@@ -122,6 +122,15 @@ impl Reader {
     }
 }
 
+/// The kit's libraries, whose modules' paths begin as those of the project's crates do.
+const KIT: [&str; 9] = ["std", "core", "io", "os", "libc", "std_alloc", "std_collections", "std_heap", "std_io"];
+
+/// The project's crate that a module is in, and its path there; nothing for a module of the kit.
+pub fn own_module(module: &str) -> Option<(&str, &str)> {
+    let (crate_name, rest) = module.strip_prefix("Rattle.")?.split_once('.')?;
+    (!KIT.contains(&crate_name)).then_some((crate_name, rest))
+}
+
 /// A sign of a word of Rattle.
 fn is_word(sign: char) -> bool {
     sign.is_alphanumeric() || sign == '_'
@@ -137,15 +146,18 @@ pub struct Function {
     pub result: bool,
     /// The word that begins each clause, and what is in its brackets.
     pub clauses: Vec<(String, String)>,
+    /// What is in the brackets of its body, token by token.
+    pub body: Vec<String>,
 }
 
 /// The parameters up to the bracket that closes the one that was read.
 fn parameters(reader: &mut Reader) -> Vec<(String, bool)> {
-    let (mut depth, mut parameters, mut tokens) = (1, vec![], vec![]);
+    let (mut depth, mut parameters, mut tokens) = (1, vec![], Vec::<String>::new());
     while let Some(token) = reader.token() {
+        let arrow = token == ">" && tokens.last().map_or(false, |last| last == "-");
         match token.as_str() {
             "(" | "[" | "<" => depth += 1,
-            ")" | "]" | ">" => depth -= 1,
+            ")" | "]" | ">" if !arrow => depth -= 1,
             _ => (),
         }
         if depth == 0 || depth == 1 && token == "," {
@@ -192,7 +204,18 @@ fn function(reader: &mut Reader, lead: &[String]) -> Function {
     let public = lead.iter().position(|token| token == "pub");
     let exported = public.map_or(false, |at| lead.get(at + 1).map_or(true, |next| next != "("));
     let mut function = Function { name: reader.token().unwrap_or_default(), exported, ..Function::default() };
-    while reader.token().map_or(false, |token| token != "(") {}
+    // parameters of types come first, in brackets that may have others within
+    let (mut last, mut depth) = (String::new(), 0);
+    while let Some(token) = reader.token() {
+        match token.as_str() {
+            "(" if depth == 0 => break,
+            "<" | "(" => depth += 1,
+            ")" => depth -= 1,
+            ">" if last != "-" => depth -= 1,
+            _ => (),
+        }
+        last = token;
+    }
     function.parameters = parameters(reader);
     // an array type has a `;` of its own
     let (mut last, mut arrays) = (String::new(), 0);
@@ -200,22 +223,44 @@ fn function(reader: &mut Reader, lead: &[String]) -> Function {
         match token.as_str() {
             "[" => arrays += 1,
             "]" => arrays -= 1,
-            "{" => break,
+            "{" => {
+                function.body = body(reader);
+                break;
+            }
             ";" if arrays == 0 => break,
             ">" if last == "-" => function.result = true,
             "requires" | "ensures" | "ghost" => {
                 reader.pass();
+                let star = if reader.sees("*") { "*" } else { "" };
                 // a clause may have a name
                 while !reader.sees("{") && reader.token().is_some() {
                     reader.pass();
                 }
-                function.clauses.push((token.clone(), reader.braces()));
+                function.clauses.push((format!("{token}{star}"), reader.braces()));
             }
             _ => (),
         }
         last = token;
     }
     function
+}
+
+/// The tokens up to the bracket that closes the one that was read. The reader stays where it is: a body may have functions in it.
+fn body(reader: &mut Reader) -> Vec<String> {
+    let (start, mut depth, mut tokens) = (reader.at, 1, vec![]);
+    while let Some(token) = reader.token() {
+        match token.as_str() {
+            "{" => depth += 1,
+            "}" => depth -= 1,
+            _ => (),
+        }
+        if depth == 0 {
+            break;
+        }
+        tokens.push(token);
+    }
+    reader.at = start;
+    tokens
 }
 
 /// The `ghost use` items of Rattle, as text.
@@ -271,8 +316,8 @@ fn is_name(sign: char) -> bool {
     !sign.is_whitespace() && !"(){}.;,@\"«»".contains(sign)
 }
 
-/// The tokens of antt: names, with a module in front where they have one, fields with their dot, signs. An escaped name without `_` is the
-/// name.
+/// The tokens of antt: names, with a module in front where they have one and their fields behind, fields of what is in brackets with their
+/// dot, signs. An escaped name is the name.
 pub fn tokens(text: &str) -> Vec<String> {
     let signs: Vec<char> = text.chars().collect();
     let mut tokens: Vec<String> = vec![];
@@ -282,8 +327,7 @@ pub fn tokens(text: &str) -> Vec<String> {
         let (tight, next) = (at > 0 && is_name(signs[at - 1]), signs.get(at + 1).map_or(false, |&sign| is_name(sign)));
         if signs[at] == '«' {
             at += signs[at..].iter().position(|&sign| sign == '»').unwrap_or(signs.len() - at - 1) + 1;
-            let inner: String = signs[start + 1..at - 1].iter().collect();
-            tokens.push(if inner.contains('_') { format!("«{inner}»") } else { inner });
+            tokens.push(signs[start + 1..at - 1].iter().collect());
         } else if signs[at].is_whitespace() {
             at += 1;
         } else if is_name(signs[at]) || signs[at] == '.' && next {

@@ -91,7 +91,43 @@ impl Tree {
     /// The names that a text of a file mentions, by their own names where it brings them under others.
     pub fn cites(&self, path: &str, text: &str) -> BTreeSet<String> {
         let own = |name: String| self.origin(path, &name).map_or(name.clone(), |(_, there)| there.into());
-        mentioned(text).into_iter().map(own).collect()
+        self.mentioned(path, text).into_iter().map(own).collect()
+    }
+
+    /// Whether a file brings a module under this name.
+    fn is_module(&self, path: &str, name: &str) -> bool {
+        let brings = |file: &File| file.imports.iter().any(|import| import.name.is_empty() && import.local == name);
+        self.files.get(path).map_or(false, brings)
+    }
+
+    /// What a token of a file names, the module before it left out and the fields behind it too.
+    fn name<'a>(&self, path: &str, token: &'a str) -> &'a str {
+        let first = token.split('.').next().unwrap_or(token);
+        if self.is_module(path, first) || first.starts_with(char::is_uppercase) {
+            token.rsplit('.').next().unwrap_or(token)
+        } else {
+            first
+        }
+    }
+
+    /// The names that a text of a file mentions, but for fields and for those that its parameters have.
+    fn mentioned(&self, path: &str, text: &str) -> BTreeSet<String> {
+        let tokens = source::tokens(text);
+        let (mut names, mut bound) = (BTreeSet::new(), BTreeSet::new());
+        for (at, token) in tokens.iter().enumerate() {
+            if token == "(" || token == "{" {
+                let inner =
+                    tokens[at + 1..].iter().take_while(|token| !["(", ")", "{", "}", ":"].contains(&token.as_str()));
+                let binders: Vec<&String> = inner.collect();
+                let colon = tokens.get(at + 1 + binders.len()).map_or(false, |token| token == ":");
+                bound.extend(binders.into_iter().filter(|_| colon).cloned());
+            }
+            if !token.starts_with('.') {
+                names.insert(self.name(path, token).to_string());
+            }
+        }
+        names.retain(|name| !bound.contains(name));
+        names
     }
 
     /// The file and the name there that a name in a file means, which may follow a module's; files that only hand it on are passed by.
@@ -99,11 +135,13 @@ impl Tree {
         if !self.named_in(path, token).is_empty() {
             return Some((path.into(), token.into()));
         }
-        let (file, name) = match token.rsplit_once('.') {
-            Some((module, name)) => {
+        let (file, name) = match token.split_once('.') {
+            Some((module, rest)) if self.is_module(path, module) => {
                 let import = self.files.get(path)?.imports.iter().find(|import| import.local == module)?;
-                (module_path(&import.module)?, name)
+                (module_path(&import.module)?, rest.split('.').next()?)
             }
+            // what is behind the name of a value is a field of it
+            Some((name, _)) => return self.place(path, name),
             None => self.origin(path, token)?,
         };
         self.place(&file, name).or_else(|| Some((file, name.into())))
@@ -178,7 +216,7 @@ impl Tree {
             if !lines.insert(format!("crates/{path}: {said}")) {
                 continue;
             }
-            for name in mentioned(&said) {
+            for name in self.mentioned(path, &said) {
                 let value = |path: &str, item: &Item| path.contains("/proofs/") && self.is_value(path, item);
                 let about =
                     self.meant(path, &name).into_iter().filter(|(path, item)| item.gives_type() || value(path, item));
@@ -238,30 +276,10 @@ impl Tree {
     }
 }
 
-/// The names that a text mentions, but for fields and for those that its parameters have.
-fn mentioned(text: &str) -> BTreeSet<String> {
-    let tokens = source::tokens(text);
-    let (mut names, mut bound) = (BTreeSet::new(), BTreeSet::new());
-    for (at, token) in tokens.iter().enumerate() {
-        if token == "(" || token == "{" {
-            let inner =
-                tokens[at + 1..].iter().take_while(|token| !["(", ")", "{", "}", ":"].contains(&token.as_str()));
-            let binders: Vec<&String> = inner.collect();
-            let colon = tokens.get(at + 1 + binders.len()).map_or(false, |token| token == ":");
-            bound.extend(binders.into_iter().filter(|_| colon).cloned());
-        }
-        if !token.starts_with('.') {
-            names.insert(token.rsplit('.').next().unwrap_or(token).to_string());
-        }
-    }
-    names.retain(|name| !bound.contains(name));
-    names
-}
-
 /// The path of the file that a module of the project's is.
 fn module_path(module: &str) -> Option<String> {
-    let (crate_name, rest) = module.strip_prefix("Rattle·")?.split_once('.')?;
-    Some(format!("{}/{}", crate_name.split('·').next()?, rest.replace('.', "/")))
+    let (crate_name, rest) = source::own_module(module)?;
+    Some(format!("{crate_name}/{}", rest.replace('.', "/")))
 }
 
 /// Whether a name is this one; `*` at its end means any end.
@@ -306,10 +324,10 @@ pub fn text(crates: &Path) -> std::io::Result<String> {
 const PAGE: &str = "`law`\n\n| file | computes |\n|---|---|\n| `a/proofs/Pins` | a case |\n";
 #[rustfmt::skip]
 const FILES: &[(&str, &str, &str)] = &[
-    ("a/proofs/Laws", "antt", "use Rattle·a·specs.specs.Said.{Holds, sum}\nmodule _ (n : ℕ) where\n  abbrev total : ℕ\n  total = sum n n\n\n  module _ (few : n ≤ 9) where\n    -- why\n    pub law : (m : ℕ)\n        → Holds n m → total ≡ m\n    law m h = h .even\n"),
+    ("a/proofs/Laws", "antt", "use Rattle.a.specs.Said.{Holds, sum}\nmodule _ (n : ℕ) where\n  abbrev total : ℕ\n  total = sum n n\n\n  module _ (few : n ≤ 9) where\n    -- why\n    pub law : (m : ℕ)\n        → Holds n m → total ≡ m\n    law m h = h.even\n"),
     ("a/proofs/Pins", "antt", "two : ℕ\ntwo = 2\nfirst-case : two + two ≡ 4\nfirst-case = refl\n"),
     ("a/specs/Said", "antt", "pub sum : ℕ → ℕ → ℕ\nsum a b = a + b\npub record Holds (n m : ℕ) : Type 0 where\n  -- both\n  pub even : sum n n ≡ m\n  pub low : n ≤ m\n"),
-    ("a/src/lib", "rt", "pub fn f(x: u8) -> u8\n    ensures { λ r. ⌜ r ≡ x ⌝ }\n    ensures { λ r.\n        ⌜ r ≤ 9 ⌝ }\n{ x }\nfn g() { }"),
+    ("a/src/lib", "rt", "pub fn f(x: u8) -> u8\n    ensures value { result ≡ x }\n    ensures low { result\n        ≤ 9 }\n{ x }\nfn g() { }"),
 ];
 #[rustfmt::skip]
 const LINES: &[&str] = &[
@@ -319,7 +337,7 @@ const LINES: &[&str] = &[
     "crates/a/proofs/Pins: two : ℕ; two = 2",
     "crates/a/specs/Said: Holds : record Holds (n m : ℕ) : Type 0 where pub even : sum n n ≡ m pub low : n ≤ m",
     "crates/a/specs/Said: words brought : Holds, sum",
-    "crates/a/src/lib: f(x) : ensures { λ r. ⌜ r ≡ x ⌝ } ensures { λ r. ⌜ r ≤ 9 ⌝ }",
+    "crates/a/src/lib: f(x) : ensures { result ≡ x } ensures { result ≤ 9 }",
 ];
 /// A text of the samples' files, what takes its place, and what then differs: nothing where it says the same.
 #[rustfmt::skip]
@@ -334,12 +352,12 @@ const SAMPLES: &[(&str, &str, &[&str])] = &[
     ("  pub low : n ≤ m\n", "", &["crates/a/specs/Said: Holds"]),
     ("two = 2", "two = 1 + 1", &["crates/a/proofs/Pins: two"]),
     ("first-case : two + two ≡ 4\nfirst-case = refl\n", "", &["crates/a/proofs/Pins: first-case"]),
-    ("    ensures { λ r. ⌜ r ≡ x ⌝ }\n", "", &["crates/a/src/lib: f"]),
+    ("    ensures value { result ≡ x }\n", "", &["crates/a/src/lib: f"]),
     ("f(x: u8)", "f(y: u8, x: u8)", &["crates/a/src/lib: f"]),
     ("pub fn f", "fn f", &["crates/a/src/lib: f"]),
     ("(m : ℕ)\n        → Holds", "(m : ℕ) → Holds", &[]),
     ("    -- why\n", "", &[]),
-    ("law m h = h .even", "law m h = sym (sym (h .even))", &[]),
+    ("law m h = h.even", "law m h = sym (sym h.even)", &[]),
     ("sum a b = a + b", "sum a b = b + a", &[]),
     ("{ x }", "{ x + 0 }", &[]),
 ];

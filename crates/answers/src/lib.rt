@@ -1,4 +1,6 @@
 // What the pair program prints, composed whole.
+#![tactic(auto)]
+
 ghost use Rattle.std.specs.Prelude.{◌≡◌, ◌+◌, ◌≤◌, min};
 ghost use Rattle.text.specs.Texts.{text_of, appended};
 ghost use Rattle.answers.specs.Printed as Printed;

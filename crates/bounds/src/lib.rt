@@ -1,1 +1,2 @@
 // The bound on the steps of every run (document 02, "Fewer variables, fewer steps"): no code, only laws.
+#![tactic(auto)]

@@ -1,6 +1,6 @@
 -- Lines put one after the other: those that are put, and those that still fit after them, are those that fit from the first on. Each turn unfolds `fitting`
 -- once.
-use mathlib.Core.Path.{◌≡◌, refl, sym, ap, ap₂, ◌∙◌, subst}
+use mathlib.Core.Path.{◌≡◌, refl, sym, ap, ap₂, ◌∙◌}
 use mathlib.Core.Bool.{Bool, true, false}
 use mathlib.Core.List.{List, [], ◌∷◌, ◌++◌, append_assoc, append-nil, flatten}
 use Prim.Native.Nat.{ℕ, suc, ◌+◌, ◌-◌, ◌≤◌, ◌<◌}
@@ -8,8 +8,6 @@ use native.Mathlib.Omega.{arith}
 use native.Mathlib.Nat.{sub-zero}
 use borrow.Author.Tests.{ltb-true, ltb-false}
 use lib.Dec.{ltb}
-use types.Run.{OneOf}
-use denote.Enum.Declared.{tag_of}
 use borrow.Rule.Slice.PartMut.{mid_of, put_mid}
 use lib.ListN.{length, get_or, take, drop, length-append, length-drop, take-append-drop, get_or-eq_default}
 use lib.Seq.{length-take-le, take_at, drop_at, drop-drop}
@@ -23,7 +21,6 @@ use Rattle.bristol.specs.declared.WrittenLine.TheVariants as W
 use Rattle.bristol.specs.declared.WrittenLines.TheVariants as lines
 use Rattle.bristol.specs.Text.{circuit_lines}
 use Rattle.bristol.specs.Writing.{circuit_checks, line_at, written_line, filled_line, fitting, lines_written_from, written_lines, filled_lines}
-use Rattle.bristol.specs.contracts.WrittenLine.{the_type}
 use Rattle.bristol.proofs.Parts.{lent_part, put_back}
 use Rattle.bristol.proofs.Fitting.{fitting-next, fitting-none}
 use Rattle.bristol.proofs.Requests.{was-put, not-put, lines_by-room}
@@ -123,11 +120,11 @@ module _ (d : Dimensions) (ws : List ℕ) (e : outcome (circuit_checks d ws) ≡
       let step : suc next ≡ next + 1 = omega arith in
       rw (step, q.0) at more
 
-  pub line-last : OneOf (1 ∷ (2 ∷ [])) (tag_of the_type r)
+  pub line-last : ((k : ℕ) → r ≡ W.Line k → ⊥)
       → (put_mid at (length bytes - at) bytes out ≡ bytes) × (fitting (length lent - at) (drop next (circuit_lines d (gates_of ws))) ≡ [])
   line-last t =
       let q = not-put d ws next (drop at bytes) e h
-      (subst (λ (x : WrittenLine). OneOf (1 ∷ (2 ∷ [])) (tag_of the_type x)) (hr ∙ ap (written_line d ws next) (lent_part bytes at)) t) in (
+      (λ k w. t k (hr ∙ ap (written_line d ws next) (lent_part bytes at) ∙ w)) in (
         put_back bytes at out ∙ ap (λ (x : List ℕ). take at bytes ++ x) (ho ∙ ap (filled_line d ws next) (lent_part bytes at) ∙ q.1)
             ∙ take-append-drop at bytes,
         fitting-none (circuit_lines d (gates_of ws)) next (length lent - at) h (omega (arith, length-drop at bytes, p.same, q.0)),

@@ -11,7 +11,7 @@ use lib.Dec.{ltb}
 use lib.ListN.{length, take, drop, drop_of_length-le, length-append}
 use lib.Seq.{take-append_seam, drop-cons, drop-drop}
 use Rattle.refusals.specs.declared.Refusal.TheVariants.{LineBuffer}
-use Rattle.refusals.specs.declared.Outcome.TheVariants.{Taken, Refused}
+use Rattle.refusals.specs.declared.Outcome.TheVariants.{Taken}
 use Rattle.refusals.specs.Checks.{outcome}
 use Rattle.dimensions.specs.declared.Dimensions.{Dimensions}
 use Rattle.gates.specs.Memory.{gates_of, over}
@@ -21,7 +21,6 @@ use Rattle.bristol.specs.declared.WrittenLines.{WrittenLines}
 use Rattle.bristol.specs.declared.WrittenLines.TheVariants as lines
 use Rattle.bristol.specs.Text.{circuit_lines, circuit_text}
 use Rattle.bristol.specs.Writing.{circuit_checks, line_at, written_line, filled_line, front_put, requested, lines_written_from, written_lines, filled_lines}
-use Rattle.bristol.proofs.Numbering.{lines_length}
 use Rattle.bristol.proofs.Fitting.{fitting_past, fitting-next, fitting-front, fitting-all}
 use Rattle.bristol.proofs.Requests.{taken_lines, past_last, line-put, lines_by-room}
 

@@ -1,14 +1,11 @@
 -- What asking for a line gives, by what its checks find: each law computes the list of checks.
-use mathlib.Core.Path.{◌≡◌, refl, sym, ap, subst, ◌∙◌}
+use mathlib.Core.Path.{◌≡◌, refl, sym, ap, ◌∙◌}
 use mathlib.Core.Bool.{Bool, true, false, not, cond}
 use mathlib.Core.List.{List, [], ◌∷◌, ◌++◌, flatten}
-use mathlib.Core.Logic.{⊎_elim}
 use Prim.Native.Nat.{ℕ, ◌+◌, ◌/◌, ◌≤◌, ◌<◌}
 use native.Mathlib.Omega.{arith}
 use borrow.Author.Tests.{lt-ltb, le-ltb, ltb-true, ltb-false, not-false}
 use lib.Dec.{ltb}
-use types.Run.{OneOf}
-use denote.Enum.Declared.{tag_of}
 use lib.ListN.{length, take, drop, get_or-eq_default}
 use lib.Seq.{take-length}
 use Rattle.refusals.specs.declared.Refusal.{Refusal}
@@ -30,7 +27,6 @@ use Rattle.bristol.specs.Text.{circuit_lines}
 use Rattle.bristol.specs.Writing.{circuit_checks, line_at, line_checks, written_line, line_code, line_numbers, filled_line, lines_written_from, written_lines, lines_code}
 use Rattle.bristol.specs.Writing.{lines_numbers}
 use Rattle.bristol.specs.Writing.{filled_lines}
-use Rattle.bristol.specs.contracts.WrittenLine.{the_type}
 use Rattle.bristol.proofs.Numbering.{lines_of_words}
 
 module _ (d : Dimensions) (ws : List ℕ) where
@@ -198,7 +194,7 @@ module _ (d : Dimensions) (ws : List ℕ) where
           go false q x y = (cc, ltb-false _ _ q, sym y)
 
       -- a line that there is and that was not put is too long
-      pub not-put : i < length (circuit_lines d (gates_of ws)) → OneOf (1 ∷ (2 ∷ [])) (tag_of the_type (written_line d ws i lent))
+      pub not-put : i < length (circuit_lines d (gates_of ws)) → ((k : ℕ) → written_line d ws i lent ≡ W.Line k → ⊥)
           → (length lent < length (line_at d ws i)) × (filled_line d ws i lent ≡ lent)
       not-put h t = go (ltb (length lent) (length (line_at d ws i))) refl (line-put h).0 (line-put h).1
         where
@@ -207,8 +203,7 @@ module _ (d : Dimensions) (ws : List ℕ) where
               → cond b lent (over (line_at d ws i) lent) ≡ filled_line d ws i lent
               → (length lent < length (line_at d ws i)) × (filled_line d ws i lent ≡ lent)
           go true q x y = (ltb-true _ _ q, sym y)
-          go false q x y =
-              absurd (⊎_elim (λ z. omega arith) (λ z. omega arith) (subst (λ (w : WrittenLine). OneOf (1 ∷ (2 ∷ [])) (tag_of the_type w)) (sym x) t))
+          go false q x y = absurd (t (length (line_at d ws i)) (sym x))
 
       -- several lines: whether the first of them has room decides
       pub lines_by-room : (b : Bool) → ltb (length lent) (length (line_at d ws i)) ≡ b

@@ -1,4 +1,6 @@
 // The circuit text in Bristol Fashion, one line or as many as fit (document 01, "Circuit"). Refusals: 1, 2, 9, then 11.
+#![tactic(auto)]
+
 ghost use Rattle.std.specs.Prelude.{◌≡◌, ◌+◌, ◌/◌, ◌^◌, ◌<◌, length, get_or};
 ghost use mathlib.Core.List.{[], ◌∷◌, flatten};
 ghost use Rattle.refusals.specs.Checks.{outcome};
@@ -16,7 +18,7 @@ use dimensions::Dimensions;
 use refusals::{Outcome, Refusal};
 
 // What became of a line that was asked for: written, with its length; none, the number being past the last line; or why not.
-#[derive(Drop)]
+#[derive(Clone, Copy)]
 pub enum WrittenLine {
     Line(usize),
     Past,
@@ -43,7 +45,7 @@ pub fn write_line(d: Dimensions, gates: &[u32], line: usize, bytes: &mut [u8]) -
 
 // What became of the lines that were asked for: how many were written and how many bytes they take, none where the number is past the last
 // line; or why not.
-#[derive(Drop)]
+#[derive(Clone, Copy)]
 pub enum WrittenLines {
     Lines(usize, usize),
     Refused(Refusal),
@@ -99,7 +101,7 @@ fn put_line(d: Dimensions, gates: &[u32], line: usize, bytes: &mut [u8]) -> Writ
         return WrittenLine::Refused(Refusal::LineBuffer);
     }
     let own = text.bytes;
-    bytes::copy(&own[..length], bytes);
+    bytes[..length].copy_from_slice(&own[..length]);
     WrittenLine::Line(length)
 }
 

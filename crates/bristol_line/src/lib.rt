@@ -1,5 +1,7 @@
 // A line of the circuit text in Bristol Fashion, by value (document 01, "Circuit"). Every number has at most 20 digits, so that 128 bytes
 // take any line.
+#![tactic(auto)]
+
 ghost use Rattle.std.specs.Prelude.{◌≡◌, [], ◌∷◌, ◌++◌, ◌+◌, ◌≤◌, ◌<◌, length};
 ghost use Rattle.std.proofs.lemmas.List.Edits.{sets};
 ghost use Rattle.lexer.specs.Spelling as Spelling;
@@ -12,7 +14,7 @@ ghost use Rattle.bristol_line.specs.ByValue.{circuit_line_of, stations};
 use dimensions::Dimensions;
 
 // The first `length` bytes are the line, its LF with them.
-#[derive(Drop)]
+#[derive(Clone, Copy)]
 pub struct CircuitLine {
     pub bytes: [u8; 128],
     pub length: usize,

@@ -1,4 +1,6 @@
 // Clauses of a text, one at a time. Nothing here is refused: the reader is total, whatever place and n it is handed.
+#![tactic(auto)]
+
 ghost use Rattle.std.specs.Prelude.{◌≡◌, ◌∷◌};
 ghost use Rattle.clauses.specs.First.{clauses_from, row_with, first, clause_code, clause_numbers, first_said};
 
@@ -7,7 +9,7 @@ use numbers::Number;
 use words::Row;
 
 // A clause's row, the place of its first token and the place past its 0.
-#[derive(Drop)]
+#[derive(Clone, Copy)]
 pub enum Clause {
     Read(Row, usize, usize),
     End,

@@ -1,5 +1,7 @@
 // Tables by columns, in squares of 32 rows by 32 variables, and back (document 02, "Columns before rows"). Refusals: 1, 2, 4, and then 3
 // for rows and 24 for planes.
+#![tactic(auto)]
+
 ghost use Rattle.std.specs.Prelude.{◌≡◌, cond, [], ◌∷◌, ltb, ◌+◌, ◌-◌, ◌*◌, ◌/◌, ◌%◌, ◌<◌, ◌≤◌, length, get_or};
 ghost use Rattle.std.proofs.lemmas.List.Edits.{sets};
 ghost use Rattle.refusals.specs.Checks.{outcome};

@@ -3,7 +3,7 @@ use mathlib.Core.Path.{◌≡◌, refl, sym, ap, ap₂, ◌∙◌}
 use mathlib.Core.Bool.{Bool, true, false, not, ◌&&◌, cond}
 use mathlib.Core.List.{List, [], ◌∷◌, ◌++◌, map}
 use mathlib.Core.Option.{Option, none, some}
-use Prim.Native.Nat.{ℕ, zero, suc, ◌+◌, ◌-◌, ◌^◌}
+use Prim.Native.Nat.{ℕ, zero, suc, ◌-◌, ◌^◌}
 use native.Mathlib.Omega.{arith}
 use lib.Dec.{eqb, ltb, leb}
 use lib.ListN.{length, take, drop, length-take, length-drop}
@@ -49,7 +49,7 @@ use Rattle.demand1.specs.Named.{named_tables}
 use Rattle.demand1.specs.Texts.{named_text, header_number, head_of}
 use Rattle.demand1.specs.Checking.{read_budget, lines_judged, proof_judged, check_proof, has_too_many, game_judged, judge_game}
 use Rattle.demand1.proofs.Shapes.{Judged, by-held, demand, whole, as_given, by-sizes}
-use Rattle.demand1.proofs.Fronts.{named-rows, named-short, named-high}
+use Rattle.demand1.proofs.Fronts.{named-rows, named-checks}
 use Rattle.demand1.proofs.OneText.{Fair, sized, of_variables, of_rows, of_text, head_fair, text_named, text_whole, overlong-true}
 
 -- ---- a proof
@@ -75,9 +75,16 @@ proof_named n text =
     (λ e. rw (e, text_named text ∙ e))
     (λ e. ap (proof_of n) (sym (text_whole text e)))
 
+-- a call by its first checks, rows and proof
+abbrev proof_call : List Check → List Row → Option (List ProofLine) → Effect
+proof_call cs rows p = record { returned = code_of (outcome (cs ++ proof_text_checks rows p)); judged = cs ++ lines_judged rows p; lent = []; left = [] }
+
 proof_same : (d : Dimensions) (tables : Tables) (text : List ℕ)
     → check_proof.call (d, tables, text) ≡ check_proof.call (d, named_tables d tables, named_text text)
-proof_same d tables text = rw (← named-short d tables, ← named-high d tables, ← named-rows d tables, ← proof_named d.n text)
+proof_same d tables text =
+    let checks = sym (named-checks d tables) in
+    let rows = sym (named-rows d tables) in
+    let proof = proof_named d.n text in λ i. proof_call (checks i) (rows i) (proof i)
 
 pub of_check_proof : Demand1 check_proof
 unfolding proof_of proof_lines line_said clause_in has_break clauses parts_from cut not_empty run number_read decimal_of digits_after put additions all_follow adds_empty

@@ -8,7 +8,7 @@ use lib.Dec.{ltb, eqb}
 use lib.ListN.{length, take, drop, take-append-drop, length-map}
 use borrow.Author.Tests.{not-false}
 use Rattle.refusals.specs.declared.Outcome.{Outcome}
-use Rattle.refusals.specs.declared.Outcome.TheVariants.{Taken, Refused}
+use Rattle.refusals.specs.declared.Outcome.TheVariants.{Taken}
 use Rattle.refusals.specs.declared.Refusal.TheVariants.{GateBuffer, Gates}
 use Rattle.refusals.specs.Numbers.{code_of}
 use Rattle.refusals.specs.Checks.{check, outcome, given}

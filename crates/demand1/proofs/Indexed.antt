@@ -3,9 +3,8 @@ use mathlib.Core.Path.{◌≡◌, refl, sym, ap₂}
 use mathlib.Core.List.{List, [], ◌∷◌, ◌++◌, map}
 use Prim.Native.Nat.{ℕ}
 use Rattle.refusals.specs.declared.Outcome.{Outcome}
-use Rattle.refusals.specs.declared.Outcome.TheVariants.{Refused}
 use Rattle.refusals.specs.Numbers.{code_of}
-use Rattle.refusals.specs.Checks.{Check, outcome, given}
+use Rattle.refusals.specs.Checks.{Check, given}
 use mathlib.Core.Bool.{false}
 use Rattle.words.specs.Sets.{bit, any, all, word_of}
 use Rattle.words.specs.Sameness.{same}

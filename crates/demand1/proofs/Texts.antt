@@ -1,7 +1,7 @@
 -- Demand 1 for three texts read into tables, and for the places and bytes of clauses: the checks of each text come to what reading it gives (`OneText`).
 use mathlib.Core.Path.{◌≡◌, refl, sym, ap, ap₂, ◌∙◌}
 use mathlib.Core.List.{List, [], ◌∷◌, ◌++◌, map}
-use Prim.Native.Nat.{ℕ, ◌+◌, ◌*◌}
+use Prim.Native.Nat.{ℕ, ◌*◌}
 use native.Mathlib.Omega.{arith}
 use lib.ListN.{length, take, drop, take-append-drop, length-take}
 use Rattle.refusals.specs.declared.Refusal.TheVariants.{RowBuffer, TextsDiffer}

@@ -15,7 +15,6 @@ use Rattle.header.specs.declared.HeaderNumbers.TheVariants as sizes
 use Rattle.header.specs.Header.{header_of}
 use Rattle.dimacs.specs.Text.{table_of}
 use Rattle.excerpts.specs.Excerpts.{overlong, has_clause, placed, placed_code, placed_numbers, clause_bytes}
-use Rattle.refusals.specs.Checks.{outcome}
 use Rattle.lent.specs.Lent.{numbers_or}
 use Rattle.host_texts.specs.Texts.{Texts, texts_of, has_no_room, read_outcome, tables_read, sizes_read}
 use Rattle.host_excerpts.specs.Parts.{part_after, length_after, excerpt_in}

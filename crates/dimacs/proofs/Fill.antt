@@ -2,14 +2,11 @@
 use mathlib.Core.Path.{◌≡◌, refl, sym, ap, ap₂, ◌∙◌, subst}
 use mathlib.Core.Bool.{Bool, true, false, false≢true, ◌&&◌, and-false}
 use mathlib.Core.List.{List, [], ◌∷◌, ◌++◌}
-use mathlib.Core.Logic.{⊎_elim}
 use Prim.Native.Nat.{ℕ, zero, suc, ◌+◌, ◌-◌, ◌*◌, ◌≤◌, ◌<◌}
 use native.Mathlib.Omega.{arith}
 use lib.Dec.{eqb, eqb-zero-suc, eqb-suc-zero, eqb-suc-suc}
 use lib.ListN.{length, drop, set, replicate, length-replicate, length-set}
 use lib.Seq.{sets, sets-eq}
-use types.Run.{OneOf}
-use denote.Enum.Declared.{tag_of}
 use Rattle.refusals.specs.declared.Refusal.TheVariants.{Text}
 use Rattle.refusals.specs.declared.Outcome.TheVariants.{Taken}
 use Rattle.words.specs.declared.Row.{Row}
@@ -20,7 +17,6 @@ use Rattle.clauses.specs.First.{clauses_from, first}
 use Rattle.clauses.specs.declared.Clause.{Clause}
 use Rattle.clauses.specs.declared.Clause.TheVariants.{Read, End}
 use Rattle.dimacs.specs.declared.Table.{Table}
-use Rattle.clauses.specs.contracts.Clause.{the_type}
 use Rattle.clauses.proofs.Reading.{read_is}
 
 -- m clauses, and then the end
@@ -34,18 +30,18 @@ counts (suc m) unreadable = false
 
 -- ---- an answer that a pattern leaves
 
--- an answer whose constructor is one of some, by number
-abbrev pub Tagged : List ℕ → Clause → Type 0
-Tagged ks y = OneOf ks (tag_of the_type y)
+-- an answer that is no clause that was read
+abbrev pub NotRead : Clause → Type 0
+NotRead y = (r : Row) → (s e : ℕ) → y ≡ Read r s e → ⊥
 
-not-read : (x : Reading) (i : ℕ) → Tagged (1 ∷ (2 ∷ [])) (first x) → counts (suc i) x ≡ false
-not-read (clause ls s e rest) i q = absurd (⊎_elim (λ z. omega arith) (λ z. omega arith) q)
+not-read : (x : Reading) (i : ℕ) → NotRead (first x) → counts (suc i) x ≡ false
+not-read (clause ls s e rest) i q = absurd (q _ _ _ refl)
 not-read ended i q = refl
 not-read unreadable i q = refl
 
-not-ended : (x : Reading) → Tagged (0 ∷ (2 ∷ [])) (first x) → counts 0 x ≡ false
+not-ended : (x : Reading) → (first x ≡ End → ⊥) → counts 0 x ≡ false
 not-ended (clause ls s e rest) q = refl
-not-ended ended q = absurd (⊎_elim (λ z. omega arith) (λ z. omega arith) q)
+not-ended ended q = absurd (q refl)
 not-ended unreadable q = refl
 
 is-ended : (x : Reading) → first x ≡ End → x ≡ ended
@@ -129,19 +125,19 @@ module _ {n m : ℕ} {text : List ℕ} {start : ℕ} {words : List ℕ} {at k : 
       }
 
   -- a clause that is missing or cannot be read
-  pub unread : (y : Clause) → k < m → y ≡ first (clauses_from n text at) → Tagged (1 ∷ (2 ∷ [])) y → body_of n m (clauses_from n text start) ≡ refused Text
+  pub unread : (y : Clause) → k < m → y ≡ first (clauses_from n text at) → NotRead y → body_of n m (clauses_from n text start) ≡ refused Text
   unread y h e q =
       let left : m - k ≡ suc (m - (k + 1)) = omega arith in
       rw (counts-is m (clauses_from n text start) ∙ sym F.counted ∙ ap (λ (i : ℕ). counts i (clauses_from n text at)) left ∙ not-read (clauses_from n text at)
-      (m - (k + 1)) (subst (Tagged (1 ∷ (2 ∷ []))) e q))
+      (m - (k + 1)) (subst NotRead e q))
 
   module _ (h : m ≤ k) where
     none_left : counts 0 (clauses_from n text at) ≡ counts m (clauses_from n text start)
     none_left = let z : 0 ≡ m - k = omega arith in ap (λ (i : ℕ). counts i (clauses_from n text at)) z ∙ F.counted
 
     -- a clause too many
-    pub overfull : (y : Clause) → y ≡ first (clauses_from n text at) → Tagged (0 ∷ (2 ∷ [])) y → body_of n m (clauses_from n text start) ≡ refused Text
-    overfull y e q = rw (counts-is m (clauses_from n text start) ∙ sym none_left ∙ not-ended (clauses_from n text at) (subst (Tagged (0 ∷ (2 ∷ []))) e q))
+    pub overfull : (y : Clause) → y ≡ first (clauses_from n text at) → (y ≡ End → ⊥) → body_of n m (clauses_from n text start) ≡ refused Text
+    overfull y e q = rw (counts-is m (clauses_from n text start) ∙ sym none_left ∙ not-ended (clauses_from n text at) (subst (λ (z : Clause). z ≡ End → ⊥) e q))
 
     pub full : m ≤ 128 → first (clauses_from n text at) ≡ End
         → ◌≡◌ {A = Table} (record { outcome = Taken; n = n; rows = m; words = words }) (body_of n m (clauses_from n text start))

@@ -1,4 +1,6 @@
 // Reads DIMACS texts, those of the two stations and that of the public rest rules, into tables of row words.
+#![tactic(auto)]
+
 ghost use Rattle.std.specs.Prelude.{◌≡◌, [], ◌∷◌, ◌≤◌};
 ghost use Rattle.refusals.specs.Numbers.{code_of, said};
 ghost use Rattle.dimensions.specs.Sizes.{most_variables, most_rows};
@@ -13,7 +15,7 @@ use header::HeaderNumbers;
 use refusals::{Outcome, Refusal};
 
 // A text's table: n, its row count and its row words, positive before negative; the words past the rows are zero. A refused text has none.
-#[derive(Drop)]
+#[derive(Clone, Copy)]
 pub struct Table {
     pub outcome: Outcome,
     pub n: u8,
@@ -22,7 +24,7 @@ pub struct Table {
 }
 
 // The tables of three texts, left, right and public. Refused texts have none.
-#[derive(Drop)]
+#[derive(Clone, Copy)]
 pub struct TextTables {
     pub outcome: Outcome,
     pub n: u8,

@@ -1,4 +1,6 @@
 // Proofs from other solvers: a DRAT text checked against the tables by reverse unit propagation (document 02, "Proofs from other solvers").
+#![tactic(auto)]
+
 mod rup;
 
 ghost use Rattle.std.specs.Prelude.{◌≡◌, [], ◌∷◌, ◌≤◌, length};
@@ -22,7 +24,7 @@ use refusals::{Outcome, Refusal};
 use words::Row;
 
 // A text under way: how far the proof has come, how many additions were read, and whether a line was malformed or an addition too many.
-#[derive(Drop)]
+#[derive(Clone, Copy)]
 struct Checker {
     progress: Progress,
     additions: usize,

@@ -10,7 +10,7 @@ ghost use Rattle.drat.specs.declared.rup.Stage.TheVariants.{Checking};
 use words::Row;
 
 // How far a proof has come: no empty clause yet, the empty clause added, or an addition that does not follow.
-#[derive(Drop)]
+#[derive(Clone, Copy)]
 pub enum Stage {
     Checking,
     Accepted,
@@ -18,7 +18,7 @@ pub enum Stage {
 }
 
 // How many rows are present, in front of the words, and how far the proof has come.
-#[derive(Drop)]
+#[derive(Clone, Copy)]
 pub struct Progress {
     pub count: usize,
     pub stage: Stage,

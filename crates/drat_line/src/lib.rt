@@ -1,5 +1,7 @@
 // One line of a proof's text, DRAT: literals closed by 0, with `d` and a space in front for a deletion (document 02, "Proofs from other
 // solvers"). Nothing here is refused: the reader is total, whatever n it is handed.
+#![tactic(auto)]
+
 ghost use Rattle.std.specs.Prelude.{◌≡◌, ◌≤◌};
 ghost use Rattle.clauses.specs.First.{clauses_from};
 ghost use Rattle.drat_line.specs.Lines.{closed_at, is_deletion, has_break, clause_in, added_by, deleted_by, said_of};
@@ -10,7 +12,7 @@ use lexer::kinds::Kind;
 use words::Row;
 
 // What a line says: nothing, a clause added or deleted; or it is malformed.
-#[derive(Drop)]
+#[derive(Clone, Copy)]
 pub enum Said {
     Nothing,
     Added(Row),
@@ -19,7 +21,7 @@ pub enum Said {
 }
 
 // The one clause that bytes hold, or malformed.
-#[derive(Drop)]
+#[derive(Clone, Copy)]
 enum One {
     Of(Row),
     Malformed,

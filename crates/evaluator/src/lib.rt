@@ -1,4 +1,6 @@
 // The evaluator of circuits, large ones in one pass (document 01, "Circuit"). Refusals: 9, then 10.
+#![tactic(auto)]
+
 mod values;
 
 ghost use Rattle.std.specs.Prelude.{◌≡◌, true, cond, [], ◌∷◌, ◌+◌, ◌/◌, ◌≤◌, length, take};

@@ -3,13 +3,10 @@
 use mathlib.Core.Path.{◌≡◌, refl, sym, ap, ◌∙◌, subst}
 use mathlib.Core.Bool.{true}
 use mathlib.Core.List.{List, [], ◌∷◌}
-use mathlib.Core.Logic.{⊎_elim}
 use Prim.Native.Nat.{ℕ, zero, suc, ◌+◌, ◌-◌, ◌≤◌, ◌<◌}
 use native.Mathlib.Omega.{arith}
 use lib.Dec.{ltb}
 use lib.ListN.{length}
-use types.Run.{OneOf}
-use denote.Enum.Declared.{tag_of}
 use Rattle.refusals.specs.declared.Refusal.{Refusal}
 use Rattle.words.specs.declared.Row.{Row}
 use Rattle.words.proofs.Truth.{on, and_l, and_r}
@@ -27,7 +24,6 @@ use Rattle.clauses.specs.Clauses.{Reading, clause, ended, unreadable, joined_lit
 use Rattle.clauses.specs.First.{clauses_from, empty_row, with_literals, first}
 use Rattle.clauses.specs.declared.Clause.{Clause}
 use Rattle.clauses.specs.declared.Clause.TheVariants.{Read, Unreadable}
-use Rattle.clauses.specs.contracts.Clause.{the_type}
 use Rattle.clauses.proofs.Literals.{below, below_more, row-filled}
 use Rattle.clauses.proofs.Reading.{is_below_all, clauses-below, read_is}
 use Rattle.dimacs.proofs.Texts.{limits}
@@ -107,7 +103,7 @@ clause_lies text k = go (header_of 1 text).sizes refl
 
 -- an answer that is no clause
 abbrev pub NoneRead : Clause → Type 0
-NoneRead y = OneOf (1 ∷ (2 ∷ [])) (tag_of the_type y)
+NoneRead y = (row : Row) → (from to : ℕ) → y ≡ Read row from to → ⊥
 
 module _ (n : ℕ) (text : List ℕ) (start k : ℕ) where
   -- i clauses are passed, and those from `at` on give what those from `start` on give
@@ -138,7 +134,7 @@ module _ (n : ℕ) (text : List ℕ) (start k : ℕ) where
           sym (ap first (sym w.left ∙ ap (λ (j : ℕ). skip j (clauses_from n text at)) down) ∙ go (clauses_from n text at) (subst NoneRead e q))
         where
           go : (x : Reading) → NoneRead (first x) → first (skip (suc (k - (i + 1))) x) ≡ Unreadable
-          go (clause ls from to rest) z = absurd (⊎_elim (λ y. omega arith) (λ y. omega arith) z)
+          go (clause ls from to rest) z = absurd (z _ _ _ refl)
           go ended z = refl
           go unreadable z = refl
 

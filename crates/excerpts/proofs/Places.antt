@@ -2,8 +2,7 @@
 use mathlib.Core.Path.{◌≡◌, refl, sym, ap, ◌∙◌, subst}
 use mathlib.Core.Bool.{Bool, ◌&&◌, cond}
 use mathlib.Core.List.{List, [], ◌∷◌}
-use mathlib.Core.Logic.{⊎_elim}
-use Prim.Native.Nat.{ℕ, ◌+◌, ◌-◌, ◌*◌, ◌≤◌, ◌<◌}
+use Prim.Native.Nat.{ℕ, ◌+◌, ◌-◌, ◌≤◌, ◌<◌}
 use native.Mathlib.Omega.{arith}
 use lib.Dec.{eqb, leb}
 use lib.ListN.{length, take, drop}
@@ -41,7 +40,7 @@ module _ (station : ℕ) (positive negative : ℕ) (y : Clause) where
   no_place q = go y q
     where
       go : (z : Clause) → NoneRead z → between station 0 0 ≡ place_held station z positive negative
-      go (Read row from to) q = absurd (⊎_elim (λ z. omega arith) (λ z. omega arith) q)
+      go (Read row from to) q = absurd (q _ _ _ refl)
       go End q = refl
       go Unreadable q = refl
 

@@ -1,4 +1,6 @@
 // A clause's own bytes in the texts of the two stations, by the number of its row (document 02, "The rule behind each step").
+#![tactic(auto)]
+
 ghost use Rattle.std.specs.Prelude.{◌≡◌, ◌∷◌, [], ◌+◌, ◌*◌, ◌≤◌, ◌<◌, length};
 ghost use Rattle.refusals.specs.Numbers.{said, code_of};
 ghost use Rattle.refusals.specs.Checks.{outcome};
@@ -16,7 +18,7 @@ use refusals::{Outcome, Refusal};
 use words::Row;
 
 // Where a clause is: the text of station 0, the left one, or 1, the right one, its first byte and how many they are.
-#[derive(Drop)]
+#[derive(Clone, Copy)]
 pub struct Place {
     pub station: u8,
     pub start: usize,
@@ -24,7 +26,7 @@ pub struct Place {
 }
 
 // The place of a row's clause, or why there is none.
-#[derive(Drop)]
+#[derive(Clone, Copy)]
 pub enum Placed {
     Of(Place),
     Refused(Refusal),

@@ -1,4 +1,6 @@
 // The giant step that tells its rule (document 02, Req 07): which rule applied, the row that shows it and the literal taken.
+#![tactic(auto)]
+
 mod lowest;
 
 ghost use Rattle.std.specs.Prelude.{◌≡◌, true, ◌++◌, ◌≤◌, length};
@@ -20,7 +22,7 @@ use state::{Run, Standing};
 
 // What a step tells: its rule; the number from 1, over all tables, of the lowest row in conflict, or of the lowest that forces the literal
 // taken; and the variable that it sets, from 0 as bits are. A conflict with a level sets the level's variable false, a choice its own true.
-#[derive(Drop)]
+#[derive(Clone, Copy)]
 pub enum Told {
     Nothing,
     AllSatisfied,
@@ -31,7 +33,7 @@ pub enum Told {
 }
 
 // A run after one step and what the step tells, or the run as it was with the refusal, and nothing told.
-#[derive(Drop)]
+#[derive(Clone, Copy)]
 pub struct Explained {
     pub outcome: Outcome,
     pub run: Run,

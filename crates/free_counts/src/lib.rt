@@ -1,4 +1,6 @@
 // The free literals of each row, a byte a row (document 02, "Literals counted in a byte"). Refusals: 1, 2, 4, 3, 10, 12 and 13.
+#![tactic(auto)]
+
 ghost use Rattle.std.specs.Prelude.{◌≡◌, [], ◌∷◌, ◌+◌, ◌≤◌, length};
 ghost use Rattle.std.proofs.lemmas.List.Edits.{sets};
 ghost use Rattle.refusals.specs.Checks.{outcome};

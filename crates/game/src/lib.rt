@@ -1,4 +1,6 @@
 // Who can force the roster: two sides fix variables in turn, the existential side for all rows true, the universal side against it.
+#![tactic(auto)]
+
 ghost use Rattle.std.specs.Prelude.{◌≡◌, true, not, ◌∷◌, ◌≤◌};
 ghost use Rattle.words.specs.Sets.{bit};
 ghost use Rattle.scan.specs.Rules.{rows_of_words, rule};
@@ -12,28 +14,28 @@ use refusals::{Outcome, Refusal};
 use scan::Rule;
 
 // The first variable, counted from 0 as bits are, and a value with which the winner still wins; or nothing, where the loser moves first.
-#[derive(Drop)]
+#[derive(Clone, Copy)]
 pub enum Opening {
     Fixes(u8, bool),
     Nothing,
 }
 
 // The side that can force its aim.
-#[derive(Drop)]
+#[derive(Clone, Copy)]
 pub enum Winner {
     Existential(Opening),
     Universal(Opening),
 }
 
 // A text's winner, or 1, 2, 21, 5 or 22.
-#[derive(Drop)]
+#[derive(Clone, Copy)]
 pub enum GameAnswer {
     Won(Winner),
     Refused(Refusal),
 }
 
 // Whether T and F decide the game, whatever turns are to come.
-#[derive(Drop)]
+#[derive(Clone, Copy)]
 enum Decision {
     Decided(bool),
     Undecided,

@@ -1,4 +1,6 @@
 // Gates and wires in memory (document 01, "Circuit"): which words are gates, which bytes are wires' values.
+#![tactic(auto)]
+
 ghost use Rattle.std.specs.Prelude.{◌≡◌, ◌≤◌};
 ghost use Rattle.gates.specs.Memory as Memory;
 

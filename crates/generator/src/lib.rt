@@ -1,4 +1,6 @@
 // The generator of the giant step's circuit, which writes it into lent words (document 01, "Circuit"). Refusals: 1, 2, 7.
+#![tactic(auto)]
+
 mod cells;
 mod templates;
 
@@ -21,7 +23,7 @@ use refusals::{Outcome, Refusal};
 use sections::{Addresses, Section};
 
 // How many gates were written, or why none.
-#[derive(Drop)]
+#[derive(Clone, Copy)]
 pub enum Generated {
     Of(usize),
     Refused(Refusal),

@@ -1,4 +1,6 @@
 // The header of a DIMACS text, after its remarks: n and m within their limits, or the refusal.
+#![tactic(auto)]
+
 ghost use Rattle.std.specs.Prelude.{◌≡◌, ◌≤◌, length};
 ghost use Rattle.lexer.specs.Bytes.{is_blank};
 ghost use Rattle.lexer.specs.Pieces.{parts_from};
@@ -13,14 +15,14 @@ use numbers::Number;
 use refusals::Refusal;
 
 // n and m, or 1, 2 or 5.
-#[derive(Drop)]
+#[derive(Clone, Copy)]
 pub enum HeaderNumbers {
     Of(u8, u8),
     Refused(Refusal),
 }
 
 // What a header says, and the place past its line.
-#[derive(Drop)]
+#[derive(Clone, Copy)]
 pub struct Header {
     pub sizes: HeaderNumbers,
     pub end: usize,

@@ -1,6 +1,8 @@
 // For hosts in C and Rust: the circuit's sizes, the circuit generated, its inputs packed, evaluated, its outputs read back. Each function
 // is a thin call of a proved entry. A slice passes as a pointer and then a length, an array as a pointer. It returns 0 where the call is
 // taken, else the refusal's number, and then it writes nothing.
+#![tactic(auto)]
+
 ghost use Rattle.std.specs.Prelude.{◌≡◌, length};
 ghost use Rattle.refusals.specs.Checks.{outcome};
 ghost use Rattle.dimensions.specs.Sizes.{size_checks};
@@ -20,8 +22,7 @@ use generator::Generated;
 use refusals::Outcome;
 
 // The gate ceiling, the words that the generator needs, input wires and state wires; 1 or 2 where it is refused.
-#[unsafe(no_mangle)]
-pub extern "C" fn forkhemit_sizes(
+pub fn forkhemit_sizes(
     n: u64,
     left_rows: u64,
     right_rows: u64,
@@ -49,8 +50,7 @@ pub extern "C" fn forkhemit_sizes(
 
 // Writes the circuit, which carries out the giant step, over the front of the words, and how many gates it has; 1, 2 or 7 where it is
 // refused, and then nothing is written.
-#[unsafe(no_mangle)]
-pub extern "C" fn forkhemit_generate(
+pub fn forkhemit_generate(
     n: u64,
     left_rows: u64,
     right_rows: u64,
@@ -77,8 +77,7 @@ pub extern "C" fn forkhemit_generate(
 
 // Packs left rows, right rows, public rows and run over the front of the bytes; 1, 2, 4, 3, 10, 12 or 13 where it is refused, and then no
 // byte changes.
-#[unsafe(no_mangle)]
-pub extern "C" fn forkhemit_pack(
+pub fn forkhemit_pack(
     n: u64,
     left_rows: u64,
     right_rows: u64,
@@ -99,8 +98,7 @@ pub extern "C" fn forkhemit_pack(
 }
 
 // Fills the front of the wires with the inputs and then each gate's value; 9 or 10 where it is refused, and then no byte changes.
-#[unsafe(no_mangle)]
-pub extern "C" fn forkhemit_evaluate(gates: &[u32], inputs: &[u8], wires: &mut [u8]) -> u8
+pub fn forkhemit_evaluate(gates: &[u32], inputs: &[u8], wires: &mut [u8]) -> u8
     ensures value { result ≡ code_of (outcome (evaluation_checks gates.now inputs.now wires.old)) }
     ensures wires_after { wires.new ≡ filled_wires gates.now inputs.now wires.old }
 {
@@ -108,8 +106,7 @@ pub extern "C" fn forkhemit_evaluate(gates: &[u32], inputs: &[u8], wires: &mut [
 }
 
 // The run of n variables that the front of the bytes holds; 1, 10 or 12 where it is refused, and then no word changes.
-#[unsafe(no_mangle)]
-pub extern "C" fn forkhemit_read_back(n: u64, bytes: &[u8], run: &mut [u32; 101]) -> u8
+pub fn forkhemit_read_back(n: u64, bytes: &[u8], run: &mut [u32; 101]) -> u8
     ensures value { result ≡ code_of (read_back (as_byte n) bytes.now).outcome }
     ensures run_after { run.new ≡ read_stored (read_back (as_byte n) bytes.now) run.old }
 {

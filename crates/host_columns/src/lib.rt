@@ -1,5 +1,7 @@
 // For hosts in C and Rust: a table by columns and back. Each function is a thin call of a proved entry. A slice passes as a pointer and
 // then a length, an array as a pointer. It returns 0 where the call is taken, else the refusal's number, and then it writes nothing.
+#![tactic(auto)]
+
 ghost use Rattle.std.specs.Prelude.{◌≡◌, length};
 ghost use Rattle.refusals.specs.Checks.{outcome};
 ghost use Rattle.refusals.specs.Numbers.{code_of};

@@ -4,8 +4,8 @@ use mathlib.Core.List.{List, [], ◌∷◌, ◌++◌}
 use Prim.Native.Nat.{ℕ, ◌≤◌, ◌<◌}
 use native.Mathlib.Omega.{arith}
 use native.Mathlib.Nat.{zero-add}
-use lib.ListN.{length, take, drop}
-use lib.Seq.{sets-eq, take-length}
+use lib.ListN.{length, drop}
+use lib.Seq.{sets-eq}
 use borrow.Author.Tests.{lt-ltb, le-ltb}
 use Rattle.refusals.specs.Checks.{Check, outcome}
 use Rattle.refusals.specs.Numbers.{code_of}
@@ -27,13 +27,12 @@ module _ (part bytes number : List ℕ) where
   no_room h code e = rw (lt-ltb (length bytes) (length part) h) (e, (λ i. bytes, λ i. number))
 
   module _ (h : length part ≤ length bytes) where
-    copied : take (length part) part ++ drop (length part) bytes ≡ front part bytes
+    copied : part ++ drop (length part) bytes ≡ front part bytes
     copied =
-        ap (λ (l : List ℕ). l ++ drop (length part) bytes) (take-length part)
-        ∙ ap (λ (k : ℕ). part ++ drop k bytes) (sym (zero-add (length part)))
+        ap (λ (k : ℕ). part ++ drop k bytes) (sym (zero-add (length part)))
         ∙ sym (sets-eq part bytes 0 (omega arith))
 
-    pub with-room : (after : List ℕ) → after ≡ take (length part) part ++ drop (length part) bytes
+    pub with-room : (after : List ℕ) → after ≡ part ++ drop (length part) bytes
         → Given (outcome (room_checks part bytes)) part bytes number 0 after (length part ∷ [])
     with-room after e = rw (le-ltb (length bytes) (length part) h) (λ i. 0, (e ∙ copied, λ i. length part ∷ []))
 

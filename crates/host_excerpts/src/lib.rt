@@ -1,6 +1,8 @@
 // For hosts in C and Rust: where a row's clause is in its station's text, and its bytes. Each function is a thin call of proved entries. A
 // slice passes as a pointer and then a length, an array as a pointer. It returns 0 where the call is taken, else the refusal's number, and
 // then it writes nothing.
+#![tactic(auto)]
+
 ghost use Rattle.std.specs.Prelude.{◌≡◌};
 ghost use Rattle.tables.specs.Tables.{lent_tables};
 ghost use Rattle.refusals.specs.Numbers.{code_of};
@@ -59,7 +61,7 @@ fn give(part: &[u8], bytes: &mut [u8], length: &mut [u64; 1]) -> u8
     if bytes.len() < part.len() {
         return refusals::number(Refusal::LineBuffer);
     }
-    bytes::copy(part, bytes);
+    bytes[..part.len()].copy_from_slice(part);
     *length = [part.len() as u64];
     0
 }

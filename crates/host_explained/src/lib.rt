@@ -1,6 +1,8 @@
 // For hosts in C and Rust: the giant step that tells its rule. The function is a thin call of a proved entry. A slice passes as a pointer
 // and then a length, an array as a pointer. It returns 0 where the call is taken, else the refusal's number, and then all lent memory is as
 // it was.
+#![tactic(auto)]
+
 ghost use Rattle.std.specs.Prelude.{◌≡◌};
 ghost use Rattle.refusals.specs.Numbers.{code_of};
 ghost use Rattle.tables.specs.Tables.{lent_tables};
@@ -22,8 +24,7 @@ fn numbers_if(outcome: Outcome, told: Told, lent: [u64; 4]) -> [u64; 4]
 }
 
 // One giant step of the run in the lent words and what it tells: rule, row, variable, value; 1, 2, 4, 3, 12 or 13 where it is refused.
-#[unsafe(no_mangle)]
-pub extern "C" fn forkhemit_step_explained(
+pub fn forkhemit_step_explained(
     n: u64,
     left_rows: u64,
     right_rows: u64,

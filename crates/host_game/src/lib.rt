@@ -1,6 +1,8 @@
 // For hosts in C and Rust: who can force the roster of a QDIMACS text. The function is a thin call of a proved entry. A slice passes as a
 // pointer and then a length, an array as a pointer. It returns 0 where the call is taken, else the refusal's number, and then it writes
 // nothing.
+#![tactic(auto)]
+
 ghost use Rattle.std.specs.Prelude.{◌≡◌, ◌∷◌};
 ghost use Rattle.lent.specs.Lent.{numbers_or};
 ghost use Rattle.qdimacs.specs.Text.{game_text};
@@ -30,8 +32,7 @@ fn numbers(winner: Winner) -> [u64; 3]
 
 // Who can force the roster of a text: the winner (1 existential, 2 universal), the first variable where the winner moves first, else 0, and
 // its value; 5 (overlong), 1, 2, 21, 5 or 22 where it is refused, and then no number is written.
-#[unsafe(no_mangle)]
-pub extern "C" fn forkhemit_game(text: &[u8], answer: &mut [u64; 3]) -> u8
+pub fn forkhemit_game(text: &[u8], answer: &mut [u64; 3]) -> u8
     ensures value { result ≡ game_code (game_answer (game_text text.now)) }
     ensures answer_after { answer.new ≡ numbers_or (game_numbers (game_answer (game_text text.now))) answer.old }
 {

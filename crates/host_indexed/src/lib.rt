@@ -1,6 +1,8 @@
 // For hosts in C and Rust: the rows of each literal as an index, the number of unsatisfied rows, and the steps that go by them. Each
 // function is a thin call of a proved entry. A slice passes as a pointer and then a length, an array as a pointer. It returns 0 where the
 // call is taken, else the refusal's number, and then all lent memory is as it was.
+#![tactic(auto)]
+
 ghost use Rattle.std.specs.Prelude.{◌≡◌, [], ◌∷◌};
 ghost use Rattle.refusals.specs.Checks.{outcome};
 ghost use Rattle.refusals.specs.Numbers.{code_of};
@@ -17,8 +19,7 @@ use indexed::{Continued, Counted};
 use refusals::Outcome;
 
 // The index of three tables; 1, 2, 4 or 3 where it is refused.
-#[unsafe(no_mangle)]
-pub extern "C" fn forkhemit_index(
+pub fn forkhemit_index(
     n: u64,
     left_rows: u64,
     right_rows: u64,
@@ -37,8 +38,7 @@ pub extern "C" fn forkhemit_index(
 }
 
 // How many rows are unsatisfied under the T and F of the run in the lent words; 1, 2, 4, 3, 12 or 13 where it is refused.
-#[unsafe(no_mangle)]
-pub extern "C" fn forkhemit_unsatisfied(
+pub fn forkhemit_unsatisfied(
     n: u64,
     left_rows: u64,
     right_rows: u64,
@@ -66,8 +66,7 @@ pub extern "C" fn forkhemit_unsatisfied(
 
 // One giant step of the run in the lent words, with its number of unsatisfied rows; 1, 2, 4, 3, 12 or 13 where it is refused: then the
 // step's number is the one that was lent.
-#[unsafe(no_mangle)]
-pub extern "C" fn forkhemit_step_indexed(
+pub fn forkhemit_step_indexed(
     n: u64,
     left_rows: u64,
     right_rows: u64,
@@ -120,8 +119,7 @@ pub fn give_continued(done: Continued, run: &mut [u32; 101], continued: &mut [u6
 
 // Giant steps of the run in the lent words through the one that closes it, at most a given number, by the indexed run; the numbers are how
 // many they were, and 1 if the run is closed then, else 0. 1, 2, 4, 3, 12 or 13 where it is refused, and then nothing is written.
-#[unsafe(no_mangle)]
-pub extern "C" fn forkhemit_continue(
+pub fn forkhemit_continue(
     n: u64,
     left_rows: u64,
     right_rows: u64,

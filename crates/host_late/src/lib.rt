@@ -1,10 +1,12 @@
 // For hosts in C and Rust: a late condition, that is a row in the place of a station's own padding row while the run is open, without and
 // with an index. Each function is a thin call of a proved entry. A slice passes as a pointer and then a length, an array as a pointer. It
 // returns 0 where the call is taken, else the refusal's number, and then all lent memory is as it was.
+#![tactic(auto)]
+
 ghost use Rattle.std.specs.Prelude.{◌≡◌, [], ◌∷◌, get_or};
 ghost use Rattle.refusals.specs.Checks.{outcome};
 ghost use Rattle.refusals.specs.Numbers.{code_of};
-ghost use Rattle.tables.specs.Tables.{lent_tables};
+ghost use Rattle.tables.specs.Tables.{all_tables};
 ghost use Rattle.late.specs.Replacement.{late_checks, tables_after};
 ghost use Rattle.late_indexed.specs.Replacement.{replace_checks, tables_then, index_then, number_then};
 ghost use Rattle.codes.specs.Codes.{host_dimensions};
@@ -31,8 +33,7 @@ fn condition_of(station: u64, row: u64, positive: u32, negative: u32) -> Conditi
 
 // Puts a row of these two words in the place of the station's padding row of that number, while the run in the lent words is open; 1, 2, 4,
 // 3, 12, 13, 15, 16, or 3 for the new row, where it is refused.
-#[unsafe(no_mangle)]
-pub extern "C" fn forkhemit_replace(
+pub fn forkhemit_replace(
     n: u64,
     left_rows: u64,
     right_rows: u64,
@@ -46,11 +47,11 @@ pub extern "C" fn forkhemit_replace(
     positive: u32,
     negative: u32,
 ) -> u8
-    ensures value { result ≡ code_of (outcome (late_checks (host_dimensions n left_rows right_rows public_rows) (lent_tables left right public)
+    ensures value { result ≡ code_of (outcome (late_checks (host_dimensions n left_rows right_rows public_rows) (all_tables left.old right.old public.now)
         (run_in run.now) (condition_of station row positive negative))) }
-    ensures left_after { left.new ≡ (tables_after (host_dimensions n left_rows right_rows public_rows) (lent_tables left right public)
+    ensures left_after { left.new ≡ (tables_after (host_dimensions n left_rows right_rows public_rows) (all_tables left.old right.old public.now)
         (run_in run.now) (condition_of station row positive negative)).left }
-    ensures right_after { right.new ≡ (tables_after (host_dimensions n left_rows right_rows public_rows) (lent_tables left right public)
+    ensures right_after { right.new ≡ (tables_after (host_dimensions n left_rows right_rows public_rows) (all_tables left.old right.old public.now)
         (run_in run.now) (condition_of station row positive negative)).right }
 {
     let d = codes::dimensions(n, left_rows, right_rows, public_rows);
@@ -61,8 +62,7 @@ pub extern "C" fn forkhemit_replace(
 
 // The same with a lent index and a lent number of unsatisfied rows, which are then those of the new tables; 12 too where they were not
 // right. Where it is refused, the number is the one that was lent.
-#[unsafe(no_mangle)]
-pub extern "C" fn forkhemit_replace_indexed(
+pub fn forkhemit_replace_indexed(
     n: u64,
     left_rows: u64,
     right_rows: u64,
@@ -78,19 +78,19 @@ pub extern "C" fn forkhemit_replace_indexed(
     index: &mut [u64; 384],
     number: &mut [u64; 1],
 ) -> u8
-    ensures value { result ≡ code_of (outcome (replace_checks (host_dimensions n left_rows right_rows public_rows) (lent_tables left right public)
+    ensures value { result ≡ code_of (outcome (replace_checks (host_dimensions n left_rows right_rows public_rows) (all_tables left.old right.old public.now)
         index.old (run_in run.now) (get_or number.old 0 0)
         (condition_of station row positive negative))) }
-    ensures left_after { left.new ≡ (tables_then (host_dimensions n left_rows right_rows public_rows) (lent_tables left right public)
+    ensures left_after { left.new ≡ (tables_then (host_dimensions n left_rows right_rows public_rows) (all_tables left.old right.old public.now)
         index.old (run_in run.now) (get_or number.old 0 0)
         (condition_of station row positive negative)).left }
-    ensures right_after { right.new ≡ (tables_then (host_dimensions n left_rows right_rows public_rows) (lent_tables left right public)
+    ensures right_after { right.new ≡ (tables_then (host_dimensions n left_rows right_rows public_rows) (all_tables left.old right.old public.now)
         index.old (run_in run.now) (get_or number.old 0 0)
         (condition_of station row positive negative)).right }
-    ensures index_after { index.new ≡ index_then (host_dimensions n left_rows right_rows public_rows) (lent_tables left right public)
+    ensures index_after { index.new ≡ index_then (host_dimensions n left_rows right_rows public_rows) (all_tables left.old right.old public.now)
         index.old (run_in run.now) (get_or number.old 0 0)
         (condition_of station row positive negative) }
-    ensures number_after { number.new ≡ number_then (host_dimensions n left_rows right_rows public_rows) (lent_tables left right public)
+    ensures number_after { number.new ≡ number_then (host_dimensions n left_rows right_rows public_rows) (all_tables left.old right.old public.now)
         index.old (run_in run.now) (get_or number.old 0 0)
         (condition_of station row positive negative) ∷ [] }
 {

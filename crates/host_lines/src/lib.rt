@@ -1,6 +1,8 @@
 // For hosts in C and Rust: the budget line is read, the circuit's lines and the answer are written. Each function is a thin call of a
 // proved entry. A slice passes as a pointer and then a length, an array as a pointer. It returns 0 where the call is taken, else the
 // refusal's number, and then it writes nothing.
+#![tactic(auto)]
+
 ghost use Rattle.std.specs.Prelude.{◌≡◌};
 ghost use Rattle.bristol.specs.Writing as Writing;
 ghost use Rattle.bristol.specs.Writing.{line_code, line_numbers, lines_code, lines_numbers};

@@ -1,6 +1,8 @@
 // For hosts in C and Rust: the watch page of a run, and the model read off a page. Each function is a thin call of a proved entry. A slice
 // passes as a pointer and then a length, an array as a pointer. It returns 0 where the call is taken, else the refusal's number, and then
 // it writes nothing.
+#![tactic(auto)]
+
 ghost use Rattle.std.specs.Prelude.{◌≡◌, length};
 ghost use Rattle.refusals.specs.Checks.{outcome};
 ghost use Rattle.refusals.specs.Numbers.{code_of};

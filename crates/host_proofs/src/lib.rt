@@ -1,5 +1,7 @@
 // For hosts in C and Rust: a proof from another solver checked against the tables. The function is a thin call of a proved entry. A slice
 // passes as a pointer and then a length. It returns 0 where the proof is accepted, else the refusal's number, and writes nothing.
+#![tactic(auto)]
+
 ghost use Rattle.std.specs.Prelude.{◌≡◌};
 ghost use Rattle.refusals.specs.Numbers.{code_of};
 ghost use Rattle.refusals.specs.Checks.{outcome};
@@ -9,8 +11,7 @@ ghost use Rattle.codes.specs.Codes.{host_dimensions};
 
 // Whether a DRAT text proves that no assignment makes all rows of the three tables true: if not, the tables' 1, 2, 4 or 3, then 18, 19 or
 // 20.
-#[unsafe(no_mangle)]
-pub extern "C" fn forkhemit_check_proof(
+pub fn forkhemit_check_proof(
     n: u64,
     left_rows: u64,
     right_rows: u64,

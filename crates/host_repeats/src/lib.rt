@@ -1,6 +1,8 @@
 // For hosts in C and Rust: the circuit generated and repeated on a run. The function is a thin call of a proved entry. A slice passes as a
 // pointer and then a length, an array as a pointer. It returns 0 where the call is taken, else the refusal's number, and then it writes
 // nothing.
+#![tactic(auto)]
+
 ghost use Rattle.std.specs.Prelude.{◌≡◌};
 ghost use Rattle.repeats.specs.Repeating.{gates_after, bytes_after, wires_after};
 ghost use Rattle.codes.specs.Codes.{host_dimensions};
@@ -14,8 +16,7 @@ use refusals::Outcome;
 // Repeats the circuit, which it writes over the front of the gate words, on the run until that is closed, at most so many times. The bytes
 // then hold the last repeat's inputs, the wires its wires, and the numbers are how many repeats there were and the last mark; 1, 2, 4, 3,
 // 7, 10, 12 or 13 where it is refused, and then nothing is written.
-#[unsafe(no_mangle)]
-pub extern "C" fn forkhemit_repeat(
+pub fn forkhemit_repeat(
     n: u64,
     left_rows: u64,
     right_rows: u64,

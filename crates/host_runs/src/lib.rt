@@ -1,6 +1,8 @@
 // For hosts in C and Rust: whether tables are accepted, the judging of rows, the fresh run, the giant step in place, and the model. Each
 // function is a thin call of a proved entry. A slice passes as a pointer and then a length, an array as a pointer. It returns 0 where the
 // call is taken, else the refusal's number, and then it writes nothing.
+#![tactic(auto)]
+
 ghost use Rattle.std.specs.Prelude.{◌≡◌, length};
 ghost use Rattle.refusals.specs.Checks.{outcome};
 ghost use Rattle.tables.specs.Tables.{lent_tables};
@@ -22,8 +24,7 @@ use verdicts::Modelled;
 use words::Row;
 
 // Whether three tables are accepted: 1, 2, 4 or 3 if not.
-#[unsafe(no_mangle)]
-pub extern "C" fn forkhemit_accept(
+pub fn forkhemit_accept(
     n: u64,
     left_rows: u64,
     right_rows: u64,
@@ -50,14 +51,7 @@ fn look_number(look: Look) -> u64
 
 // A row of two words judged against T and F: whether it is satisfied, how many of its literals are free, its free variables as a word, the
 // variable to look at from 1, or 0.
-#[unsafe(no_mangle)]
-pub extern "C" fn forkhemit_judge(
-    positive: u32,
-    negative: u32,
-    t: u32,
-    f: u32,
-    judged: &mut [u64; 4],
-) -> u8
+pub fn forkhemit_judge(positive: u32, negative: u32, t: u32, f: u32, judged: &mut [u64; 4]) -> u8
     ensures value { result ≡ 0 }
     ensures judged_after { judged.new ≡ judged_numbers (judged_row positive negative t f) }
 {
@@ -74,8 +68,7 @@ pub extern "C" fn forkhemit_judge(
 
 // How many literals of each row are free under the run in the lent words, a byte a row; 1, 2, 4, 3, 10, 12 or 13 where it is refused, and
 // then no byte changes.
-#[unsafe(no_mangle)]
-pub extern "C" fn forkhemit_count_free(
+pub fn forkhemit_count_free(
     n: u64,
     left_rows: u64,
     right_rows: u64,
@@ -97,8 +90,7 @@ pub extern "C" fn forkhemit_count_free(
 }
 
 // The fresh run of n variables; 1 where it is refused, and then no word changes.
-#[unsafe(no_mangle)]
-pub extern "C" fn forkhemit_fresh(n: u64, run: &mut [u32; 101]) -> u8
+pub fn forkhemit_fresh(n: u64, run: &mut [u32; 101]) -> u8
     ensures value { result ≡ code_of (outcome (variable_checks (as_byte n))) }
     ensures run_after { run.new ≡ stored_if (outcome (variable_checks (as_byte n))) (run_of (as_byte n) fresh) run.old }
 {
@@ -109,8 +101,7 @@ pub extern "C" fn forkhemit_fresh(n: u64, run: &mut [u32; 101]) -> u8
 }
 
 // One giant step of the run in the lent words; 1, 2, 4, 3, 12 or 13 where it is refused, and then no word changes.
-#[unsafe(no_mangle)]
-pub extern "C" fn forkhemit_step(
+pub fn forkhemit_step(
     n: u64,
     left_rows: u64,
     right_rows: u64,
@@ -134,8 +125,7 @@ pub extern "C" fn forkhemit_step(
 }
 
 // The model of a satisfied run, the variables that are true, as a word; 12 or 14 where it is refused, and then no number is written.
-#[unsafe(no_mangle)]
-pub extern "C" fn forkhemit_model(run: &[u32; 101], model: &mut [u64; 1]) -> u8
+pub fn forkhemit_model(run: &[u32; 101], model: &mut [u64; 1]) -> u8
     ensures value { result ≡ model_code (model_of (run_in run.now)) }
     ensures model_after { model.new ≡ numbers_or (model_numbers (model_of (run_in run.now))) model.old }
 {

@@ -1,6 +1,8 @@
 // For hosts in C and Rust: the answer of a whole run under a budget, by the plain scan and with an index. Each function is a thin call of a
 // proved entry. A slice passes as a pointer and then a length, an array as a pointer. It returns 0 where the call is taken, else the
 // refusal's number, and then it writes nothing.
+#![tactic(auto)]
+
 ghost use Rattle.std.specs.Prelude.{◌≡◌};
 ghost use Rattle.tables.specs.Tables.{lent_tables};
 ghost use Rattle.solver.specs.Entries.{solved, solved_code, solved_numbers};
@@ -29,8 +31,7 @@ pub fn give(res: Solved, answer: &mut [u64; 3]) -> u8
 }
 
 // The answer of a fresh run under a budget: count, verdict, model; 1, 2, 4 or 3 where it is refused, and then no number is written.
-#[unsafe(no_mangle)]
-pub extern "C" fn forkhemit_solve(
+pub fn forkhemit_solve(
     n: u64,
     left_rows: u64,
     right_rows: u64,
@@ -50,8 +51,7 @@ pub extern "C" fn forkhemit_solve(
 }
 
 // The answer of a fresh run under a budget by the indexed run: count, verdict, model; 1, 2, 4 or 3 where it is refused.
-#[unsafe(no_mangle)]
-pub extern "C" fn forkhemit_solve_indexed(
+pub fn forkhemit_solve_indexed(
     n: u64,
     left_rows: u64,
     right_rows: u64,

@@ -1,7 +1,9 @@
 // For hosts in C and Rust: three texts are read into tables. The function is a thin call of a proved entry. A slice passes as a pointer and
 // then a length, an array as a pointer. It returns 0 where the call is taken, else the refusal's number, and then it writes nothing.
+#![tactic(auto)]
+
 ghost use Rattle.std.specs.Prelude.{◌≡◌};
-ghost use Rattle.tables.specs.Tables.{lent_tables};
+ghost use Rattle.tables.specs.Tables.{all_tables};
 ghost use Rattle.refusals.specs.Numbers.{code_of};
 ghost use Rattle.host_texts.specs.Texts.{all_texts, texts_of, lent_outcome, read_outcome, tables_read, sizes_read};
 
@@ -59,15 +61,15 @@ pub extern "C" fn forkhemit_read_tables(
     sizes: &mut [u64; 4],
 ) -> u8
     ensures value { result ≡ code_of (read_outcome (texts_of left_text.now right_text.now public_text.now)
-        (lent_tables left right public)) }
+        (all_tables left.old right.old public.old)) }
     ensures left_after { left.new ≡ (tables_read (texts_of left_text.now right_text.now public_text.now)
-        (lent_tables left right public)).left }
+        (all_tables left.old right.old public.old)).left }
     ensures right_after { right.new ≡ (tables_read (texts_of left_text.now right_text.now public_text.now)
-        (lent_tables left right public)).right }
+        (all_tables left.old right.old public.old)).right }
     ensures public_after { public.new ≡ (tables_read (texts_of left_text.now right_text.now public_text.now)
-        (lent_tables left right public)).public }
+        (all_tables left.old right.old public.old)).public }
     ensures sizes_after { sizes.new ≡ sizes_read (texts_of left_text.now right_text.now public_text.now)
-        (lent_tables left right public) sizes.old }
+        (all_tables left.old right.old public.old) sizes.old }
 {
     let l = dimacs::read(left_text, 1);
     let r = dimacs::read(right_text, 1);

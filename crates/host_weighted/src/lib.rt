@@ -2,6 +2,8 @@
 // entry. A slice passes as a pointer and then a length, an array as a pointer. It returns 0 where the call is taken, else the refusal's
 // number, and then all lent memory is as it was. A crate of its own, so that the indexed run's code is alone in its object file and is
 // compiled as one loop.
+#![tactic(auto)]
+
 ghost use Rattle.std.specs.Prelude.{◌≡◌};
 ghost use Rattle.refusals.specs.Numbers.{code_of};
 ghost use Rattle.tables.specs.Tables.{lent_tables};
@@ -14,8 +16,7 @@ ghost use Rattle.lent.specs.Lent.{numbers_or, stored_if};
 ghost use Rattle.host_runs.specs.Runs.{step_stored};
 
 // One step of the run in the lent words with the weighted choice; 1, 2, 4, 3, 12 or 13 where it is refused, and then no word changes.
-#[unsafe(no_mangle)]
-pub extern "C" fn forkhemit_step_weighted(
+pub fn forkhemit_step_weighted(
     n: u64,
     left_rows: u64,
     right_rows: u64,
@@ -39,8 +40,7 @@ pub extern "C" fn forkhemit_step_weighted(
 }
 
 // The answer of a fresh run under a budget with the weighted choice: count, verdict, model; 1, 2, 4 or 3 where it is refused.
-#[unsafe(no_mangle)]
-pub extern "C" fn forkhemit_solve_weighted(
+pub fn forkhemit_solve_weighted(
     n: u64,
     left_rows: u64,
     right_rows: u64,
@@ -65,8 +65,7 @@ pub extern "C" fn forkhemit_solve_weighted(
 
 // Weighted steps of the run in the lent words through the one that closes it, at most a given number; the numbers are how many they were,
 // and 1 if the run is closed then, else 0. 1, 2, 4, 3, 12 or 13 where it is refused, and then nothing is written.
-#[unsafe(no_mangle)]
-pub extern "C" fn forkhemit_continue_weighted(
+pub fn forkhemit_continue_weighted(
     n: u64,
     left_rows: u64,
     right_rows: u64,

@@ -1,6 +1,8 @@
 // For hosts in C and Rust: the answer of a run that repeats the circuit through its whole budget. The function is a thin call of a proved
 // entry. A slice passes as a pointer and then a length, an array as a pointer. It returns 0 where the call is taken, else the refusal's
 // number, and then it writes nothing.
+#![tactic(auto)]
+
 ghost use Rattle.std.specs.Prelude.{◌≡◌};
 ghost use Rattle.tables.specs.Tables.{lent_tables};
 ghost use Rattle.solver.specs.Entries.{solved_code, solved_numbers};
@@ -11,8 +13,7 @@ ghost use Rattle.lent.specs.Lent.{numbers_or};
 // The answer of a fresh run by the circuit, which is written over the front of the gate words and applied as many times as the budget says,
 // closed or not: the budget, verdict, model. The bytes and the wires that it used are zeros then, so that no closing wire and no row is
 // left; 1, 2, 4, 3, 7, 23 or 10 where it is refused, and then nothing is written.
-#[unsafe(no_mangle)]
-pub extern "C" fn forkhemit_solve_whole(
+pub fn forkhemit_solve_whole(
     n: u64,
     left_rows: u64,
     right_rows: u64,

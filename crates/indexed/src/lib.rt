@@ -1,5 +1,7 @@
 // The giant step and the budgeted run with an index and a tally beside them (document 02, "Which rows does a variable touch"): the same
 // states as the plain scan gives.
+#![tactic(auto)]
+
 mod tallied;
 
 ghost use Rattle.std.specs.Prelude.{◌≡◌, true, [], ◌∷◌, ◌++◌, eqb};
@@ -29,14 +31,14 @@ use state::Run;
 use tallied::{Reached, TalliedRun};
 
 // How many rows are unsatisfied, or why it is not said.
-#[derive(Drop)]
+#[derive(Clone, Copy)]
 pub enum Counted {
     Of(u32),
     Refused(Refusal),
 }
 
 // A run after one step and its number of unsatisfied rows, or both as they were with the refusal.
-#[derive(Drop)]
+#[derive(Clone, Copy)]
 pub struct SteppedIndexed {
     pub outcome: Outcome,
     pub run: Run,
@@ -44,7 +46,7 @@ pub struct SteppedIndexed {
 }
 
 // A run after some steps, how many they were and whether it is closed; refused, the run as it was, with no step.
-#[derive(Drop)]
+#[derive(Clone, Copy)]
 pub struct Continued {
     pub outcome: Outcome,
     pub run: Run,

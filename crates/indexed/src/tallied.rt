@@ -11,14 +11,14 @@ use state::{Run, Standing};
 use tally::Tally;
 
 // A run and its tally.
-#[derive(Drop)]
+#[derive(Clone, Copy)]
 pub(crate) struct TalliedRun {
     pub(crate) run: Run,
     pub(crate) tally: Tally,
 }
 
 // A run after some steps, and how many they were.
-#[derive(Drop)]
+#[derive(Clone, Copy)]
 pub(crate) struct Reached {
     pub(crate) run: Run,
     pub(crate) steps: u64,

@@ -14,10 +14,6 @@ use Rattle.input.specs.Line.{line_of}
 abbrev pub Unended : List ℕ → Type 0
 Unended xs = (ys : List ℕ) → line_of (xs ++ ys) ≡ xs ++ line_of ys
 
-pub unended_none : Unended []
-unfolding line_of
-unended_none ys = refl
-
 pub line_so_far : (xs : List ℕ) → Unended xs → line_of xs ≡ xs
 unfolding line_of
 line_so_far xs u = ap line_of (sym (append-nil xs)) ∙ u [] ∙ append-nil xs
@@ -35,7 +31,7 @@ one_last xs b u = u (b ∷ []) ∙ ap (λ (l : List ℕ). xs ++ b ∷ l) (nothin
     nothing_either true = refl
     nothing_either false = refl
 
-stored : (xs : List ℕ) (i b : ℕ) → i < length xs → take (i + 1) (set xs i b) ≡ take i xs ++ b ∷ []
+pub stored : (xs : List ℕ) (i b : ℕ) → i < length xs → take (i + 1) (set xs i b) ≡ take i xs ++ b ∷ []
 stored xs i b h = ap (λ (j : ℕ). take j (set xs i b)) (add-one i) ∙ take-suc-set xs i b h
 
 -- a byte that is no LF

@@ -1,21 +1,28 @@
 // A line of standard input and the bytes of three files, as programs read them.
-ghost use Rattle.std.specs.Prelude.{◌≡◌, ◌+◌, ◌≤◌, ◌<◌, length, take, drop};
-ghost use Rattle.io.specs.Counts.{IsPrefixLen};
-ghost use Rattle.input.specs.Line.{line_of};
-ghost use Rattle.input.specs.Files.{FilesWithin, files_within};
+#![tactic(auto)]
 
-// Reads a byte at a time up to the first LF, and no more; a line that does not fit or end is left without its LF, which is 8.
-pub fn read_line(fd: i32, buf: &mut [u8]) -> usize
+ghost use Rattle.std.specs.Prelude.{◌≡◌, ◌+◌, ◌≤◌, ◌<◌, length, take, drop, [], IfSome, None, Some};
+ghost use Rattle.std.specs.Io.KnownBytes.{Consumes};
+ghost use Rattle.input.specs.Line.{line_of, IsPrefixLen};
+ghost use Rattle.input.specs.Files.{FilesWithin, files_within, Gives, IsWhole};
+
+use std::io::Read;
+use std::{fs, rt};
+
+// Reads a byte at a time up to the first LF, and no more; a line that does not fit or end is left without its LF, which is 8. A read that
+// fails ends the line as the input's end does. `consumed` says that no byte past these was read.
+pub fn read_line<I: Read>(input: &mut I, buf: &mut [u8]) -> usize
     ensures prefix_len { IsPrefixLen result buf.new }
     ensures buf_after { line_of (take result buf.new) ≡ take result buf.new }
     ensures buf_unchanged { drop result buf.new ≡ drop result buf.old }
+    ensures consumed { Consumes (I.remaining input.old) (I.remaining input.new) (take result buf.new) }
 {
     let mut done = 0;
     while done < buf.len() {
         let mut one = [0u8; 1];
-        let got = libc::read(fd, &mut one);
-        if got <= 0 {
-            return done;
+        match input.read(&mut one) {
+            Ok(0) | Err(_) => return done,
+            Ok(_) => {}
         }
         buf[done] = one[0];
         done += 1;
@@ -26,27 +33,42 @@ pub fn read_line(fd: i32, buf: &mut [u8]) -> usize
     done
 }
 
+// One read of a file, or none where it fails or the file is not open.
+fn read_some<F: Read>(file: &mut Option<F>, buf: &mut [u8]) -> Option<usize>
+    ensures bound { IfSome result (λ n. n ≤ length buf.new) }
+    ensures given { IfSome result (λ n. Gives F.remaining file.old file.new (take n buf.new)) }
+    ensures end { 0 < length buf.old → result ≡ Some 0 → IsWhole F.remaining file.new [] }
+{
+    match file {
+        Some(file) => file.read(buf).ok(),
+        None => None,
+    }
+}
+
 // Reads on from index `from` until buf is full or the input ends, and answers how many bytes of buf are then filled. Where a read fails it
 // answers all of buf: a text cut short would be another text. An input that ended or failed is closed. So reading on after a failure fails
-// too, and no file has standard input's number when the line is read.
-fn fill(fd: i32, buf: &mut [u8], from: usize) -> usize
+// too, and no file has standard input's number when the line is read. `whole` says that an answer short of buf is never a text cut short.
+fn fill<F: Read + Drop>(file: &mut Option<F>, buf: &mut [u8], from: usize) -> usize
     requires { from ≤ length buf.old }
     ensures prefix_len { IsPrefixLen result buf.new }
     ensures lower_bound { from ≤ result }
     ensures buf_unchanged { take from buf.new ≡ take from buf.old }
+    ensures whole { result < length buf.new → IsWhole F.remaining file.old (drop from (take result buf.new)) }
+    ensures closed { result < length buf.new → file.new ≡ None }
 {
     let mut done = from;
     while done < buf.len() {
-        let got = libc::read(fd, &mut buf[done..]);
-        let n = io::count(got, &buf[done..]);
-        if n == 0 {
-            libc::close(fd);
-            if got < 0 {
+        match read_some(file, &mut buf[done..]) {
+            Some(0) => {
+                *file = None;
+                return done;
+            }
+            Some(n) => done += n,
+            None => {
+                *file = None;
                 return buf.len();
             }
-            return done;
         }
-        done += n;
     }
     done
 }
@@ -59,38 +81,36 @@ const OVERLONG: usize = 65537;
 // Room for three texts of that length.
 pub const ROOM: usize = 196611;
 
-// How far the three files were read into one buffer, one after the other: how many were read whole, the next one's descriptor, and where
-// each file's bytes end. A file that was not read is empty.
-#[derive(Drop)]
+// How far the three files were read into one buffer, one after the other: how many were read whole, and where each file's bytes end. A file
+// that was not read is empty.
+#[derive(Clone, Copy)]
 pub struct Files {
     pub whole: usize,
-    pub fd: i32,
     pub left: usize,
     pub right: usize,
     pub public: usize,
 }
 
-// Opens a file by its number from 0. One that does not open has the descriptor -1, of which every read fails, as a fourth file has.
-fn open(number: usize) -> i32 {
+// Opens a file by its number from 0. One that does not open is none, of which every read fails, as a fourth file is.
+fn open<R: rt::Files>(rt: &R, number: usize) -> Option<R::File> {
     if number == 0 {
-        return os::open_read(b"left.cnf");
+        return fs::open(rt, "left.cnf").ok();
     }
     if number == 1 {
-        return os::open_read(b"right.cnf");
+        return fs::open(rt, "right.cnf").ok();
     }
     if number == 2 {
-        return os::open_read(b"public.cnf");
+        return fs::open(rt, "public.cnf").ok();
     }
-    -1
+    None
 }
 
-// Nothing read yet, with the descriptor of the first file.
-fn nothing_read(fd: i32) -> Files
+// Nothing read yet.
+fn nothing_read() -> Files
     ensures { FilesWithin result 0 }
 {
     Files {
         whole: 0,
-        fd,
         left: 0,
         right: 0,
         public: 0,
@@ -98,11 +118,10 @@ fn nothing_read(fd: i32) -> Files
 }
 
 // Opens the first file, of which nothing is read yet.
-pub fn begin() -> Files
-    ensures { FilesWithin result 0 }
+pub fn begin<R: rt::Files>(rt: &R) -> (Files, Option<R::File>)
+    ensures { FilesWithin result.0 0 }
 {
-    let fd = open(0);
-    nothing_read(fd)
+    (nothing_read(), open(rt, 0))
 }
 
 // Whether the files' ends are in order and in a buffer of this length.
@@ -150,11 +169,9 @@ fn end_at(files: Files, end: usize) -> Files
     ensures whole_value { result.whole ≡ files.whole }
 {
     let whole = files.whole;
-    let fd = files.fd;
     if whole == 0 {
         return Files {
             whole,
-            fd,
             left: end,
             right: end,
             public: end,
@@ -163,7 +180,6 @@ fn end_at(files: Files, end: usize) -> Files
     if whole == 1 {
         return Files {
             whole,
-            fd,
             left: files.left,
             right: end,
             public: end,
@@ -171,7 +187,6 @@ fn end_at(files: Files, end: usize) -> Files
     }
     Files {
         whole,
-        fd,
         left: files.left,
         right: files.right,
         public: end,
@@ -179,16 +194,15 @@ fn end_at(files: Files, end: usize) -> Files
 }
 
 // The file that was open is read whole, and the next one is opened.
-fn open_next(files: Files) -> Files
+fn open_next<R: rt::Files>(rt: &R, files: Files, file: &mut Option<R::File>) -> Files
     requires { files.whole < 3 }
     ensures whole_value { result.whole ≡ files.whole + 1 }
     ensures left_value { (result.left ≡ files.left) × (result.right ≡ files.right) × (result.public ≡ files.public) }
 {
     let whole = files.whole + 1;
-    let fd = open(whole);
+    *file = open(rt, whole);
     Files {
         whole,
-        fd,
         left: files.left,
         right: files.right,
         public: files.public,
@@ -196,23 +210,29 @@ fn open_next(files: Files) -> Files
 }
 
 // Reads on where `begun` ends, each file whole before the next, up to a file that fills the buffer or is overlong, as one that cannot be
-// read counts: `whole` is then less than 3. Where `begun` does not fit into buf nothing is read.
-pub fn read_on(begun: Files, buf: &mut [u8]) -> Files
+// read counts: `whole` is then less than 3. Where `begun` does not fit into buf nothing is read. `file` is the one that is open.
+pub fn read_on<R: rt::Files>(
+    rt: &R,
+    begun: Files,
+    file: &mut Option<R::File>,
+    buf: &mut [u8],
+) -> Files
     ensures files_within { FilesWithin result (length buf.new) }
     ensures buf_unchanged { take begun.public buf.new ≡ take begun.public buf.old }
 {
     if !is_within(begun, buf.len()) {
-        return nothing_read(-1);
+        *file = None;
+        return nothing_read();
     }
     let mut files = begun;
     while files.whole < 3 {
         let end = limit(files, buf.len());
-        let n = fill(files.fd, &mut buf[..end], files.public);
+        let n = fill(file, &mut buf[..end], files.public);
         files = end_at(files, n);
         if n == end {
             return files;
         }
-        files = open_next(files);
+        files = open_next(rt, files, file);
     }
     files
 }

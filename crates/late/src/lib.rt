@@ -1,8 +1,10 @@
 // A late condition (document 02, Req 06): while a run is open, a station puts a row in the place of one of its own padding rows.
+#![tactic(auto)]
+
 ghost use Rattle.std.specs.Prelude.{◌≡◌, [], ◌∷◌, ◌&&◌, cond, ◌+◌, ◌-◌, ◌*◌, ◌<◌, leb, length};
 ghost use Rattle.refusals.specs.Checks.{outcome};
 ghost use Rattle.refusals.specs.Numbers.{code_of, said};
-ghost use Rattle.tables.specs.Tables.{lent_tables};
+ghost use Rattle.tables.specs.Tables.{all_tables, lent_tables};
 ghost use Rattle.tables.specs.Rows.{row_at, padding};
 ghost use Rattle.tables.specs.Acceptance.{low_row};
 ghost use Rattle.late.specs.Replacement as Replacement;
@@ -15,7 +17,7 @@ use words::Row;
 
 // Who replaces which row by what: station 0 is the left one, 1 the right one; `replaced` is the old row's number, from 1 over all tables;
 // `row` is the new row.
-#[derive(Drop)]
+#[derive(Clone, Copy)]
 pub struct Condition {
     pub station: u64,
     pub replaced: u64,
@@ -116,10 +118,10 @@ pub fn replace(
     run: Run,
     condition: Condition,
 ) -> Outcome
-    ensures value { result ≡ outcome (late_checks d (lent_tables left right public) run condition) }
-    ensures left_after { left.new ≡ (tables_after d (lent_tables left right public) run condition).left }
-    ensures right_after { right.new ≡ (tables_after d (lent_tables left right public) run condition).right }
-    ensures result_value { code_of result ∷ [] ≡ said (outcome (late_checks d (lent_tables left right public) run condition)) [] }
+    ensures value { result ≡ outcome (late_checks d (all_tables left.old right.old public.now) run condition) }
+    ensures left_after { left.new ≡ (tables_after d (all_tables left.old right.old public.now) run condition).left }
+    ensures right_after { right.new ≡ (tables_after d (all_tables left.old right.old public.now) run condition).right }
+    ensures result_value { code_of result ∷ [] ≡ said (outcome (late_checks d (all_tables left.old right.old public.now) run condition)) [] }
 {
     match check_condition(d, left, right, public, run, condition) {
         Outcome::Taken => {}

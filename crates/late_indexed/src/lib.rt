@@ -1,10 +1,12 @@
 // A late condition (document 02, Req 06) with an index and a number of unsatisfied rows beside the run: both are brought up to date from
 // the old and the new row alone.
+#![tactic(auto)]
+
 ghost use Rattle.std.specs.Prelude.{◌≡◌, [], ◌∷◌, ◌+◌, ◌≤◌};
 ghost use Rattle.refusals.specs.Checks.{outcome};
 ghost use Rattle.refusals.specs.Numbers.{code_of, said};
 ghost use Rattle.words.specs.Booleans.{digit};
-ghost use Rattle.tables.specs.Tables.{lent_tables};
+ghost use Rattle.tables.specs.Tables.{all_tables};
 ghost use Rattle.tally.specs.Tallies.{unmet};
 ghost use Rattle.late_indexed.specs.OldRow.{old_row};
 ghost use Rattle.late_indexed.specs.Replacement.{replace_checks, tables_then, index_then, replaced_indexed};
@@ -16,7 +18,7 @@ use state::Run;
 use words::Row;
 
 // What a replacement meets, and the number of unsatisfied rows then; refused, the number as it was.
-#[derive(Drop)]
+#[derive(Clone, Copy)]
 pub struct ReplacedIndexed {
     pub outcome: Outcome,
     pub number: u64,
@@ -68,11 +70,11 @@ pub fn replace_indexed(
     number: u64,
     condition: Condition,
 ) -> ReplacedIndexed
-    ensures value { result ≡ replaced_indexed d (lent_tables left right public) index.old run number condition }
-    ensures left_after { left.new ≡ (tables_then d (lent_tables left right public) index.old run number condition).left }
-    ensures right_after { right.new ≡ (tables_then d (lent_tables left right public) index.old run number condition).right }
-    ensures index_after { index.new ≡ index_then d (lent_tables left right public) index.old run number condition }
-    ensures outcome_value { code_of result.outcome ∷ [] ≡ said (outcome (replace_checks d (lent_tables left right public) index.old run number
+    ensures value { result ≡ replaced_indexed d (all_tables left.old right.old public.now) index.old run number condition }
+    ensures left_after { left.new ≡ (tables_then d (all_tables left.old right.old public.now) index.old run number condition).left }
+    ensures right_after { right.new ≡ (tables_then d (all_tables left.old right.old public.now) index.old run number condition).right }
+    ensures index_after { index.new ≡ index_then d (all_tables left.old right.old public.now) index.old run number condition }
+    ensures outcome_value { code_of result.outcome ∷ [] ≡ said (outcome (replace_checks d (all_tables left.old right.old public.now) index.old run number
         condition)) [] }
 {
     match indexed::check_indexed(d, left, right, public, index, run, number) {

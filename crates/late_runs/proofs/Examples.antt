@@ -25,11 +25,10 @@ use Rattle.solver.specs.Step.{after}
 use Rattle.truth.specs.Truth.{all_true}
 use Rattle.solver.specs.Entries.{answer_of}
 use Rattle.late.specs.declared.Condition.{Condition}
-use Rattle.repeats.specs.Repeats.{Accepts, Attempt, Repeat, returned, long_enough, long_ones, repeats_ended}
-use Rattle.repeats.specs.Repeating.{whole}
+use Rattle.repeats.specs.Repeats.{Accepts, Attempt, Repeat, returned, long_ones, repeats_ended}
 use Rattle.demand3.specs.Demand3.{rows_by_step, history_of, answer_in, answer_for, seen}
 use Rattle.late_runs.specs.Schedule.{Dated, tables_at}
-use Rattle.late_runs.specs.Host.{dated, Step, Replace, play, started, steps_of, Turn, Try, Call, Renew, repeats_by, count_by, room_for, attempts_in}
+use Rattle.late_runs.specs.Host.{dated, Step, Replace, play, started, steps_of, Turn, Call, Renew, repeats_by, count_by, room_for, attempts_in}
 use Rattle.late_runs.specs.Host.{conditions_in}
 use Rattle.late_runs.proofs.Demands.{end_late, secrecy_late}
 use Rattle.late_runs.proofs.Host.{host-refuted, host-closes}
@@ -60,9 +59,9 @@ unfolding answer_of tables_at free_literals padding satisfied bit put any count 
 without = refl
 
 -- the count goes on from the fresh state
-pub after_one : answer_for small (tables_at small tables (dated 1 (ill 1 2) ∷ [])) 9 ≡ answer 2 Unsatisfiable
+one_after : answer_for small (tables_at small tables (dated 1 (ill 1 2) ∷ [])) 9 ≡ answer 2 Unsatisfiable
 unfolding answer_of tables_at free_literals padding satisfied bit put any count lowest
-after_one = refl
+one_after = refl
 
 pub after_close : answer_for small (tables_at small tables (dated 2 (ill 1 2) ∷ [])) 9 ≡ answer 2 (Satisfiable 1)
 unfolding answer_of tables_at free_literals padding satisfied bit put any count lowest
@@ -123,8 +122,8 @@ from_the_first = refl
 pub late_unseen : (attempts attempts' : List Attempt) → 2 ≤ long_ones small attempts → 2 ≤ long_ones small attempts'
     → seen small (tables_at small tables (dated 1 (ill 1 2) ∷ [])) 9 attempts ≡ seen small (tables_at small replaced []) 9 attempts'
 late_unseen attempts attempts' long long' =
-    secrecy_late small tables replaced accepted accepted' (dated 1 (ill 1 2) ∷ []) [] refl 9 attempts attempts' (after_one ∙ sym from_the_first)
-    ((end_late small tables accepted (dated 1 (ill 1 2) ∷ []) 9 attempts).1 (omega (arith, ap (λ (a : Answer). a.count) after_one)))
+    secrecy_late small tables replaced accepted accepted' (dated 1 (ill 1 2) ∷ []) [] refl 9 attempts attempts' (one_after ∙ sym from_the_first)
+    ((end_late small tables accepted (dated 1 (ill 1 2) ∷ []) 9 attempts).1 (omega (arith, ap (λ (a : Answer). a.count) one_after)))
     ((end_late small replaced accepted' [] 9 attempts').1 (omega (arith, ap (λ (a : Answer). a.count) from_the_first)))
 
 -- two long enough attempts give the plain run's answer over the same replacement
@@ -132,7 +131,7 @@ pub late-answer : (attempts : List Attempt) → 2 ≤ long_ones small attempts
     → answer_in 1 (history_of small (tables_at small tables (dated 1 (ill 1 2) ∷ [])) 9 attempts) ≡ answer 2 Unsatisfiable
 late-answer attempts long =
     let e = end_late small tables accepted (dated 1 (ill 1 2) ∷ []) 9 attempts in
-    e.0 (e.1 (omega (arith, ap (λ (a : Answer). a.count) after_one))) ∙ after_one
+    e.0 (e.1 (omega (arith, ap (λ (a : Answer). a.count) one_after))) ∙ one_after
 
 -- padding | (−1), with (1) in the place of the left row before the first step: other tables at both stations, other replacements, the same answer
 abbrev other : Tables
@@ -152,8 +151,8 @@ before-first = refl
 pub both-late : (attempts attempts' : List Attempt) → 2 ≤ long_ones small attempts → 2 ≤ long_ones small attempts'
     → seen small (tables_at small tables (dated 1 (ill 1 2) ∷ [])) 9 attempts ≡ seen small (tables_at small other (dated 0 well ∷ [])) 9 attempts'
 both-late attempts attempts' long long' =
-    secrecy_late small tables other accepted accepted'' (dated 1 (ill 1 2) ∷ []) (dated 0 well ∷ []) refl 9 attempts attempts' (after_one ∙ sym before-first)
-    ((end_late small tables accepted (dated 1 (ill 1 2) ∷ []) 9 attempts).1 (omega (arith, ap (λ (a : Answer). a.count) after_one)))
+    secrecy_late small tables other accepted accepted'' (dated 1 (ill 1 2) ∷ []) (dated 0 well ∷ []) refl 9 attempts attempts' (one_after ∙ sym before-first)
+    ((end_late small tables accepted (dated 1 (ill 1 2) ∷ []) 9 attempts).1 (omega (arith, ap (λ (a : Answer). a.count) one_after)))
     ((end_late small other accepted'' (dated 0 well ∷ []) 9 attempts').1 (omega (arith, ap (λ (a : Answer). a.count) before-first)))
 
 -- ---- the host, by its theorems
@@ -187,7 +186,7 @@ module _ (gates bytes wires : List ℕ) (room : room_for small gates bytes wires
   called_at = rw room
 
   called_plainly : plain_answer small tables accepted 9 calls ≡ answer 2 Unsatisfiable
-  called_plainly = ap (λ (at : List Dated). answer_for small (tables_at small tables at) 9) called_at ∙ after_one
+  called_plainly = ap (λ (at : List Dated). answer_for small (tables_at small tables at) 9) called_at ∙ one_after
 
   called_ended : repeats_ended 9 (repeats_by small tables 9 (run_of 1 fresh) calls) ≡ true
   unfolding attempts_in long_ones
@@ -224,3 +223,7 @@ module _ (gates bytes wires : List ℕ) (room : room_for small gates bytes wires
   pub called_unseen : host_sees small tables accepted 9 calls ≡ host_sees small replaced accepted' 9 one_call
   called_unseen =
       hosts_alike small tables replaced accepted accepted' refl 9 calls one_call (called_plainly ∙ sym at_once_plainly) called_ended at_once_ended
+
+-- the count and the verdict of the first example, which the others rest on
+pub after_one : answer_for small (tables_at small tables (dated 1 (ill 1 2) ∷ [])) 9 ≡ answer 2 Unsatisfiable
+after_one = one_after

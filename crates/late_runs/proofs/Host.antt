@@ -311,9 +311,9 @@ module _ (d : Dimensions) (tables : Tables) (acc : Accepts d tables) (actions : 
   pub host_open : closed host_state ≡ false → hosted.tables ≡ tables_at d tables fallen (steps_of actions)
   host_open = open_tables d actions tables acc fresh (fresh-well_formed d.n)
 
-  pub host-closed : closed host_state ≡ true → hosted.tables ≡ tables_at d tables fallen ((answer_of d.n host_rows (steps_of actions)).count - 1)
+  at_close : closed host_state ≡ true → hosted.tables ≡ tables_at d tables fallen ((answer_of d.n host_rows (steps_of actions)).count - 1)
   unfolding answer_of
-  host-closed = closed-tables d actions tables acc fresh (fresh-well_formed d.n) refl
+  at_close = closed-tables d actions tables acc fresh (fresh-well_formed d.n) refl
 
   -- ---- demand 2 of the tables that a host holds
 
@@ -328,7 +328,7 @@ module _ (d : Dimensions) (tables : Tables) (acc : Accepts d tables) (actions : 
   host-satisfied e =
       let now : host_state.standing ≡ Satisfied = ap (λ (r : Run). r.standing) (sym host-run) ∙ e in
       ap₂ (λ (t : ℕ) (x : Tables). all_true (bit t) (rows_of d x)) (ap (λ (r : Run). r.t) host-run)
-      (host-closed (ap (λ (st : Standing). if_open st false true) now))
+      (at_close (ap (λ (st : Standing). if_open st false true) now))
       ∙ (demand2_late d tables acc fallen (steps_of actions)).satisfiable host_state.t
       (verdict-is ∙ ap (λ (st : Standing). verdict_of st host_state.t) now)
 
@@ -337,7 +337,7 @@ module _ (d : Dimensions) (tables : Tables) (acc : Accepts d tables) (actions : 
   unfolding run_of
   host-refuted e a =
       let now : host_state.standing ≡ Refuted = ap (λ (r : Run). r.standing) (sym host-run) ∙ e in
-      ap (λ (x : Tables). all_true a (rows_of d x)) (host-closed (ap (λ (st : Standing). if_open st false true) now))
+      ap (λ (x : Tables). all_true a (rows_of d x)) (at_close (ap (λ (st : Standing). if_open st false true) now))
       ∙ (demand2_late d tables acc fallen (steps_of actions)).unsatisfiable
       (verdict-is ∙ ap (λ (st : Standing). verdict_of st host_state.t) now) a
 
@@ -347,3 +347,7 @@ module _ (d : Dimensions) (tables : Tables) (acc : Accepts d tables) (actions : 
   host-closes h e =
       let now : host_state.standing ≡ Open = ap (λ (r : Run). r.standing) (sym host-run) ∙ e in
       (demand2_late d tables acc fallen (steps_of actions)).bound_n h (verdict-is ∙ ap (λ (st : Standing). verdict_of st host_state.t) now)
+
+  -- once the run is closed, the host's tables are those at the close
+  pub host-closed : closed host_state ≡ true → hosted.tables ≡ tables_at d tables fallen ((answer_of d.n host_rows (steps_of actions)).count - 1)
+  host-closed = at_close

@@ -7,7 +7,7 @@ use native.Mathlib.Nat.{zero-add}
 use native.Mathlib.Numerals.{add-one}
 use lib.Dec.{leb}
 use lib.ListN.{length, get_or, take, drop, set, drop_of_length-le, length-take}
-use lib.Seq.{sets, sets-eq, drop-cons, set_out, take_all, take-length}
+use lib.Seq.{sets, sets-eq, drop-cons, set_out, take_all}
 use borrow.Author.Tests.{leb-true, leb-false}
 use Rattle.words.proofs.Truth.{on}
 use Rattle.lent.specs.Lent.{front}
@@ -43,11 +43,10 @@ module _ (values : List ℕ) (count n : ℕ) (e : n ≡ min count (length values
       (λ t. let h : n ≡ count = omega (arith, leb-false (length values) count t) in ap (λ (k : ℕ). take k values) h)
 
   -- and copied, where they fit, they are those written over the front
-  pub front_copied : (lent : List ℕ) → n ≤ length lent
-      → let first = take n values in take (length first) first ++ drop (length first) lent ≡ front (take count values) lent
+  pub front_copied : (lent : List ℕ) → n ≤ length lent → take n values ++ drop n lent ≡ front (take count values) lent
   front_copied lent h =
       let first = take n values in
-      ap (λ (l : List ℕ). l ++ drop (length first) lent) (take-length first)
-      ∙ ap (λ (k : ℕ). first ++ drop k lent) (sym (zero-add (length first)))
-      ∙ sym (sets-eq first lent 0 (omega (arith, e, length-take n values)))
+      let size : length first ≡ n = omega (arith, e, length-take n values) in
+      ap (λ (k : ℕ). first ++ drop k lent) (sym size ∙ sym (zero-add (length first)))
+      ∙ sym (sets-eq first lent 0 (omega arith))
       ∙ ap (λ (l : List ℕ). front l lent) first-values

@@ -1,4 +1,6 @@
 // Rows, a text and a run written into the buffers that hosts lend.
+#![tactic(auto)]
+
 ghost use Rattle.std.specs.Prelude.{◌≡◌, ◌*◌, min, take};
 ghost use Rattle.lent.specs.Lent.{front, stored_if};
 
@@ -42,7 +44,7 @@ pub fn put_text(text: Text, lent: &mut [u8; 256])
 {
     let whole = text.bytes;
     let end = least(text.length, 256);
-    bytes::copy(&whole[..end], lent);
+    lent[..end].copy_from_slice(&whole[..end]);
 }
 
 // Writes the run where the call was taken.

@@ -5,7 +5,7 @@ ghost use Rattle.lexer.specs.Kinds.{passes};
 ghost use Rattle.lexer.specs.Places.{run_end};
 
 // Space and tab; these and CR; these and LF; LF alone.
-#[derive(Drop)]
+#[derive(Clone, Copy)]
 pub enum Kind {
     Blank,
     Tail,

@@ -9,7 +9,7 @@ use crate::kinds;
 use crate::kinds::Kind;
 
 // A piece's place and the place after it.
-#[derive(Drop)]
+#[derive(Clone, Copy)]
 pub enum Piece {
     At(usize, usize),
     Nothing,

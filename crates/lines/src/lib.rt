@@ -1,4 +1,6 @@
 // The lines that the programs read: the budget line and the dimension line.
+#![tactic(auto)]
+
 ghost use Rattle.std.specs.Prelude.{◌≡◌, ◌&&◌, cond, [], ◌∷◌, ◌+◌, ◌<◌, ltb};
 ghost use Rattle.lines.specs.declared.FieldEnd.TheVariants.{Behind, Malformed};
 ghost use Rattle.lines.specs.Numbers.{on_budget, budget_of, budget_code};
@@ -11,21 +13,21 @@ use refusals::Refusal;
 const LONGEST: usize = 100;
 
 // The budget, or 8.
-#[derive(Drop)]
+#[derive(Clone, Copy)]
 pub enum Budget {
     Of(u64),
     Refused(Refusal),
 }
 
 // n and the row counts of left, right and public table, or 8.
-#[derive(Drop)]
+#[derive(Clone, Copy)]
 pub enum DimensionLine {
     Of(u64, u64, u64, u64),
     Refused(Refusal),
 }
 
 // A number in a line and the place past the byte that closes it.
-#[derive(Drop)]
+#[derive(Clone, Copy)]
 enum FieldEnd {
     Behind(u64, usize),
     Malformed,

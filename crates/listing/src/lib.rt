@@ -1,13 +1,14 @@
 // The circuit program's one function: a line of standard input goes in, what is printed comes out.
+#![tactic(auto)]
+
 ghost use Rattle.std.specs.Prelude.{◌≡◌, ◌≤◌, length};
-ghost use Rattle.io.specs.Counts.{IsPrefixLen};
 ghost use Rattle.refusals.specs.Checks.{outcome};
 ghost use Rattle.refusals.specs.declared.Outcome.TheVariants.{Taken};
 ghost use Rattle.gates.specs.Memory.{gates_of, over};
 ghost use Rattle.bristol.specs.Text.{circuit_text};
 ghost use Rattle.bristol.specs.Writing.{circuit_checks};
 ghost use Rattle.text.specs.Refused.{refused_line};
-ghost use Rattle.listing.specs.Listing.{text_for, listed};
+ghost use Rattle.listing.specs.Listing.{text_for, listed, IsFrontLen};
 
 use bristol::WrittenLines;
 use dimensions::{CheckedDimensions, Dimensions};
@@ -29,7 +30,8 @@ fn put_refusal(refusal: Refusal, bytes: &mut [u8; ROOM]) -> usize
     let text = text::refused_line(refusal);
     let own = text.bytes;
     let length = text.length;
-    bytes::copy(&own[..length], bytes)
+    bytes[..length].copy_from_slice(&own[..length]);
+    length
 }
 
 // Puts a circuit's text there.
@@ -62,7 +64,7 @@ fn put_circuit(d: Dimensions, bytes: &mut [u8; ROOM]) -> usize
 pub fn list(line: &[u8], bytes: &mut [u8; ROOM]) -> usize
     ensures value { result ≡ length (listed line.now) }
     ensures bytes_after { bytes.new ≡ over (listed line.now) bytes.old }
-    ensures prefix_len { IsPrefixLen result bytes.new }
+    ensures prefix_len { IsFrontLen result bytes.new }
 {
     match lines::read_dimensions(line) {
         DimensionLine::Of(n, left, right, public) => match Dimensions::new(n, left, right, public) {

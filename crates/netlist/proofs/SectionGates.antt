@@ -13,7 +13,7 @@ use Rattle.sections.specs.Sections.{digit_after, node_at}
 use Rattle.netlist.specs.Arrays.{rows}
 use Rattle.netlist.specs.Netlist.{zero_gate, literals, counts, ranks, digit, key_sign, key_digit, key_low, key_high, bye, pairs, nodes, greatest, rule, root}
 use Rattle.netlist.specs.Netlist.{split, targets, guards, selects, select_end, levels_t, levels_f, levels_v, assign_t, assign_f, depths, next_assignment}
-use Rattle.netlist.specs.Netlist.{next_depth, next_level, next_standing, judging, weighing, choosing, holding, changing, outputs, circuit}
+use Rattle.netlist.specs.Netlist.{next_depth, next_level, next_standing, judging, weighing, choosing, holding, changing, circuit}
 use Rattle.netlist.proofs.Values.{Holds, holds-left, holds_right, holds_rows}
 use Rattle.netlist.proofs.Families.{family_holds}
 use Rattle.netlist.proofs.Counts.{literals-length, counts-length, digit-next, digits-length, key_sign-length, key_digit-next, key_digits_length}

@@ -1,19 +1,21 @@
 // Numbers as texts spell them: an optional minus and digits, however many.
 //
 // Nothing here is refused: each public function is total, whatever bytes it is handed.
+#![tactic(auto)]
+
 ghost use Rattle.std.specs.Prelude.{◌≡◌, ◌+◌, ◌*◌, ◌-◌, ◌≤◌};
 ghost use Rattle.numbers.specs.Numbers.{is_digit, decimal_of, number_read};
 ghost use Rattle.numbers.specs.CappedNumbers.{leading_zero, held, digits_held, number_held};
 
 // Whether the number has a minus, and its value; 1000 is held for every greater one.
-#[derive(Drop)]
+#[derive(Clone, Copy)]
 pub enum Number {
     Value(bool, u32),
     Malformed,
 }
 
 // The value of a row of digits, or none.
-#[derive(Drop)]
+#[derive(Clone, Copy)]
 enum Digits {
     Value(u32),
     Malformed,

@@ -1,5 +1,7 @@
 // For each literal the set of rows that hold it: an index of 384 words, six of 64 rows for each of 64 literals (document 02, "Which rows
 // does a variable touch"). Nothing here is refused: each public function is total.
+#![tactic(auto)]
+
 ghost use Rattle.std.specs.Prelude.{◌≡◌, ◌+◌, ◌*◌, ◌≤◌, ◌<◌, min, length};
 ghost use Rattle.std.proofs.lemmas.List.Edits.{sets};
 ghost use Rattle.words.specs.Sets as Sets;

@@ -1,5 +1,7 @@
 // The watch page: a run's model as pilots read it, a line a pilot, and the model read off a page again (document 02, "The watch page").
 // Refusals: 12, 14, 25 and 26 where a page is made, 1, 25, 26 and 27 where one is read.
+#![tactic(auto)]
+
 ghost use Rattle.std.specs.Prelude.{◌≡◌, [], ◌∷◌, ◌*◌, ◌≤◌, ◌<◌, length, get_or, take};
 ghost use Rattle.std.proofs.lemmas.List.Edits.{sets};
 ghost use Rattle.refusals.specs.Checks.{outcome, given};

@@ -1,5 +1,7 @@
 // Unit propagation: whether a clause follows from rows, its negation being assumed and literals forced until some row is in conflict
 // (document 02, "Proofs from other solvers").
+#![tactic(auto)]
+
 ghost use Rattle.std.specs.Prelude.{◌≡◌, ◌*◌, ◌≤◌, length};
 ghost use Rattle.tables.specs.Rows.{rows_from};
 ghost use Rattle.scan.specs.Rules.{rows_of_words};
@@ -9,7 +11,7 @@ ghost use Rattle.propagation.specs.Passes.{Apart, after_row, after_rows};
 use words::Row;
 
 // Where a pass over rows has come: whether a row is in conflict, and T and F with the literals forced so far.
-#[derive(Drop)]
+#[derive(Clone, Copy)]
 struct Propagated {
     conflict: bool,
     t: u32,

@@ -1,4 +1,6 @@
 // Reads a QDIMACS text: a table of row words, and the turns in which two sides fix its variables.
+#![tactic(auto)]
+
 ghost use Rattle.std.specs.Prelude.{◌≡◌, cond, [], ◌∷◌, ◌≤◌};
 ghost use Rattle.refusals.specs.Numbers.{code_of, said};
 ghost use Rattle.lexer.specs.Bytes.{is_blank};
@@ -25,7 +27,7 @@ const FULL: u64 = 36_028_797_018_963_968;
 // A text's game: n, its turns, its row count and its row words, positive before negative; the words past the rows are zero. The turns are
 // digits of five bits, the first turn the lowest: twice the variable's bit, and 1 more where the universal side fixes it. A refused text
 // has none.
-#[derive(Drop)]
+#[derive(Clone, Copy)]
 pub struct Quantified {
     pub outcome: Outcome,
     pub n: u8,
@@ -36,7 +38,7 @@ pub struct Quantified {
 
 // The variables of the lines read so far. Where each is one of 1 to n and none came twice: their turns, the unit of the next turn's digit,
 // and their set.
-#[derive(Drop)]
+#[derive(Clone, Copy)]
 struct Prefix {
     proper: bool,
     turns: u64,
@@ -45,7 +47,7 @@ struct Prefix {
 }
 
 // What a line makes of the variables before it.
-#[derive(Drop)]
+#[derive(Clone, Copy)]
 enum PrefixLine {
     Passed(Prefix),
     Clauses,
@@ -53,7 +55,7 @@ enum PrefixLine {
 }
 
 // The variables of the prefix, and the end of a line after which the clauses begin.
-#[derive(Drop)]
+#[derive(Clone, Copy)]
 enum PrefixEnd {
     At(Prefix, usize),
     Malformed,

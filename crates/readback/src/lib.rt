@@ -1,4 +1,6 @@
 // A run read back from bytes, a byte a wire (document 01, "Circuit"). Refusals: 1, 10 and 12.
+#![tactic(auto)]
+
 mod unpacking;
 
 ghost use Rattle.std.specs.Prelude.{◌≡◌, [], ◌∷◌, ◌&&◌, ◌≤◌, length, take};
@@ -18,7 +20,7 @@ use refusals::{Outcome, Refusal};
 use state::Run;
 
 // A run read back; with a refusal, the fresh run.
-#[derive(Drop)]
+#[derive(Clone, Copy)]
 pub struct Read {
     pub outcome: Outcome,
     pub run: Run,

@@ -1,11 +1,13 @@
 // The numbered refusals of document 01, "Turned back", and the outcome of a call that has no other result.
+#![tactic(auto)]
+
 ghost use Rattle.std.specs.Prelude.{◌≡◌};
 ghost use Rattle.refusals.specs.Numbers.{number_of};
 
 // Why a call is refused: 1 to 11 because of the input, 12 to 14 because of the state, 15 and 16 because of a late condition, 17 because of
 // texts that are not the tables', 18 to 20 because of a proof from another solver, 21 and 22 because of a game's variables, 23 because of a
 // budget too large to be gone through whole, 24 because of planes, 25 to 27 because of a watch page.
-#[derive(Drop)]
+#[derive(Clone, Copy)]
 pub enum Refusal {
     // 1: n outside 1 to 32.
     Variables,
@@ -64,7 +66,7 @@ pub enum Refusal {
 }
 
 // What a call gives that has no other result.
-#[derive(Drop)]
+#[derive(Clone, Copy)]
 pub enum Outcome {
     Taken,
     Refused(Refusal),

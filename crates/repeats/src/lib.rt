@@ -1,4 +1,6 @@
 // The circuit of some dimensions, generated and then repeated on a run (document 01, "Circuit"). Refusals: 1, 2, 4, 3, 7, 10, 12, 13.
+#![tactic(auto)]
+
 ghost use Rattle.std.specs.Prelude.{◌≡◌, [], ◌∷◌, ◌+◌, ◌≤◌, length, take};
 ghost use Rattle.refusals.specs.Checks.{outcome};
 ghost use Rattle.refusals.specs.Numbers.{code_of, said};
@@ -24,7 +26,7 @@ use sections::Addresses;
 use state::Run;
 
 // The next run and its mark, whether that run is closed; refused, the run as it was and no mark.
-#[derive(Drop)]
+#[derive(Clone, Copy)]
 pub struct Applied {
     pub outcome: Outcome,
     pub run: Run,
@@ -45,7 +47,7 @@ impl Applied {
 }
 
 // The run after the repeats, how many there were, and the last mark, whether that run is closed; refused, the run as it was.
-#[derive(Drop)]
+#[derive(Clone, Copy)]
 pub struct Repeated {
     pub outcome: Outcome,
     pub run: Run,

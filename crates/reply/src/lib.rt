@@ -1,5 +1,7 @@
 // The pair program's one function: two stations' texts, that of the public rest rules and the line of standard input go in, what is printed
 // comes out.
+#![tactic(auto)]
+
 ghost use Rattle.std.specs.Prelude.{◌≡◌, min};
 ghost use Rattle.text.specs.Texts.{text_of};
 ghost use Rattle.answers.specs.Printed.{solved_text};

@@ -1,6 +1,8 @@
 // What a rule of the giant step makes of a run (document 01, "Giant step"), by value: one function a rule. Nothing here is refused: each
 // function is total, and gives back the run as it is where its depth leaves no level to remove or to store. Each has one exit, since a
 // second one makes the compiled code copy the levels once more.
+#![tactic(auto)]
+
 ghost use Rattle.std.specs.Prelude.{◌≡◌};
 ghost use Rattle.scan.specs.declared.Rule.TheVariants.{AllSatisfied, Conflict, Unit, Choice};
 ghost use Rattle.rules.specs.Followed.{followed};

@@ -1,5 +1,7 @@
 // The numbers of the circuit's sections: where each begins, how many cells it has, and to which wires the slots of its cells go. `netlist`
 // says which gates these are.
+#![tactic(auto)]
+
 mod cells;
 mod changing;
 mod choosing;
@@ -18,7 +20,7 @@ use dimensions::Dimensions;
 // Where the state, its standing and each section begin, for n variables and m rows, and how many wires there are. A variable's number has b
 // digits. The tree has `pairs` lanes of two rows and `nodes` lanes of two lanes, the first of which takes lane `skip` and the next. A block
 // is all cells of one of a level's three sets of wires.
-#[derive(Drop)]
+#[derive(Clone, Copy)]
 pub struct Addresses {
     pub n: u32,
     pub m: u32,
@@ -49,7 +51,7 @@ pub struct Addresses {
 }
 
 // Those of the sections that read the rows and find the greatest key.
-#[derive(Drop)]
+#[derive(Clone, Copy)]
 struct ReadingAddresses {
     pairs: u32,
     nodes: u32,
@@ -63,7 +65,7 @@ struct ReadingAddresses {
 }
 
 // Those of the sections that act on it.
-#[derive(Drop)]
+#[derive(Clone, Copy)]
 struct ActingAddresses {
     rule: u32,
     targets: u32,
@@ -78,7 +80,7 @@ struct ActingAddresses {
 
 // Lanes of cells, before each lane some gates that are 0. A cell has `size` gates of all templates' gates, from gate `template` on. Its
 // slots move on from lane to lane by `outer`, from cell to cell by `inner`.
-#[derive(Drop)]
+#[derive(Clone, Copy)]
 pub struct Section {
     pub base: u32,
     pub zeros: u32,

@@ -1,4 +1,6 @@
 // The giant step and the budgeted run over two stations' tables and the public one: whether one assignment satisfies all.
+#![tactic(auto)]
+
 mod giant;
 
 ghost use Rattle.std.specs.Prelude.{◌≡◌, ◌∷◌, ◌++◌, []};
@@ -18,21 +20,21 @@ use state::Run;
 use verdicts::Verdict;
 
 // A run after one step, or as it was with the refusal.
-#[derive(Drop)]
+#[derive(Clone, Copy)]
 pub struct Stepped {
     pub outcome: Outcome,
     pub run: Run,
 }
 
 // How many steps were taken, and what they led to.
-#[derive(Drop)]
+#[derive(Clone, Copy)]
 pub struct Answer {
     pub count: u64,
     pub verdict: Verdict,
 }
 
 // The budgeted run's answer, or why there is none.
-#[derive(Drop)]
+#[derive(Clone, Copy)]
 pub enum Solved {
     Of(Answer),
     Refused(Refusal),

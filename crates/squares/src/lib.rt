@@ -1,5 +1,7 @@
 // Squares of 32 rows by 32 variables: a square's positive and negative planes by value, from a table's words and from the words of planes
 // (document 02, "Columns before rows"). Nothing here is refused.
+#![tactic(auto)]
+
 ghost use Rattle.std.specs.Prelude.{◌≡◌, true, [], ◌∷◌, ◌+◌, ◌≤◌, ◌<◌, get_or};
 ghost use Rattle.squares.specs.Squares.{transposed, square_at, square_rows};
 ghost use Rattle.squares.specs.Steps.{fine, low_word, high_word, staged, picked};

@@ -1,4 +1,6 @@
 // A run's state: its sets and levels, the fresh run, and when a state is well-formed (document 01, "Giant step").
+#![tactic(auto)]
+
 ghost use Rattle.std.specs.Prelude.{◌≡◌, [], ◌∷◌, ◌≤◌, drop};
 ghost use Rattle.refusals.specs.Checks.{outcome};
 ghost use Rattle.refusals.specs.Numbers.{code_of, said};
@@ -11,7 +13,7 @@ use dimensions::Dimensions;
 use refusals::{Outcome, Refusal};
 
 // Whether a run is open or how it ended. Satisfied and refuted runs are closed.
-#[derive(Drop)]
+#[derive(Clone, Copy)]
 pub enum Standing {
     Open,
     Satisfied,
@@ -19,7 +21,7 @@ pub enum Standing {
 }
 
 // T and F from before a choice, and the variable chosen, from 0.
-#[derive(Drop)]
+#[derive(Clone, Copy)]
 pub struct Level {
     pub t: u32,
     pub f: u32,
@@ -27,7 +29,7 @@ pub struct Level {
 }
 
 // A run over n variables: those set true, those set false, and the levels, of which the first `depth` are used.
-#[derive(Drop)]
+#[derive(Clone, Copy)]
 pub struct Run {
     pub n: u8,
     pub standing: Standing,

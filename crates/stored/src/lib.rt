@@ -1,4 +1,6 @@
 // A run in 101 words, as hosts hold it: n, standing, T, F, depth, then for each of the 32 levels T, F and the chosen variable.
+#![tactic(auto)]
+
 ghost use Rattle.std.specs.Prelude.{◌≡◌, true, ◌-◌, ◌^◌, min, drop};
 ghost use Rattle.std.proofs.lemmas.List.Edits.{sets};
 ghost use Rattle.state.specs.State.{standing_number as number_of};

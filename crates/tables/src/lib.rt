@@ -1,4 +1,6 @@
 // Two stations' clause tables and the public one: when they are accepted, and the judging of a row.
+#![tactic(auto)]
+
 ghost use Rattle.std.specs.Prelude.{◌≡◌, [], ◌∷◌, get_or};
 ghost use Rattle.words.specs.Sets.{bit};
 ghost use Rattle.refusals.specs.Checks.{outcome};
@@ -12,7 +14,7 @@ use refusals::{Outcome, Refusal};
 use words::Row;
 
 // The variable of a row to look at, counted from 0 as bits are, or none.
-#[derive(Drop)]
+#[derive(Clone, Copy)]
 pub enum Look {
     Variable(u8),
     None,
@@ -20,7 +22,7 @@ pub enum Look {
 
 // What T and F make of a row: whether it is satisfied, how many of its at most 64 literals are free, the set of its free variables, and the
 // variable to look at.
-#[derive(Drop)]
+#[derive(Clone, Copy)]
 pub struct Judged {
     pub satisfied: bool,
     pub literals: u8,

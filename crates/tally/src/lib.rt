@@ -1,5 +1,7 @@
 // What is kept beside a run (document 02, "Which rows does a variable touch"): how many rows are unsatisfied, and the sets of rows from
 // which the rule is read.
+#![tactic(auto)]
+
 mod rows;
 mod ruling;
 mod setting;
@@ -14,7 +16,7 @@ use scan::Rule;
 
 // How many rows are unsatisfied, whether one of them has no free literal, the set of them, and the variables of the forced literals,
 // positive and negative. Row r is bit r mod 64 of word r / 64.
-#[derive(Drop)]
+#[derive(Clone, Copy)]
 pub struct Tally {
     pub number: u32,
     pub conflict: bool,

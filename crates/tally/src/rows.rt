@@ -7,7 +7,7 @@ use crate::Tally;
 
 // What unsatisfied rows show: whether one has no free variable, and the variables of the literals that those with exactly one force,
 // positive and negative.
-#[derive(Drop)]
+#[derive(Clone, Copy)]
 pub struct Forced {
     pub conflict: bool,
     pub positive: u32,

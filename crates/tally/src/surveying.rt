@@ -4,7 +4,7 @@ ghost use Rattle.words.specs.Sets.{word_of};
 ghost use Rattle.tally.specs.RowsSeen.{with_variable, seen_in, left_in};
 
 // Of 64 rows those that a variable looked at satisfies, those that hold one that is free, and those that hold two.
-#[derive(Drop)]
+#[derive(Clone, Copy)]
 pub struct RowsSeen {
     pub met: u64,
     pub one: u64,
@@ -12,7 +12,7 @@ pub struct RowsSeen {
 }
 
 // Of 64 rows those that are unsatisfied, and of these those that hold at most one free variable.
-#[derive(Drop)]
+#[derive(Clone, Copy)]
 pub struct RowsLeft {
     pub unsatisfied: u64,
     pub few: u64,

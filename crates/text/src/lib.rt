@@ -1,4 +1,6 @@
 // Texts of at most 256 bytes by value: what the product prints is composed in one, whole, before a byte is written out.
+#![tactic(auto)]
+
 ghost use Rattle.std.specs.Prelude.{◌≡◌, [], ◌+◌, ◌<◌};
 ghost use Rattle.text.specs.Decimal as Decimal;
 ghost use Rattle.text.specs.Texts.{text_of, pushed, appended};
@@ -7,7 +9,7 @@ ghost use Rattle.text.specs.Refused.{refused_line};
 use refusals::Refusal;
 
 // The first `length` bytes are the text.
-#[derive(Drop)]
+#[derive(Clone, Copy)]
 pub struct Text {
     pub bytes: [u8; 256],
     pub length: usize,

@@ -7,7 +7,7 @@ use native.Mathlib.Omega.{arith}
 use borrow.Author.Tests.{eqb-true}
 use lib.Dec.{eqb}
 use lib.ListN.{length, get_or, take, drop, set, length-map, get_or-map}
-use lib.Seq.{take-length, take-append_seam, drop-append-add, drop-drop}
+use lib.Seq.{take-append_seam, drop-append-add, drop-drop}
 use Rattle.words.specs.Booleans.{digit}
 use Rattle.words.specs.Sets.{all}
 use Rattle.words.proofs.Truth.{digit_lt}
@@ -57,12 +57,9 @@ module _ {s : List Bool} {g w₀ : List ℕ} {n : ℕ} {w : List ℕ} {i m : ℕ
 -- ---- the inputs, copied first
 
 -- a buffer to whose front the inputs were copied
-module _ (s w w₁ : List ℕ) (e : w₁ ≡ take (length s) s ++ drop (length s) w) where
-  inputs-first : w₁ ≡ s ++ drop (length s) w
-  inputs-first = e ∙ ap (λ (l : List ℕ). l ++ drop (length s) w) (take-length s)
-
+module _ (s w w₁ : List ℕ) (e : w₁ ≡ s ++ drop (length s) w) where
   pub copied : take (length s) w₁ ≡ s
-  copied = ap (λ (l : List ℕ). take (length s) l) inputs-first ∙ take-append_seam s (drop (length s) w)
+  copied = ap (λ (l : List ℕ). take (length s) l) e ∙ take-append_seam s (drop (length s) w)
 
   -- what the gates' values are written over is what was there before
   pub written : (gs : List Gate) (w₂ : List ℕ) → w₂ ≡ over (bytes_of (wires_of (bits_of (take (length s) w₁)) gs)) w₁
@@ -73,7 +70,7 @@ module _ (s w w₁ : List ℕ) (e : w₁ ≡ take (length s) s ++ drop (length s
       f
       ∙ ap (λ (l : List ℕ). over (bytes_of (wires_of (bits_of l) gs)) w₁) copied
       ∙ ap (λ (l : List ℕ). F ++ l)
-      (ap₂ (λ (k : ℕ) (l : List ℕ). drop k l) q inputs-first
+      (ap₂ (λ (k : ℕ) (l : List ℕ). drop k l) q e
       ∙ drop-append-add s (drop (length s) w) (length gs)
       ∙ drop-drop (length gs) (length s) w
       ∙ ap (λ (k : ℕ). drop k w) (sym q))

@@ -10,7 +10,7 @@ use lib.ListN.{length, get_or, take, drop, set, length-set, length-map, drop_of_
 use lib.Seq.{drop-drop, get_or-take, take-suc-set, drop-set-lt, length-take-le}
 use Rattle.words.specs.Booleans.{digit, ◌⊕◌}
 use Rattle.words.specs.Sets.{all}
-use Rattle.words.proofs.Truth.{digit_lt, digit-bit}
+use Rattle.words.proofs.Truth.{digit-bit}
 use Rattle.words.proofs.Upto.{all_e}
 use Rattle.gates.specs.Gates.{Gate, wire, value, wires_of}
 use Rattle.gates.specs.Memory.{gate_of, gates_of, drives, accepted, bits_of, over}

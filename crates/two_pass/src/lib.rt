@@ -1,4 +1,6 @@
 // Evaluation in two passes: judges all gates, then runs them in the lent buffer itself.
+#![tactic(auto)]
+
 ghost use Rattle.std.specs.Prelude.{◌≡◌, true, [], ◌∷◌, ◌+◌, ◌/◌, ◌≤◌, ◌<◌, length, take};
 ghost use Rattle.refusals.specs.Checks.{outcome};
 ghost use Rattle.refusals.specs.Numbers.{code_of, said};
@@ -29,7 +31,7 @@ pub fn evaluate(gates: &[u32], inputs: &[u8], wires: &mut [u8]) -> Outcome
     if !gates::bits(inputs) {
         return Outcome::Refused(Refusal::Wires);
     }
-    bytes::copy(inputs, wires);
+    wires[..n].copy_from_slice(inputs);
     run(gates, wires, n);
     Outcome::Taken
 }

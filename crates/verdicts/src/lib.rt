@@ -1,4 +1,6 @@
 // What a run's standing says: whether it has steps left, its verdict, its model (document 01, "Giant step").
+#![tactic(auto)]
+
 ghost use Rattle.std.specs.Prelude.{◌≡◌, true, false, cond, [], ◌∷◌, ltb};
 ghost use Rattle.refusals.specs.Checks.{outcome};
 ghost use Rattle.refusals.specs.Numbers.{said};
@@ -9,7 +11,7 @@ use refusals::Refusal;
 use state::{Run, Standing};
 
 // Satisfiable has its model: the set of the variables that are true.
-#[derive(Drop)]
+#[derive(Clone, Copy)]
 pub enum Verdict {
     Satisfiable(u32),
     Unsatisfiable,
@@ -17,7 +19,7 @@ pub enum Verdict {
 }
 
 // A run's model, or why there is none.
-#[derive(Drop)]
+#[derive(Clone, Copy)]
 pub enum Modelled {
     Model(u32),
     Refused(Refusal),

@@ -1,5 +1,7 @@
 // The giant step and the budgeted run with the two-sided Jeroslow-Wang choice in the place of rule 4's (document 02, "Weighing the short
 // rows"): other steps, the same verdicts.
+#![tactic(auto)]
+
 mod tallied;
 mod weights;
 

@@ -1,13 +1,15 @@
 // The program that goes through the whole budget: reads left.cnf, right.cnf, public.cnf and the budget on standard input, each whole before
 // the next, and prints the reply.
+#![tactic(auto)]
+
 ghost use Rattle.std.specs.Prelude.{◌≤◌, length};
 ghost use Rattle.input.specs.Files.{FilesWithin};
 
 use input::Files;
-use libc::{STDIN_FILENO, STDOUT_FILENO};
+use std::io;
 
 // Prints the reply to the three files and a line.
-fn print(buf: &[u8], files: Files, line: &[u8])
+fn print(rt: &impl Print, buf: &[u8], files: Files, line: &[u8]) -> io::Result<()>
     requires { FilesWithin files (length buf.now) }
 {
     let left = files.left;
@@ -16,24 +18,25 @@ fn print(buf: &[u8], files: Files, line: &[u8])
     let text = whole_reply::reply_whole(&buf[..left], &buf[left..right], &buf[right..public], line);
     let bytes = text.bytes;
     let length = text.length;
-    io::write_all(STDOUT_FILENO, &bytes[..length]);
+    rt.write_all(&bytes[..length])
 }
 
 // Reads the line and prints the reply. An overlong file is answered at once, whatever the files past it and the line: they are empty then.
-fn answer(buf: &[u8], files: Files)
+fn answer(rt: &(impl Input + Print), buf: &[u8], files: Files) -> io::Result<()>
     requires { FilesWithin files (length buf.now) }
 {
     if files.whole < 3 {
-        return print(buf, files, b"");
+        return print(rt, buf, files, b"");
     }
     let mut line = [0u8; 101];
-    let n = input::read_line(STDIN_FILENO, &mut line);
-    print(buf, files, &line[..n]);
+    let n = input::read_line(&mut rt.reader(), &mut line);
+    print(rt, buf, files, &line[..n])
 }
 
 // Reads the files, then the rest.
-fn main() {
+fn main(rt: HostRuntime) -> io::Result<()> {
     let mut buf = [0u8; input::ROOM];
-    let files = input::read_on(input::begin(), &mut buf);
-    answer(&buf, files);
+    let (begun, mut file) = input::begin(&rt);
+    let files = input::read_on(&rt, begun, &mut file, &mut buf);
+    answer(&rt, &buf, files)
 }

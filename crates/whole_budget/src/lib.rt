@@ -1,5 +1,7 @@
 // The circuit of some dimensions, generated and then applied to the fresh run through a whole budget, whatever its closing wire says
 // (document 02, "The count kept secret too"). Refusals: 1, 2, 4, 3, 7, 23, 10.
+#![tactic(auto)]
+
 ghost use Rattle.std.specs.Prelude.{◌≡◌, ◌∷◌, ◌+◌, ◌≤◌, length, drop, replicate};
 ghost use Rattle.refusals.specs.Checks.{outcome};
 ghost use Rattle.refusals.specs.Numbers.{said};

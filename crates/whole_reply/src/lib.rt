@@ -1,5 +1,7 @@
 // The one function of the program that goes through the whole budget: two stations' texts, that of the public rest rules and the line of
 // standard input go in, what is printed comes out.
+#![tactic(auto)]
+
 ghost use Rattle.std.specs.Prelude.{◌≡◌, ◌≤◌};
 ghost use Rattle.refusals.specs.Checks.{outcome, given};
 ghost use Rattle.refusals.specs.declared.Outcome.TheVariants.{Taken};

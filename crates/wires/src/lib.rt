@@ -1,4 +1,6 @@
 // Rows and a run packed into bytes, a byte a wire (document 01, "Circuit"). Refusals: 1, 2, 4, 3, 10, 12 and 13.
+#![tactic(auto)]
+
 mod packing;
 
 ghost use Rattle.std.specs.Prelude.{◌≡◌, [], ◌∷◌, length};

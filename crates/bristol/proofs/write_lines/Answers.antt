@@ -1,0 +1,20 @@
+-- `write_lines` meets its contract: what the checks refuse is returned, and a circuit that is taken is put.
+use mathlib.Core.Path.{sym, ◌∙◌}
+use Rattle.bristol.proofs.Requests.{with_lines, refuse_lines}
+use Rattle.bristol.proofs.write_lines.Goals as goal
+
+pub returns-in-Refused : goal.returns-in-Refused
+returns-in-Refused c =
+    let s = c.args in
+    let proved = with_lines s.d s.gates.now s.line s.bytes.now _ _
+    (refuse_lines s.d s.gates.now s.line s.bytes.now _ (sym c.check_circuit.ensures ∙ c.in-Refused.is)) in
+    record { value = proved.0; bytes_after = proved.1.0; result_value = proved.1.1 }
+
+pub put_lines-requires : goal.put_lines-requires
+put_lines-requires c = sym c.check_circuit.ensures ∙ c.in-Taken.is
+
+pub returns : goal.returns
+returns c =
+    let s = c.args in
+    let proved = with_lines s.d s.gates.now s.line s.bytes.now _ _ (c.put_lines.ensures.value, c.put_lines.ensures.bytes_after) in
+    record { value = proved.0; bytes_after = proved.1.0; result_value = proved.1.1 }

@@ -1,0 +1,5 @@
+-- `put_number` meets its contract. The number falls with each call.
+use Rattle.bristol_line.proofs.+put_number.Given as goal
+
+abbrev pub decreases-put_number : goal.decreases-put_number
+decreases-put_number l = l.x

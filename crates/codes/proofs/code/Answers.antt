@@ -1,0 +1,7 @@
+-- `code` meets its contract: 0, or the number of the refusal that the outcome holds.
+use mathlib.Core.Path.{sym, ap, ◌∙◌}
+use Rattle.refusals.specs.Numbers.{code_of}
+use Rattle.codes.proofs.code.Goals as goal
+
+pub returns-in-Refused : goal.returns-in-Refused
+returns-in-Refused c = c.number.ensures ∙ sym (ap code_of c.in-Refused.is)

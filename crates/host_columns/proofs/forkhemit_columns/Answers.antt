@@ -1,0 +1,8 @@
+-- `forkhemit_columns` meets its contract: the entry's outcome as a number, and the words that it leaves.
+use mathlib.Core.Path.{ap, ◌∙◌}
+use Rattle.refusals.specs.Numbers.{code_of}
+use Rattle.host_columns.proofs.forkhemit_columns.Goals as goal
+
+pub returns : goal.returns
+returns c =
+    record { value = c.code.ensures ∙ ap code_of c.to_planes.ensures.value; planes_after = c.to_planes.ensures.planes_after }

@@ -1,0 +1,9 @@
+-- `is_blank` meets its contract: by the test that held.
+use borrow.Author.Tests.{eq-eqb, ne_eqb}
+use Rattle.lexer.proofs.kinds.is_blank.Goals as goal
+
+pub returns-then-b-eq32 : goal.returns-then-b-eq32
+returns-then-b-eq32 c = rw (eq-eqb _ _ c.if-b-eq32.true)
+
+pub returns-else-b-eq32 : goal.returns-else-b-eq32
+returns-else-b-eq32 c = rw (ne_eqb _ _ c.if-b-eq32.false)

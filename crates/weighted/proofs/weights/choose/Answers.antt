@@ -1,0 +1,14 @@
+-- `choose` meets its contract: the floats compare as the weights.
+use mathlib.Core.Path.{◌∙◌}
+use Prim.Native.Nat.{◌/◌}
+use native.Mathlib.Omega.{arith}
+use lib.ListN.{length}
+use Rattle.weighted.proofs.Weighing.{heaviest-all}
+use Rattle.weighted.proofs.weights.choose.Goals as goal
+
+pub returns : goal.returns
+returns c =
+    let a = c.args in
+    c.heaviest.ensures
+    ∙ heaviest-all a.t a.f a.left.now a.right.now a.public.now (length a.left.now / 2) (length a.right.now / 2)
+    (length a.public.now / 2) (omega arith) (omega arith) (omega arith) c.weigh.result c.weigh.ensures
