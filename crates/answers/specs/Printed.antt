@@ -24,7 +24,8 @@ literals (suc k) i model = literal_text (i + 1) (bit model i) ++ literals k (suc
 
 -- the verdict's line and, with a model, each variable in order, closed by 0
 abbrev pub verdict_text : ℕ → Verdict → List ℕ
-verdict_text n (Satisfiable model) = with_line_feed (bytes "s SATISFIABLE") ++ with_line_feed (bytes "v" ++ literals n 0 model ++ bytes " 0")
+verdict_text n (Satisfiable model) = with_line_feed (bytes "s SATISFIABLE")
+    ++ with_line_feed (bytes "v" ++ literals n 0 model ++ bytes " 0")
 verdict_text n Unsatisfiable = with_line_feed (bytes "s UNSATISFIABLE")
 verdict_text n Unknown = with_line_feed (bytes "s UNKNOWN")
 

@@ -59,7 +59,8 @@ calls_of = map call_of
 pub steps_asked_lem : (d : Dimensions) (actions : List Action) → steps_asked d (calls_of actions) ≡ steps_of actions
 unfolding steps_asked steps_of
 steps_asked_lem d [] = refl
-steps_asked_lem d (Step ∷ more) = let e : 1 + steps_asked d (calls_of more) ≡ suc (steps_asked d (calls_of more)) = omega arith in e ∙ ap suc (steps_asked_lem d more)
+steps_asked_lem d (Step ∷ more) = let e : 1 + steps_asked d (calls_of more) ≡ suc (steps_asked d (calls_of more)) = omega arith in
+    e ∙ ap suc (steps_asked_lem d more)
 steps_asked_lem d (Replace c ∷ more) = let e : 0 + steps_asked d (calls_of more) ≡ steps_asked d (calls_of more) = omega arith in e ∙ steps_asked_lem d more
 
 -- accepted tables, their index, a well-formed run of their n and its number: no call is refused for them

@@ -57,12 +57,14 @@ words_injective d us ws h k p q e =
 -- the text determines the dimensions as well
 pub circuit_injective : (d e : Dimensions) (us ws : List ℕ) → Within d → Within e → input_wires d + length us / 3 ≤ 2 ^ 64
     → input_wires e + length ws / 3 ≤ 2 ^ 64
-    → accepted (input_wires d) us ≡ true → accepted (input_wires e) ws ≡ true → circuit_text d (gates_of us) ≡ circuit_text e (gates_of ws) → (d ≡ e) × (us ≡ ws)
+    → accepted (input_wires d) us ≡ true → accepted (input_wires e) ws ≡ true → circuit_text d (gates_of us) ≡ circuit_text e (gates_of ws)
+    → (d ≡ e) × (us ≡ ws)
 circuit_injective d e us ws wd we h k p q t =
     let same : d ≡ e = dimensions_injective d e wd we (header_split d e (gates_of us) (gates_of ws) t).0 in
     (same, go same k q t)
   where
-    go : d ≡ e → input_wires e + length ws / 3 ≤ 2 ^ 64 → accepted (input_wires e) ws ≡ true → circuit_text d (gates_of us) ≡ circuit_text e (gates_of ws) → us ≡ ws
+    go : d ≡ e → input_wires e + length ws / 3 ≤ 2 ^ 64 → accepted (input_wires e) ws ≡ true → circuit_text d (gates_of us) ≡ circuit_text e (gates_of ws)
+        → us ≡ ws
     go s k q t =
         words_injective d us ws h (subst (λ (x : Dimensions). input_wires x + length ws / 3 ≤ 2 ^ 64) (sym s) k) p
         (ap (λ (x : Dimensions). accepted (input_wires x) ws) s ∙ q) (t ∙ ap (λ (x : Dimensions). circuit_text x (gates_of ws)) (sym s))

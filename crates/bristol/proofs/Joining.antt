@@ -91,7 +91,8 @@ module _ (d : Dimensions) (ws : List ℕ) (e : outcome (circuit_checks d ws) ≡
   -- requests in a row from line 0 on, each with room for its line and at least as many as there are lines, put the text of a circuit that is taken
   pub requests_join : (k : ℕ) → 4 + length ws / 3 ≤ k → requested d ws lent 0 k ≡ circuit_text d (gates_of ws)
   unfolding circuit_text
-  requests_join k h = in_a_row 0 k ∙ asked-join (circuit_lines d (gates_of ws)) put (λ j. 1) one_line (λ i b. omega arith) 0 k (omega (arith, taken_lines d ws e))
+  requests_join k h = in_a_row 0 k ∙ asked-join (circuit_lines d (gates_of ws)) put (λ j. 1) one_line (λ i b. omega arith) 0 k
+      (omega (arith, taken_lines d ws e))
 
   -- and there is no further line
   pub requests_end : (i : ℕ) → 4 + length ws / 3 ≤ i → (written_line d ws i (lent i) ≡ W.Past) × (filled_line d ws i (lent i) ≡ lent i)
@@ -119,7 +120,8 @@ requested_lines d ws lent i k = asked (λ j. fronts (written_lines d ws j (lent 
 -- lent bytes that take the line from which they are asked
 module _ (d : Dimensions) (ws : List ℕ) (e : outcome (circuit_checks d ws) ≡ Taken) (lent : ℕ → List ℕ)
     (room : (i : ℕ) → length (line_at d ws i) ≤ length (lent i)) where
-  given_lines : (i : ℕ) → (written_lines d ws i (lent i) ≡ lines.Lines (length (lines_written_from d ws i (lent i))) (length (flatten (lines_written_from d ws i (lent i)))))
+  given_lines : (i : ℕ) → (written_lines d ws i (lent i)
+      ≡ lines.Lines (length (lines_written_from d ws i (lent i))) (length (flatten (lines_written_from d ws i (lent i)))))
       × (filled_lines d ws i (lent i) ≡ over (flatten (lines_written_from d ws i (lent i))) (lent i))
   given_lines i = lines_by-room d ws i (lent i) e false (le-ltb (length (lent i)) (length (line_at d ws i)) (room i))
 
@@ -127,7 +129,8 @@ module _ (d : Dimensions) (ws : List ℕ) (e : outcome (circuit_checks d ws) ≡
       ≡ flatten (take (counted (written_lines d ws i (lent i))) (drop i (circuit_lines d (gates_of ws))))
   some_lines i =
       let p = given_lines i in
-      ap₂ fronts p.0 p.1 ∙ take-append_seam (flatten (lines_written_from d ws i (lent i))) (drop (length (flatten (lines_written_from d ws i (lent i)))) (lent i))
+      ap₂ fronts p.0 p.1 ∙ take-append_seam (flatten (lines_written_from d ws i (lent i)))
+      (drop (length (flatten (lines_written_from d ws i (lent i)))) (lent i))
       ∙ ap flatten (fitting-front (length (lent i)) (drop i (circuit_lines d (gates_of ws))))
       ∙ ap (λ (x : WrittenLines). flatten (take (counted x) (drop i (circuit_lines d (gates_of ws))))) (sym p.0)
 
@@ -146,7 +149,8 @@ module _ (d : Dimensions) (ws : List ℕ) (e : outcome (circuit_checks d ws) ≡
   pub lines_end : (i : ℕ) → 4 + length ws / 3 ≤ i → (written_lines d ws i (lent i) ≡ lines.Lines 0 0) × (filled_lines d ws i (lent i) ≡ lent i)
   unfolding flatten
   lines_end i h =
-      let none : lines_written_from d ws i (lent i) ≡ [] = fitting_past (circuit_lines d (gates_of ws)) i (length (lent i)) (omega (arith, taken_lines d ws e)) in (
+      let none : lines_written_from d ws i (lent i) ≡ [] = fitting_past (circuit_lines d (gates_of ws)) i (length (lent i))
+      (omega (arith, taken_lines d ws e)) in (
         (given_lines i).0 ∙ ap (λ (x : List (List ℕ)). lines.Lines (length x) (length (flatten x))) none,
         (given_lines i).1 ∙ ap (λ (x : List (List ℕ)). over (flatten x) (lent i)) none,
       )

@@ -24,7 +24,18 @@ use Rattle.bristol.specs.declared.WrittenLine.TheVariants as W
 use Rattle.bristol.specs.declared.WrittenLines.{WrittenLines}
 use Rattle.bristol.specs.declared.WrittenLines.TheVariants as lines
 use Rattle.bristol.specs.Text.{circuit_lines}
-use Rattle.bristol.specs.Writing.{circuit_checks, line_at, line_checks, written_line, line_code, line_numbers, filled_line, lines_written_from, written_lines, lines_code}
+use Rattle.bristol.specs.Writing.{
+  circuit_checks,
+  line_at,
+  line_checks,
+  written_line,
+  line_code,
+  line_numbers,
+  filled_line,
+  lines_written_from,
+  written_lines,
+  lines_code,
+}
 use Rattle.bristol.specs.Writing.{lines_numbers}
 use Rattle.bristol.specs.Writing.{filled_lines}
 use Rattle.bristol.proofs.Numbering.{lines_of_words}
@@ -71,7 +82,8 @@ module _ (d : Dimensions) (ws : List ℕ) where
 
     -- and for several lines
     lines_by-outcome : (o : Outcome) → outcome (line_checks d ws i lent) ≡ o
-        → (written_lines d ws i lent ≡ given o (lines.Lines (length (lines_written_from d ws i lent)) (length (flatten (lines_written_from d ws i lent)))) lines.Refused)
+        → (written_lines d ws i lent ≡ given o (lines.Lines (length (lines_written_from d ws i lent)) (length (flatten (lines_written_from d ws i lent))))
+        lines.Refused)
         × (filled_lines d ws i lent ≡ given o (over (flatten (lines_written_from d ws i lent)) lent) (λ r. lent))
     lines_by-outcome o e = (
       ap (λ (x : Outcome). given x (lines.Lines (length (lines_written_from d ws i lent)) (length (flatten (lines_written_from d ws i lent)))) lines.Refused) e,
@@ -207,7 +219,8 @@ module _ (d : Dimensions) (ws : List ℕ) where
 
       -- several lines: whether the first of them has room decides
       pub lines_by-room : (b : Bool) → ltb (length lent) (length (line_at d ws i)) ≡ b
-          → (written_lines d ws i lent ≡ cond b (lines.Refused LineBuffer) (lines.Lines (length (lines_written_from d ws i lent)) (length (flatten (lines_written_from d ws i lent)))))
+          → (written_lines d ws i lent ≡ cond b (lines.Refused LineBuffer)
+          (lines.Lines (length (lines_written_from d ws i lent)) (length (flatten (lines_written_from d ws i lent)))))
           × (filled_lines d ws i lent ≡ cond b lent (over (flatten (lines_written_from d ws i lent)) lent))
       lines_by-room true q = lines_by-outcome (Refused LineBuffer) (by-room true q)
       lines_by-room false q = lines_by-outcome Taken (by-room false q)

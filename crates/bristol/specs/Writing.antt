@@ -75,7 +75,8 @@ lines_written_from d words number lent = fitting (length lent) (drop number (cir
 abbrev pub written_lines : Dimensions → List ℕ → ℕ → List ℕ → WrittenLines
 written_lines d words number lent =
     given (outcome (line_checks d words number lent))
-    (lines.Lines (length (lines_written_from d words number lent)) (length (flatten (lines_written_from d words number lent)))) lines.Refused
+    (lines.Lines (length (lines_written_from d words number lent)) (length (flatten (lines_written_from d words number lent))))
+    lines.Refused
 
 -- what the writer of several lines returns: as the line writer
 abbrev pub lines_code : WrittenLines → ℕ

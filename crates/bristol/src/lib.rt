@@ -10,7 +10,16 @@ ghost use Rattle.gates.specs.Memory as Memory;
 ghost use Rattle.bristol_line.specs.ByValue.{circuit_line_of};
 ghost use Rattle.bristol.specs.Text.{gate_lines};
 ghost use Rattle.bristol.specs.Writing as Writing;
-ghost use Rattle.bristol.specs.Writing.{circuit_checks, line_at, written_line, line_code, line_numbers, filled_line, lines_written_from, written_lines};
+ghost use Rattle.bristol.specs.Writing.{
+  circuit_checks,
+  line_at,
+  written_line,
+  line_code,
+  line_numbers,
+  filled_line,
+  lines_written_from,
+  written_lines,
+};
 ghost use Rattle.bristol.specs.Writing.{lines_code, lines_numbers, filled_lines};
 
 use bristol_line::CircuitLine;

@@ -100,7 +100,8 @@ same_row ls ks h = ap₂ (λ (p q : ℕ). record { positive = p; negative = q })
 -- ---- literals added from the first on
 
 -- of literals that the words have bits for, all are added
-bits-with : (s : Bool) (i : ℕ) (r : Row) (ls : List Literal) → below 32 ls ≡ true → bit (word_for s (with_literals r ls)) i ≡ bit (word_for s r) i || holds s i ls
+bits-with : (s : Bool) (i : ℕ) (r : Row) (ls : List Literal) → below 32 ls ≡ true
+    → bit (word_for s (with_literals r ls)) i ≡ bit (word_for s r) i || holds s i ls
 bits-with s i r [] h = sym (or-false (bit (word_for s r) i))
 bits-with s i r (l ∷ ls) h =
     rw (and_l (ltb l.bit 32) (below 32 ls) h)

@@ -47,4 +47,5 @@ row_checks n rows planes words = buffer_checks n rows words (length planes) ++ c
 -- the lent table afterwards: the rows of the planes, then what was there; refused, as it was
 unfoldable pub rows_after : ℕ → ℕ → List ℕ → List ℕ → List ℕ
 unfolding stray table_from
-rows_after n rows planes table = given (outcome (row_checks n rows planes (length table))) (sets table 0 (table_from rows planes)) (λ r. table)
+rows_after n rows planes table = given (outcome (row_checks n rows planes (length table))) (sets table 0 (table_from rows planes))
+    (λ r. table)

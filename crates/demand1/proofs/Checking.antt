@@ -87,7 +87,8 @@ proof_same d tables text =
     let proof = proof_named d.n text in λ i. proof_call (checks i) (rows i) (proof i)
 
 pub of_check_proof : Demand1 check_proof
-unfolding proof_of proof_lines line_said clause_in has_break clauses parts_from cut not_empty run number_read decimal_of digits_after put additions all_follow adds_empty
+unfolding proof_of proof_lines line_said clause_in has_break clauses parts_from cut not_empty run number_read decimal_of digits_after put additions all_follow
+    adds_empty
     without follows reaches padding satisfied free_literals unsatisfied_with any_row forced_variable forced_true any count lowest bit all_below
 of_check_proof =
     whole check_proof
@@ -151,7 +152,8 @@ game_named text =
     (λ e. ap game_text (sym (text_whole text e)))
 
 game_occurs : map (λ a. (judge_game.call a).returned) judge_game.examples ≡ 0 ∷ judge_game.numbers
-unfolding game_text without_remarks lines_of kept header_of past_remarks parts_from cut not_empty run trimmed same clauses number_read decimal_of digits_after put
+unfolding game_text without_remarks lines_of kept header_of past_remarks parts_from cut not_empty run trimmed same clauses number_read decimal_of digits_after
+    put
     bound_on prefix_of behind_prefix tokens_on game_turns
 game_occurs = rw overlong-true
 

@@ -63,7 +63,8 @@ module _ (d : Dimensions) (tables : Tables) (text_of_left text_of_right : List �
       ∷ check (not (has_clause d (table_of 1 text_of_left) (table_of 1 text_of_right) row)) NoClause ∷ []
 
   texts-exact : overlong text_of_left || overlong text_of_right ≡ false
-      → outcome (text_checks d (table_of 1 text_of_left) (table_of 1 text_of_right) row) ≡ outcome (read_judged 1 text_of_left ++ (read_judged 1 text_of_right ++ last))
+      → outcome (text_checks d (table_of 1 text_of_left) (table_of 1 text_of_right) row)
+      ≡ outcome (read_judged 1 text_of_left ++ (read_judged 1 text_of_right ++ last))
   texts-exact e =
       let l = table_of 1 text_of_left in
       let r = table_of 1 text_of_right in
@@ -80,13 +81,23 @@ module _ (d : Dimensions) (tables : Tables) (text_of_left text_of_right : List �
       on (overlong text_of_left || overlong text_of_right)
       (λ e. rw e)
       (λ e. ap (λ (o : Outcome). cond (overlong text_of_left || overlong text_of_right) (Refused Text) o)
-      (outcome-then (table_checks d tables) (text_checks d (table_of 1 text_of_left) (table_of 1 text_of_right) row) (outcome (table_checks d tables)) _ refl (texts-exact e)
+      (outcome-then (table_checks d tables) (text_checks d (table_of 1 text_of_left) (table_of 1 text_of_right) row) (outcome (table_checks d tables)) _ refl
+      (texts-exact e)
       ∙ sym (outcome_append (table_checks d tables) (read_judged 1 text_of_left ++ (read_judged 1 text_of_right ++ last)))))
 
   -- and the words named are judged as all are
-  excerpt-checked : excerpt_checks d tables text_of_left text_of_right row ≡ excerpt_checks d (named_tables d tables) (named_text text_of_left) (named_text text_of_right) row
+  excerpt-checked : excerpt_checks d tables text_of_left text_of_right row
+      ≡ excerpt_checks d (named_tables d tables) (named_text text_of_left) (named_text text_of_right) row
   excerpt-checked =
-      rw (← named-short d tables, ← named-high d tables, ← text_named text_of_left, ← text_named text_of_right, table-named 1 text_of_left, table-named 1 text_of_right)
+      rw (
+        ← named-short d tables,
+        ← named-high d tables,
+        ← text_named text_of_left,
+        ← text_named text_of_right,
+        table-named 1 text_of_left,
+        table-named 1
+            text_of_right,
+      )
 
   -- ---- the place
 
@@ -100,7 +111,8 @@ module _ (d : Dimensions) (tables : Tables) (text_of_left text_of_right : List �
     right_whole : named_text text_of_right ≡ text_of_right
     right_whole = text_whole text_of_right (or_r (overlong text_of_left) (overlong text_of_right) texts_fit)
 
-    place-cut : clause_place d tables text_of_left text_of_right row ≡ clause_place d (named_tables d tables) (named_text text_of_left) (named_text text_of_right) row
+    place-cut : clause_place d tables text_of_left text_of_right row
+        ≡ clause_place d (named_tables d tables) (named_text text_of_left) (named_text text_of_right) row
     unfolding clause_place
     place-cut =
         let a = asked d tables text_of_left text_of_right row h in
@@ -113,7 +125,8 @@ module _ (d : Dimensions) (tables : Tables) (text_of_left text_of_right : List �
         (sym (front-row tables.right (2 * d.right) (row - d.left - 1) (omega (arith, a.most)))) (sym right_whole)))
 
     bytes_cut : bytes_at text_of_left text_of_right (clause_place d tables text_of_left text_of_right row)
-        ≡ bytes_at (named_text text_of_left) (named_text text_of_right) (clause_place d (named_tables d tables) (named_text text_of_left) (named_text text_of_right) row)
+        ≡ bytes_at (named_text text_of_left) (named_text text_of_right)
+        (clause_place d (named_tables d tables) (named_text text_of_left) (named_text text_of_right) row)
     bytes_cut =
         ap (bytes_at text_of_left text_of_right) place-cut
         ∙ ap₂ (λ (l r : List ℕ). bytes_at l r (clause_place d (named_tables d tables) (named_text text_of_left) (named_text text_of_right) row))
@@ -125,7 +138,8 @@ module _ (d : Dimensions) (tables : Tables) (text_of_left text_of_right : List �
       given-same (outcome (excerpt_checks d tables text_of_left text_of_right row)) _ _ _ placed'.Refused (ap outcome excerpt-checked)
       (λ h. ap placed'.Of (place-cut h))
 
-  part_cut : clause_bytes d tables text_of_left text_of_right row ≡ clause_bytes d (named_tables d tables) (named_text text_of_left) (named_text text_of_right) row
+  part_cut : clause_bytes d tables text_of_left text_of_right row
+      ≡ clause_bytes d (named_tables d tables) (named_text text_of_left) (named_text text_of_right) row
   unfolding clause_bytes
   part_cut =
       given-same (outcome (excerpt_checks d tables text_of_left text_of_right row)) _ _ _ (λ r. []) (ap outcome excerpt-checked)
@@ -148,7 +162,8 @@ first-same (d, tables, text_of_left, text_of_right, row) h =
 -- ---- the place
 
 clause_occurs : map (λ a. (place_clause.call a).returned) place_clause.examples ≡ 0 ∷ place_clause.numbers
-unfolding placed table_of without_remarks lines_of kept header_of past_remarks parts_from cut not_empty run trimmed same clauses number_read decimal_of digits_after put
+unfolding placed table_of without_remarks lines_of kept header_of past_remarks parts_from cut not_empty run trimmed same clauses number_read decimal_of
+    digits_after put
     all_below
 clause_occurs = rw overlong-true
 
@@ -160,7 +175,8 @@ of_clause =
       judged = λ ((d, tables, text_of_left, text_of_right, row), place).
           let p : Outcome → Placed = λ o. given o (placed'.Of (clause_place d tables text_of_left text_of_right row)) placed'.Refused in
           rejudged (clause_judged d tables text_of_left text_of_right row) (clause_exact d tables text_of_left text_of_right row)
-          (by-outcome (excerpt_checks d tables text_of_left text_of_right row) (place ∷ []) (λ o. placed_code (p o)) (λ o. numbers_or (placed_numbers (p o)) place ∷ [])
+          (by-outcome (excerpt_checks d tables text_of_left text_of_right row) (place ∷ []) (λ o. placed_code (p o))
+          (λ o. numbers_or (placed_numbers (p o)) place ∷ [])
           refl (λ r. refl) (λ r. refl));
       order = λ a. refl;
       occurs = clause_occurs;
@@ -205,7 +221,8 @@ module _ (d : Dimensions) (tables : Tables) (text_of_left text_of_right : List �
       (sym (take-append-drop (length part) bytes))
 
 excerpt-occurs : map (λ a. (excerpt.call a).returned) excerpt.examples ≡ 0 ∷ excerpt.numbers
-unfolding clause_bytes clause_place clause_of skip tokens_past blanked table_of without_remarks lines_of kept header_of past_remarks parts_from cut not_empty run trimmed
+unfolding clause_bytes clause_place clause_of skip tokens_past blanked table_of without_remarks lines_of kept header_of past_remarks parts_from cut not_empty
+    run trimmed
     same clauses number_read decimal_of digits_after put all_below
 excerpt-occurs = rw overlong-true
 
@@ -217,7 +234,8 @@ of_excerpt =
       judged = λ ((d, tables, text_of_left, text_of_right, row), bytes, number).
           by-held (excerpt.call ((d, tables, text_of_left, text_of_right, row), bytes, number)).judged (bytes ∷ number ∷ [])
           (excerpt_in d tables text_of_left text_of_right row bytes)
-          (λ o. part_after o (clause_bytes d tables text_of_left text_of_right row) bytes ∷ length_after o (clause_bytes d tables text_of_left text_of_right row) number ∷ [])
+          (λ o. part_after o (clause_bytes d tables text_of_left text_of_right row) bytes
+          ∷ length_after o (clause_bytes d tables text_of_left text_of_right row) number ∷ [])
           (excerpt-exact d tables text_of_left text_of_right row bytes) (λ r. refl);
       order = λ a. refl;
       occurs = excerpt-occurs;

@@ -34,7 +34,8 @@ front-short k l = front-within k k l (omega arith)
 
 -- a front's row
 pub front-row : (words : List ℕ) (k i : ℕ) → 2 * i + 1 < k → row_at (take k words) i ≡ row_at words i
-front-row words k i h = ap₂ (λ (p q : ℕ). record { positive = p; negative = q }) (get_or-take k words (2 * i) 0 (omega arith)) (get_or-take k words (2 * i + 1) 0 h)
+front-row words k i h = ap₂ (λ (p q : ℕ). record { positive = p; negative = q }) (get_or-take k words (2 * i) 0 (omega arith))
+    (get_or-take k words (2 * i + 1) 0 h)
 
 front-rows : (words : List ℕ) (k i c : ℕ) → 2 * (i + c) ≤ k → rows_from (take k words) i c ≡ rows_from words i c
 front-rows words k i zero h = refl

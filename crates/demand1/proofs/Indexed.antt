@@ -55,7 +55,8 @@ of_unsatisfied =
     (by-sizes unsatisfied (λ a. a.0) (λ (d, tables, run, number) h i. (h i, tables, run, number)) (λ a. refl) (λ a. refl) (λ a. refl))
     (λ (d, tables, run, number).
     let c : Outcome → Counted = λ o. given o (counted'.Of (unsatisfied_rows d.n (rows_of d tables) (run_in run).t (run_in run).f)) counted'.Refused in
-    by-outcome (table_checks d tables ++ state_checks d (run_in run)) (number ∷ []) (λ o. counted_code (c o)) (λ o. numbers_or (counted_numbers (c o)) number ∷ [])
+    by-outcome (table_checks d tables ++ state_checks d (run_in run)) (number ∷ []) (λ o. counted_code (c o))
+    (λ o. numbers_or (counted_numbers (c o)) number ∷ [])
     refl (λ r. refl) (λ r. refl))
     (λ a. refl) refl (λ a. refl)
     (λ (d, tables, run, number). rw (← named-short d tables, ← named-high d tables, ← named-rows d tables))
@@ -76,7 +77,8 @@ of_step_indexed =
     (by-sizes step_indexed (λ a. a.0) (λ (d, tables, index, run, number) h i. (h i, tables, index, run, number)) (λ a. refl) (λ a. refl) (λ a. refl))
     (λ (d, tables, index, run, number).
     let s : Outcome → SteppedIndexed = λ o. stepped_by o d.n (rows_of d tables) (run_in run) number in
-    by-outcome (table_checks d tables ++ indexed_checks d.n (rows_of d tables) index (run_in run) number) (run ∷ (number ∷ []) ∷ []) (λ o. code_of (s o).outcome)
+    by-outcome (table_checks d tables ++ indexed_checks d.n (rows_of d tables) index (run_in run) number) (run ∷ (number ∷ []) ∷ [])
+    (λ o. code_of (s o).outcome)
     (λ o. stored_if (s o).outcome (s o).run run ∷ ((s o).number ∷ []) ∷ []) refl (λ r. refl) (λ r. refl))
     (λ a. refl) step_indexed_occurs (λ a. refl)
     (λ (d, tables, index, run, number). rw (← named-short d tables, ← named-high d tables, ← named-rows d tables))
@@ -105,7 +107,8 @@ module _ (ruling : Ruling) (d : Dimensions) (tables : Tables) (times : ℕ) (run
   continued-named = rw (← named-short d tables, ← named-high d tables, ← named-rows d tables)
 
   continue-same : continue_call (table_checks d tables ++ state_checks d (run_in run)) (continued_with ruling d tables times (run_in run))
-      ≡ continue_call (table_checks d (named_tables d tables) ++ state_checks d (run_in run)) (continued_with ruling d (named_tables d tables) times (run_in run))
+      ≡ continue_call (table_checks d (named_tables d tables) ++ state_checks d (run_in run))
+      (continued_with ruling d (named_tables d tables) times (run_in run))
   continue-same = ap₂ (λ (cs : List Check) (c : Continued). continue_call (cs ++ state_checks d (run_in run)) c) (sym (named-checks d tables)) continued-named
 
 pub of_continue : Demand1 continue

@@ -116,7 +116,8 @@ pair-first left right public line =
     ∙ printed_by refusal_text (three_judged left right public ++ line_judged line) (pair.answer (left, right, public, line))
 
 pair-occurs : map (λ a. first_number (pair.judged a)) pair.examples ≡ 0 ∷ pair.numbers
-unfolding first_number field_of table_of without_remarks lines_of kept header_of past_remarks parts_from cut not_empty run trimmed same clauses number_read decimal_of
+unfolding first_number field_of table_of without_remarks lines_of kept header_of past_remarks parts_from cut not_empty run trimmed same clauses number_read
+    decimal_of
     digits_after put
 pair-occurs = rw overlong-true
 
@@ -139,7 +140,8 @@ module _ (t : TextTables) where
 
   whole_by : (b : Budget) → Fair' b → (o : Outcome) → t.outcome ≡ o
       → solved_text t.n (given t.outcome (whole_answered t b) solved'.Refused)
-      ≡ given (given o (outcome (check (not (eqb (budget_code b) 0)) NumberLine ∷ served_checks (dimensions_of t) (steps_in b))) Refused) (whole_for b) refusal_text
+      ≡ given (given o (outcome (check (not (eqb (budget_code b) 0)) NumberLine ∷ served_checks (dimensions_of t) (steps_in b))) Refused) (whole_for b)
+      refusal_text
   whole_by b f (Refused r) e = ap (λ (o : Outcome). solved_text t.n (given o (whole_answered t b) solved'.Refused)) e
   whole_by b of_line Taken e = ap (λ (o : Outcome). solved_text t.n (given o (whole_answered t b) solved'.Refused)) e
   whole_by b (budgeted steps) Taken e =
@@ -165,7 +167,8 @@ module _ (left right public line : List ℕ) where
       ∙ printed_by refusal_text (three_judged left right public ++ last) (whole_program.answer (left, right, public, line))
 
 whole-occurs : map (λ a. first_number (whole_program.judged a)) whole_program.examples ≡ 0 ∷ whole_program.numbers
-unfolding first_number field_of table_of without_remarks lines_of kept header_of past_remarks parts_from cut not_empty run trimmed same clauses number_read decimal_of
+unfolding first_number field_of table_of without_remarks lines_of kept header_of past_remarks parts_from cut not_empty run trimmed same clauses number_read
+    decimal_of
     digits_after put
 whole-occurs = rw overlong-true
 

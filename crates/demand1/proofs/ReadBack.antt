@@ -36,7 +36,8 @@ unfolding read_back
 read-outcome n bytes = go (outcome (read_checks n bytes))
   where
     go : (o : Outcome)
-        → (given {A = Read} o (record { outcome = Taken; run = Unpacking.run_in n bytes }) (λ r. record { outcome = Refused r; run = run_of n fresh })).outcome ≡ o
+        → (given {A = Read} o (record { outcome = Taken; run = Unpacking.run_in n bytes }) (λ r. record { outcome = Refused r; run = run_of n fresh })).outcome
+        ≡ o
     go Taken = refl
     go (Refused r) = refl
 
@@ -93,6 +94,7 @@ of_read-back =
       order = λ a. refl;
       occurs = refl;
       split = λ a. refl;
-      checked = λ (n, bytes, run). sym (read-outcome n bytes) ∙ ap (λ (r : Read). r.outcome) (front_read n bytes) ∙ read-outcome n (take (state_wire_count n) bytes);
+      checked = λ (n, bytes, run). sym (read-outcome n bytes) ∙ ap (λ (r : Read). r.outcome) (front_read n bytes)
+          ∙ read-outcome n (take (state_wire_count n) bytes);
       written = λ (n, bytes, run) h. ap (λ (r : Read). stored_if r.outcome r.run run ∷ []) (front_read n bytes);
     })

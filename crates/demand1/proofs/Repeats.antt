@@ -241,6 +241,7 @@ of_repeat =
       written = λ (d, tables, times, gates, bytes, wires, run, lent) h.
           ap₂ (λ (g : List ℕ) (l : List (List ℕ)). g ∷ l) (gates_kept d tables times gates bytes wires (run_in run) h)
           (ap₂ (λ (b : List ℕ) (l : List (List ℕ)). b ∷ l) (bytes-kept d tables times gates bytes wires (run_in run) h)
-          (ap₂ (λ (w : List ℕ) (r : Repeated). w ∷ repeat_stored r run ∷ repeat_numbers r lent ∷ []) (wires_kept d tables times gates bytes wires (run_in run) h)
+          (ap₂ (λ (w : List ℕ) (r : Repeated). w ∷ repeat_stored r run ∷ repeat_numbers r lent ∷ [])
+          (wires_kept d tables times gates bytes wires (run_in run) h)
           (repeated-cut d tables times gates bytes wires (run_in run) h)));
     })

@@ -120,7 +120,8 @@ module _ (ruling : Ruling) (d : Dimensions) (tables : Tables) (budget : ℕ) (an
   unfolding solved_with
   solved-judged =
       let s : Outcome → Solved = λ o. given o (solved'.Of (answer_with ruling d.n (always (rows_of d tables)) budget)) solved'.Refused in
-      by-outcome (table_checks d tables) (answer ∷ []) (λ o. solved_code (s o)) (λ o. numbers_or (solved_numbers (s o)) answer ∷ []) refl (λ r. refl) (λ r. refl)
+      by-outcome (table_checks d tables) (answer ∷ []) (λ o. solved_code (s o)) (λ o. numbers_or (solved_numbers (s o)) answer ∷ []) refl (λ r. refl)
+      (λ r. refl)
 
   pub solved-named : solved_with ruling d tables budget ≡ solved_with ruling d (named_tables d tables) budget
   unfolding solved_with

@@ -82,7 +82,8 @@ module _ (t : Texts) (lent : Tables) where
       (sym (take-append-drop (2 * t.public.rows) lent.public)))
 
 read-occurs : map (λ a. (read_tables.call a).returned) read_tables.examples ≡ 0 ∷ read_tables.numbers
-unfolding table_of without_remarks lines_of kept header_of past_remarks parts_from cut not_empty run trimmed same clauses number_read decimal_of digits_after put
+unfolding table_of without_remarks lines_of kept header_of past_remarks parts_from cut not_empty run trimmed same clauses number_read decimal_of digits_after
+    put
 read-occurs = rw overlong-true
 
 pub of_read-tables : Demand1 read_tables

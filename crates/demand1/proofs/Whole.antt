@@ -27,7 +27,16 @@ use Rattle.solver.specs.declared.Solved.{Solved}
 use Rattle.solver.specs.declared.Solved.TheVariants as solved
 use Rattle.solver.specs.Entries.{solved_code, solved_numbers}
 use Rattle.whole_budget.specs.Applications.{attempt_gives, applications, whole_answer_in, enough, whole_answer}
-use Rattle.whole_budget.specs.WholeBudget.{most_budget, whole_checks, cleared, whole_allowed, solved_whole, gates_after_whole, bytes_after_whole, wires_after_whole}
+use Rattle.whole_budget.specs.WholeBudget.{
+  most_budget,
+  whole_checks,
+  cleared,
+  whole_allowed,
+  solved_whole,
+  gates_after_whole,
+  bytes_after_whole,
+  wires_after_whole,
+}
 use Rattle.lent.specs.Lent.{numbers_or}
 use Rattle.demand1.specs.Calls.{beside}
 use Rattle.demand1.specs.Demand1.{Demand1}

@@ -72,7 +72,8 @@ replace_indexed = record {
   examples =
       let right = index_of (rows_of two padded) in
       let plain = index_of (rows_of two rows) in
-      (two, padded, fresh_words 2, first_left 2, right, 1) ∷ map (λ (d, tables). (d, tables, fresh_words 2, first_left 2, right, 1)) bad_tables
+      (two, padded, fresh_words 2, first_left 2, right, 1)
+      ∷ map (λ (d, tables). (d, tables, fresh_words 2, first_left 2, right, 1)) bad_tables
       ++ (two, padded, fresh_words 33, first_left 2, right, 1) ∷ (two, padded, fresh_words 2, first_left 2, array 384, 1)
       ∷ (two, padded, fresh_words 2, first_left 2, right, 3) ∷ (two, padded, fresh_words 3, first_left 2, right, 1)
       ∷ (two, rows, fresh_words 2, first_left 2, plain, 2) ∷ (two, padded, satisfied_words, first_left 2, right, 0)

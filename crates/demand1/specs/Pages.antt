@@ -52,7 +52,8 @@ read_page = record {
   named = λ (n, pilots, watches, page, model). (n, pilots, watches, take (80 * pilots) page, model);
   past = λ a. [];
   examples =
-      (2, 1, 2, page_of 1 2 1, array 1) ∷ (33, 1, 2, page_of 1 2 1, array 1) ∷ (2, 1, 3, page_of 1 2 1, array 1) ∷ (2, 1, 2, array 79, array 1)
+      (2, 1, 2, page_of 1 2 1, array 1) ∷ (33, 1, 2, page_of 1 2 1, array 1) ∷ (2, 1, 3, page_of 1 2 1, array 1)
+      ∷ (2, 1, 2, array 79, array 1)
       ∷ (2, 1, 2, array 80, array 1) ∷ [];
 }
 

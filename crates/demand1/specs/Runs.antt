@@ -42,7 +42,12 @@ sizes = record {
 -- forkhemit_accept
 abbrev pub accept : Entry (Dimensions × Tables)
 accept = record {
-  call = λ (d, tables). record { returned = code_of (outcome (table_checks d tables)); judged = table_checks d tables; lent = []; left = [] };
+  call = λ (d, tables). record {
+    returned = code_of (outcome (table_checks d tables));
+    judged = table_checks d tables;
+    lent = [];
+    left = [];
+  };
   in_bytes = λ (d, tables). (as_bytes d, tables);
   numbers = 1 ∷ 2 ∷ 4 ∷ 3 ∷ [];
   named = λ (d, tables). (d, named_tables d tables);

@@ -129,7 +129,8 @@ abbrev pub clause_in_bytes : ClauseAsked → ClauseAsked
 clause_in_bytes (d, tables, text_of_left, text_of_right, row) = (as_bytes d, tables, text_of_left, text_of_right, row)
 
 abbrev pub named_clause : ClauseAsked → ClauseAsked
-named_clause (d, tables, text_of_left, text_of_right, row) = (d, named_tables d tables, named_text text_of_left, named_text text_of_right, row)
+named_clause (d, tables, text_of_left, text_of_right, row) =
+    (d, named_tables d tables, named_text text_of_left, named_text text_of_right, row)
 
 -- a taken one, and one for each of 5, 1, 2, 4, 3, 1, 2, 5, 1, 2, 5, 6, 17
 abbrev pub good_clause : ClauseAsked
@@ -174,8 +175,12 @@ excerpt = record {
       };
   in_bytes = λ (c, bytes, number). (clause_in_bytes c, bytes, number);
   numbers = 5 ∷ 1 ∷ 2 ∷ 4 ∷ 3 ∷ 1 ∷ 2 ∷ 5 ∷ 1 ∷ 2 ∷ 5 ∷ 6 ∷ 17 ∷ 11 ∷ [];
-  named = λ ((d, tables, text_of_left, text_of_right, row), bytes, number).
-      (named_clause (d, tables, text_of_left, text_of_right, row), take (length (clause_bytes d tables text_of_left text_of_right row)) bytes, number);
+  named = λ ((d, tables, text_of_left, text_of_right, row), bytes, number). (
+    named_clause (d, tables, text_of_left, text_of_right, row),
+    take (length (clause_bytes d tables text_of_left text_of_right row))
+        bytes,
+    number,
+  );
   past = λ ((d, tables, text_of_left, text_of_right, row), bytes, number).
       drop (length (clause_bytes d tables text_of_left text_of_right row)) bytes ∷ [];
   examples = (good_clause, array 9, array 1) ∷ map (λ c. (c, array 9, array 1)) bad_clauses ++ (good_clause, array 1, array 1) ∷ [];

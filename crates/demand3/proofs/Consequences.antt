@@ -52,7 +52,8 @@ closed-step n rows s e = go _ s.standing e
     go next Refuted e = refl
 
 -- the run of the last repeat, by that of each
-last-by : (run : ℕ → Run) (h : List Repeat) → ((i : ℕ) (none : Repeat) → i < length h → (get_or h i none).run ≡ run (suc i)) → last_run (run 0) h ≡ run (length h)
+last-by : (run : ℕ → Run) (h : List Repeat) → ((i : ℕ) (none : Repeat) → i < length h → (get_or h i none).run ≡ run (suc i))
+    → last_run (run 0) h ≡ run (length h)
 unfolding last_run
 last-by run [] e = refl
 last-by run (r ∷ later) e =
@@ -185,7 +186,8 @@ module _ (d : Dimensions) (x : Demand3 d) where
           ∙ ap (λ (m : List Bool). (circuit_text_of d, a.count, m, answer_text (min d.n 32) a, public_in d tables)) e
 
     -- a host can always go on to the end
-    pub can_end : (k : ℕ) → (answer_for d tables budget).count ≤ k → repeats_ended budget (history_of d tables budget (attempts ++ replicate k (roomy d))) ≡ true
+    pub can_end : (k : ℕ) → (answer_for d tables budget).count ≤ k
+        → repeats_ended budget (history_of d tables budget (attempts ++ replicate k (roomy d))) ≡ true
     can_end k h =
         let enough : (answer_for d tables budget).count ≤ long_ones d (attempts ++ replicate k (roomy d)) = omega (arith, roomy-ones d attempts k) in
         (x.end tables acc budget (attempts ++ replicate k (roomy d))).1 enough

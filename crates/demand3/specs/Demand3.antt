@@ -98,5 +98,6 @@ pub record Demand3 (d : Dimensions) : Type 0 where
   -- count, each with attempts of its own
   pub secrecy : (tables tables' : ℕ → Tables) → AllAccepts d tables → AllAccepts d tables' → SamePublic d tables tables'
       → (budget : ℕ) (attempts attempts' : List Attempt) → answer_for d tables budget ≡ answer_for d tables' budget
-      → repeats_ended budget (history_of d tables budget attempts) ≡ true → repeats_ended budget (history_of d tables' budget attempts') ≡ true
+      → repeats_ended budget (history_of d tables budget attempts) ≡ true
+      → repeats_ended budget (history_of d tables' budget attempts') ≡ true
       → seen d tables budget attempts ≡ seen d tables' budget attempts'

@@ -18,7 +18,8 @@ use Rattle.dimacs.specs.Text.{table_of}
 
 -- the outcome, n, the row count and the first four words of a text with the least row count that it may have
 meaning_of : ℕ → String → List ℕ
-unfolding table_of without_remarks lines_of kept header_of past_remarks parts_from cut not_empty run trimmed same clauses number_read decimal_of digits_after put
+unfolding table_of without_remarks lines_of kept header_of past_remarks parts_from cut not_empty run trimmed same clauses number_read decimal_of digits_after
+    put
 meaning_of least s = let t = table_of least (bytes s) in code_of t.outcome ∷ (t.n ∷ (t.rows ∷ take 4 t.words))
 
 -- of a station's text

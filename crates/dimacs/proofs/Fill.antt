@@ -101,7 +101,8 @@ pub record Filling (n m : ℕ) (text : List ℕ) (start : ℕ) (words : List ℕ
   pub low : k ≤ m
   pub sized : length words ≡ 256
   pub counted : counts (m - k) (clauses_from n text at) ≡ counts m (clauses_from n text start)
-  pub filled : sets words (2 * k) (words_of_rows (clause_rows (clauses_from n text at))) ≡ sets (replicate 256 0) 0 (words_of_rows (clause_rows (clauses_from n text start)))
+  pub filled : sets words (2 * k) (words_of_rows (clause_rows (clauses_from n text at)))
+      ≡ sets (replicate 256 0) 0 (words_of_rows (clause_rows (clauses_from n text start)))
 
 pub empty : (n m : ℕ) (text : List ℕ) (start : ℕ) → Filling n m text start (replicate 256 0) start 0
 empty n m text start =

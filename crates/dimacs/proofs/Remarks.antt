@@ -33,18 +33,21 @@ same_body n m ts us e =
     ap₂ (λ (c : Bool) (rs : List Row). cond (c && eqb (length rs) m) (accepted_table n rs) (refused Text)) (complete-same n ts us e) (rows_same n ts us e)
 
 module _ (least : ℕ) (text : List ℕ) where
-  tokens_same : bytes_of (tokens_from (without_remarks text) (header_of least (without_remarks text)).end) ≡ bytes_of (tokens_past text (header_of least text).end)
+  tokens_same : bytes_of (tokens_from (without_remarks text) (header_of least (without_remarks text)).end)
+      ≡ bytes_of (tokens_past text (header_of least text).end)
   unfolding parts_from tokens_past
   tokens_same =
       let i = (header_of least (without_remarks text)).end in
       let end = (header_of least text).end in
       ap (λ (l : List ℕ). bytes_of (not_empty (cut is_separator i l))) (header_same least text).rest ∙ same_tokens end i (drop end text)
 
-  by-sizes : (x : HeaderNumbers) → from_header (without_remarks text) (header_of least (without_remarks text)).end x ≡ standing text (header_of least text).end x
+  by-sizes : (x : HeaderNumbers) → from_header (without_remarks text) (header_of least (without_remarks text)).end x
+      ≡ standing text (header_of least text).end x
   by-sizes (S.Refused r) = refl
   by-sizes (S.Of n m) =
       same_body n m (tokens_from (without_remarks text) (header_of least (without_remarks text)).end) (tokens_past text (header_of least text).end) tokens_same
 
   pub as_it_stands : plain_table least (without_remarks text) ≡ standing text (header_of least text).end (header_of least text).sizes
   as_it_stands =
-      ap (from_header (without_remarks text) (header_of least (without_remarks text)).end) (header_same least text).sizes ∙ by-sizes (header_of least text).sizes
+      ap (from_header (without_remarks text) (header_of least (without_remarks text)).end) (header_same least text).sizes
+      ∙ by-sizes (header_of least text).sizes

@@ -25,7 +25,8 @@ accepted_table n rs = record { outcome = Taken; n = n; rows = length rs; words =
 
 -- exactly m clauses that can all be read
 abbrev pub body_of : ℕ → ℕ → Reading → Table
-body_of n m reading = cond (complete reading && eqb (length (clause_rows reading)) m) (accepted_table n (clause_rows reading)) (refused Text)
+body_of n m reading = cond (complete reading && eqb (length (clause_rows reading)) m) (accepted_table n (clause_rows reading))
+    (refused Text)
 
 -- what a header leads to: its refusal, or the clauses after its line
 abbrev pub from_header : List ℕ → ℕ → HeaderNumbers → Table

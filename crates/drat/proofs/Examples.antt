@@ -34,7 +34,8 @@ abbrev tables : Tables
 tables = all_tables (3 ∷ (0 ∷ (1 ∷ (2 ∷ [])))) (2 ∷ (1 ∷ [])) (0 ∷ (3 ∷ []))
 
 code : String → ℕ
-unfolding proof_of proof_lines line_said clause_in has_break clauses parts_from cut not_empty run number_read decimal_of digits_after put additions all_follow adds_empty
+unfolding proof_of proof_lines line_said clause_in has_break clauses parts_from cut not_empty run number_read decimal_of digits_after put additions all_follow
+    adds_empty
     without follows reaches padding satisfied free_literals unsatisfied_with any_row forced_variable forced_true any count lowest bit all_below
 code text = code_of (outcome (proof_checks sizes tables (bytes text)))
 
@@ -86,6 +87,7 @@ abbrev row : ℕ → ℕ → Row
 row p q = record { positive = p; negative = q }
 
 four-rows : (a : ℕ → Bool) → all_true a (row 3 0 ∷ (row 1 2 ∷ (row 2 1 ∷ (row 0 3 ∷ [])))) ≡ false
-unfolding proof_of proof_lines line_said clause_in has_break clauses parts_from cut not_empty run number_read decimal_of digits_after put additions all_follow adds_empty
+unfolding proof_of proof_lines line_said clause_in has_break clauses parts_from cut not_empty run number_read decimal_of digits_after put additions all_follow
+    adds_empty
     without follows reaches padding satisfied free_literals unsatisfied_with any_row forced_variable forced_true any count lowest bit all_below
 four-rows = accepted-none sizes tables (bytes "1 0\n0\n") refl

@@ -52,7 +52,8 @@ module _ (n : ℕ) (text : List ℕ) where
       ap (λ (l : List ℕ). proof_lines n (later is_line_feed i l)) (drop_of_length-le text h) ∙ no_lines ∙ sym (past (i + 1) (omega arith)))
 
   first-line : (at k : ℕ) → k ≡ run in_line (drop at text)
-      → proof_lines n (lines_from text at) ≡ line_before (line_said n (take k (drop at text))) (proof_lines n (later is_line_feed (at + k) (drop (at + k) text)))
+      → proof_lines n (lines_from text at) ≡ line_before (line_said n (take k (drop at text)))
+      (proof_lines n (later is_line_feed (at + k) (drop (at + k) text)))
   unfolding proof_lines
   first-line at k e =
       ap (proof_lines n) (cut-first is_line_feed at (drop at text))

@@ -76,7 +76,8 @@ module _ (d : Dimensions) (tables : Tables) (text_of_left text_of_right : List �
   r = table_of 1 text_of_right
 
   -- an overlong text, before all else
-  pub overlong-refused : overlong text_of_left || overlong text_of_right ≡ true → Refused Text ≡ outcome (excerpt_checks d tables text_of_left text_of_right number)
+  pub overlong-refused : overlong text_of_left || overlong text_of_right ≡ true
+      → Refused Text ≡ outcome (excerpt_checks d tables text_of_left text_of_right number)
   overlong-refused h = rw h
 
   -- two texts that are not
@@ -85,7 +86,8 @@ module _ (d : Dimensions) (tables : Tables) (text_of_left text_of_right : List �
     behind = ap (λ (b : Bool). cond b (Refused Text) (outcome (table_checks d tables ++ text_checks d l r number))) fit
 
     -- what the tables are refused with, asking for a clause is refused with
-    pub tables-refused : (q : Refusal) → outcome (table_checks d tables) ≡ Refused q → Refused q ≡ outcome (excerpt_checks d tables text_of_left text_of_right number)
+    pub tables-refused : (q : Refusal) → outcome (table_checks d tables) ≡ Refused q
+        → Refused q ≡ outcome (excerpt_checks d tables text_of_left text_of_right number)
     tables-refused q e = sym (behind ∙ outcome-refused (table_checks d tables) (text_checks d l r number) q e)
 
     pub tables-taken : outcome (table_checks d tables) ≡ Taken → (left right : Table) → left ≡ l → right ≡ r

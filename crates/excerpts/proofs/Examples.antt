@@ -44,13 +44,15 @@ too_short = all_tables (5 ∷ (2 ∷ (0 ∷ []))) (2 ∷ (0 ∷ [])) (1 ∷ (0 �
 
 -- the bytes of a row's clause
 excerpt : Tables → String → String → ℕ → List ℕ
-unfolding clause_bytes clause_of skip tokens_past blanked table_of without_remarks lines_of kept header_of past_remarks parts_from cut not_empty run trimmed same clauses
+unfolding clause_bytes clause_of skip tokens_past blanked table_of without_remarks lines_of kept header_of past_remarks parts_from cut not_empty run trimmed
+    same clauses
     number_read decimal_of digits_after put all_below
 excerpt t l r number = clause_bytes sizes t (bytes l) (bytes r) number
 
 -- what asking for its place says: 0, station, start and length, or the refusal
 place : Tables → String → String → ℕ → List ℕ
-unfolding placed clause_place clause_of skip tokens_past blanked table_of without_remarks lines_of kept header_of past_remarks parts_from cut not_empty run trimmed same
+unfolding placed clause_place clause_of skip tokens_past blanked table_of without_remarks lines_of kept header_of past_remarks parts_from cut not_empty run
+    trimmed same
     clauses number_read decimal_of digits_after put all_below
 place t l r number = let p = placed sizes t (bytes l) (bytes r) number in placed_code p ∷ placed_numbers p
 

@@ -175,23 +175,27 @@ module _ (d : Dimensions) (tables : Tables) (text_of_left text_of_right : List �
 
   -- ---- the bytes
 
-  pub no_bytes : (q : Refusal) → placed'.Refused q ≡ placed d tables text_of_left text_of_right number → [] ≡ clause_bytes d tables text_of_left text_of_right number
+  pub no_bytes : (q : Refusal) → placed'.Refused q ≡ placed d tables text_of_left text_of_right number
+      → [] ≡ clause_bytes d tables text_of_left text_of_right number
   unfolding placed clause_bytes
   no_bytes q e = go (outcome (excerpt_checks d tables text_of_left text_of_right number)) e
     where
-      go : (o : Outcome) → placed'.Refused q ≡ answer o → [] ≡ given o (bytes_at text_of_left text_of_right (clause_place d tables text_of_left text_of_right number)) (λ r. [])
+      go : (o : Outcome) → placed'.Refused q ≡ answer o
+          → [] ≡ given o (bytes_at text_of_left text_of_right (clause_place d tables text_of_left text_of_right number)) (λ r. [])
       go Taken h = absurd (let z : ◌≡◌ {A = ℕ} 0 1 = cc in omega arith)
       go (outcomes.Refused r) h = refl
 
   module _ (p : Place) (e : placed'.Of p ≡ placed d tables text_of_left text_of_right number) where
     -- what is placed is the clause's place, and its bytes are there
-    both : (p ≡ clause_place d tables text_of_left text_of_right number) × (bytes_at text_of_left text_of_right p ≡ clause_bytes d tables text_of_left text_of_right number)
+    both : (p ≡ clause_place d tables text_of_left text_of_right number)
+        × (bytes_at text_of_left text_of_right p ≡ clause_bytes d tables text_of_left text_of_right number)
     unfolding placed clause_bytes
     both = go (outcome (excerpt_checks d tables text_of_left text_of_right number)) e
       where
         go : (o : Outcome) → placed'.Of p ≡ answer o
             → (p ≡ clause_place d tables text_of_left text_of_right number)
-            × (bytes_at text_of_left text_of_right p ≡ given o (bytes_at text_of_left text_of_right (clause_place d tables text_of_left text_of_right number)) (λ r. []))
+            × (bytes_at text_of_left text_of_right p ≡ given o (bytes_at text_of_left text_of_right (clause_place d tables text_of_left text_of_right number))
+            (λ r. []))
         go Taken h = let q : p ≡ clause_place d tables text_of_left text_of_right number = cc in (q, ap (bytes_at text_of_left text_of_right) q)
         go (outcomes.Refused r) h = absurd (let z : ◌≡◌ {A = ℕ} 0 1 = cc in omega arith)
 

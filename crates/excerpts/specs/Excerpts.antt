@@ -2,7 +2,29 @@
 -- first.
 -- Ask: Is a clause from its first literal through its 0, in the text as it is? What is given where the row has other words now? Is an
 -- overlong text first, and 17 last?
-use Rattle.std.specs.Prelude.{ℕ, zero, suc, ◌+◌, ◌-◌, Bool, true, not, ◌&&◌, ◌||◌, cond, List, [], ◌∷◌, ◌++◌, eqb, ltb, leb, length, take, drop}
+use Rattle.std.specs.Prelude.{
+  ℕ,
+  zero,
+  suc,
+  ◌+◌,
+  ◌-◌,
+  Bool,
+  true,
+  not,
+  ◌&&◌,
+  ◌||◌,
+  cond,
+  List,
+  [],
+  ◌∷◌,
+  ◌++◌,
+  eqb,
+  ltb,
+  leb,
+  length,
+  take,
+  drop,
+}
 use Rattle.refusals.specs.Numbers.{number_of}
 use Rattle.refusals.specs.Checks.{Check, check, outcome, given}
 use Rattle.refusals.specs.declared.Refusal.TheVariants.{Text, TextsDiffer, NoClause}

@@ -177,7 +177,8 @@ pub fn clause_place(
     number: u64,
 ) -> Placed
     ensures value { result ≡ placed d (lent_tables left right public) left_text.now right_text.now number }
-    ensures result_value { placed_code result ∷ placed_numbers result ≡ said (outcome (excerpt_checks d (lent_tables left right public) left_text.now
+    ensures result_value { placed_code result ∷ placed_numbers result
+        ≡ said (outcome (excerpt_checks d (lent_tables left right public) left_text.now
         right_text.now number)) (place_numbers (clause_place d (lent_tables left right public) left_text.now
         right_text.now number)) }
 {

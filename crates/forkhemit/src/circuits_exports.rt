@@ -42,7 +42,8 @@ pub extern "C" fn forkhemit_generate(
 ) -> u8
     ensures value { result ≡ generated_code (Generation.generated (host_dimensions n left_rows right_rows public_rows) gates.old) }
     ensures gates_after { gates.new ≡ Generation.written_words (host_dimensions n left_rows right_rows public_rows) gates.old }
-    ensures count_after { count.new ≡ numbers_or (generated_numbers (Generation.generated (host_dimensions n left_rows right_rows public_rows)
+    ensures count_after { count.new ≡ numbers_or
+        (generated_numbers (Generation.generated (host_dimensions n left_rows right_rows public_rows)
         gates.old)) count.old }
     ensures carried { Generation.Carried (host_dimensions n left_rows right_rows public_rows)
         (Generation.generated (host_dimensions n left_rows right_rows public_rows) gates.old) gates.new }
@@ -64,7 +65,8 @@ pub extern "C" fn forkhemit_pack(
     run: &[u32; 101],
     bytes: &mut [u8],
 ) -> u8
-    ensures value { result ≡ code_of (outcome (pack_checks (host_dimensions n left_rows right_rows public_rows) (lent_tables left right public)
+    ensures value { result ≡ code_of (outcome
+        (pack_checks (host_dimensions n left_rows right_rows public_rows) (lent_tables left right public)
         (run_in run.now) (length bytes.old))) }
     ensures bytes_after { bytes.new ≡ packed (host_dimensions n left_rows right_rows public_rows) (lent_tables left right public)
         (run_in run.now) bytes.old }

@@ -62,7 +62,8 @@ pub extern "C" fn forkhemit_excerpt<'a>(
 ) -> u8
     ensures value { result ≡ code_of (excerpt_in (host_dimensions n left_rows right_rows public_rows) (lent_tables left right public)
         left_text.now right_text.now row bytes.old) }
-    ensures bytes_after { bytes.new ≡ part_after (excerpt_in (host_dimensions n left_rows right_rows public_rows) (lent_tables left right public)
+    ensures bytes_after { bytes.new ≡ part_after
+        (excerpt_in (host_dimensions n left_rows right_rows public_rows) (lent_tables left right public)
         left_text.now right_text.now row bytes.old)
         (clause_bytes (host_dimensions n left_rows right_rows public_rows) (lent_tables left right public) left_text.now
         right_text.now row) bytes.old }

@@ -18,7 +18,8 @@ pub extern "C" fn forkhemit_step_explained(
     run: &mut [u32; 101],
     explanation: &mut [u64; 4],
 ) -> u8
-    ensures value { result ≡ code_of (explain_in (host_dimensions n left_rows right_rows public_rows) (lent_tables left right public) run.old
+    ensures value { result ≡ code_of (explain_in (host_dimensions n left_rows right_rows public_rows) (lent_tables left right public)
+        run.old
         ).outcome }
     ensures run_after { run.new ≡ run_after (explain_in (host_dimensions n left_rows right_rows public_rows) (lent_tables left right public)
         run.old) run.old }

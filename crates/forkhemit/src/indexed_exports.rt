@@ -23,7 +23,8 @@ pub extern "C" fn forkhemit_index(
     public: &[u32],
     index: &mut [u64; 384],
 ) -> u8
-    ensures value { result ≡ code_of (outcome (table_checks (host_dimensions n left_rows right_rows public_rows) (lent_tables left right public))) }
+    ensures value { result ≡ code_of (outcome
+        (table_checks (host_dimensions n left_rows right_rows public_rows) (lent_tables left right public))) }
     ensures index_after { index.new ≡ index_after (host_dimensions n left_rows right_rows public_rows) (lent_tables left right public)
         index.old }
 {
@@ -87,11 +88,13 @@ pub extern "C" fn forkhemit_step_indexed(
 ) -> u8
     ensures value { result ≡ code_of (indexed_step_in (host_dimensions n left_rows right_rows public_rows) (lent_tables left right public)
         index.now run.old number.old).outcome }
-    ensures run_after { run.new ≡ stored_if (indexed_step_in (host_dimensions n left_rows right_rows public_rows) (lent_tables left right public)
+    ensures run_after { run.new ≡ stored_if (indexed_step_in (host_dimensions n left_rows right_rows public_rows)
+        (lent_tables left right public)
         index.now run.old number.old).outcome
         (indexed_step_in (host_dimensions n left_rows right_rows public_rows) (lent_tables left right public) index.now
         run.old number.old).run run.old }
-    ensures number_after { number.new ≡ (indexed_step_in (host_dimensions n left_rows right_rows public_rows) (lent_tables left right public)
+    ensures number_after { number.new ≡ (indexed_step_in (host_dimensions n left_rows right_rows public_rows)
+        (lent_tables left right public)
         index.now run.old number.old).number ∷ [] }
 {
     host_indexed::forkhemit_step_indexed(
@@ -123,12 +126,15 @@ pub extern "C" fn forkhemit_continue(
     run: &mut [u32; 101],
     continued: &mut [u64; 2],
 ) -> u8
-    ensures value { result ≡ continued_code (continue_in (host_dimensions n left_rows right_rows public_rows) (lent_tables left right public) times
+    ensures value { result ≡ continued_code (continue_in (host_dimensions n left_rows right_rows public_rows)
+        (lent_tables left right public) times
         run.old) }
-    ensures run_after { run.new ≡ stored_if (continue_in (host_dimensions n left_rows right_rows public_rows) (lent_tables left right public)
+    ensures run_after { run.new ≡ stored_if (continue_in (host_dimensions n left_rows right_rows public_rows)
+        (lent_tables left right public)
         times run.old).outcome (continue_in (host_dimensions n left_rows right_rows public_rows)
         (lent_tables left right public) times run.old).run run.old }
-    ensures continued_after { continued.new ≡ numbers_or (continued_numbers (continue_in (host_dimensions n left_rows right_rows public_rows)
+    ensures continued_after { continued.new ≡ numbers_or
+        (continued_numbers (continue_in (host_dimensions n left_rows right_rows public_rows)
         (lent_tables left right public) times run.old)) continued.old }
 {
     host_indexed::forkhemit_continue(

@@ -1,4 +1,5 @@
-// The library for hosts in C and other languages, `libforkhemit.a`: what include/forkhemit.h declares, an export for each function of the host crates.
+// The library for hosts in C and other languages, `libforkhemit.a`: what include/forkhemit.h declares, an export for each function of the
+// host crates.
 #![tactic(auto)]
 
 mod circuits_exports;

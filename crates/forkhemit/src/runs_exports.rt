@@ -24,7 +24,8 @@ pub extern "C" fn forkhemit_accept(
     right: &[u32],
     public: &[u32],
 ) -> u8
-    ensures { result ≡ code_of (outcome (table_checks (host_dimensions n left_rows right_rows public_rows) (lent_tables left right public))) }
+    ensures { result ≡ code_of (outcome (table_checks (host_dimensions n left_rows right_rows public_rows)
+        (lent_tables left right public))) }
 {
     host_runs::forkhemit_accept(n, left_rows, right_rows, public_rows, left, right, public)
 }
@@ -59,7 +60,8 @@ pub extern "C" fn forkhemit_count_free(
     run: &[u32; 101],
     counts: &mut [u8],
 ) -> u8
-    ensures value { result ≡ code_of (outcome (count_checks (host_dimensions n left_rows right_rows public_rows) (lent_tables left right public)
+    ensures value { result ≡ code_of (outcome
+        (count_checks (host_dimensions n left_rows right_rows public_rows) (lent_tables left right public)
         (run_in run.now) (length counts.old))) }
     ensures counts_after { counts.new ≡ counts_after (host_dimensions n left_rows right_rows public_rows) (lent_tables left right public)
         (run_in run.now) counts.old }

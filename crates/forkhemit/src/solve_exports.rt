@@ -18,7 +18,8 @@ pub extern "C" fn forkhemit_solve(
     budget: u64,
     answer: &mut [u64; 3],
 ) -> u8
-    ensures value { result ≡ solved_code (solved (host_dimensions n left_rows right_rows public_rows) (lent_tables left right public) budget) }
+    ensures value { result ≡ solved_code (solved (host_dimensions n left_rows right_rows public_rows) (lent_tables left right public)
+        budget) }
     ensures answer_after { answer.new ≡ numbers_or (solved_numbers (solved (host_dimensions n left_rows right_rows public_rows)
         (lent_tables left right public) budget)) answer.old }
 {
@@ -48,7 +49,8 @@ pub extern "C" fn forkhemit_solve_indexed(
     budget: u64,
     answer: &mut [u64; 3],
 ) -> u8
-    ensures value { result ≡ solved_code (solved (host_dimensions n left_rows right_rows public_rows) (lent_tables left right public) budget) }
+    ensures value { result ≡ solved_code (solved (host_dimensions n left_rows right_rows public_rows) (lent_tables left right public)
+        budget) }
     ensures answer_after { answer.new ≡ numbers_or (solved_numbers (solved (host_dimensions n left_rows right_rows public_rows)
         (lent_tables left right public) budget)) answer.old }
 {

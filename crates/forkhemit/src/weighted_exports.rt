@@ -22,7 +22,8 @@ pub extern "C" fn forkhemit_step_weighted(
     public: &[u32],
     run: &mut [u32; 101],
 ) -> u8
-    ensures value { result ≡ code_of (stepped_with weighted_rule (host_dimensions n left_rows right_rows public_rows) (lent_tables left right public)
+    ensures value { result ≡ code_of (stepped_with weighted_rule (host_dimensions n left_rows right_rows public_rows)
+        (lent_tables left right public)
         (run_in run.old)).outcome }
     ensures run_after { run.new ≡ step_stored (stepped_with weighted_rule (host_dimensions n left_rows right_rows public_rows)
         (lent_tables left right public) (run_in run.old)) run.old }
@@ -52,9 +53,11 @@ pub extern "C" fn forkhemit_solve_weighted(
     budget: u64,
     answer: &mut [u64; 3],
 ) -> u8
-    ensures value { result ≡ solved_code (solved_with weighted_rule (host_dimensions n left_rows right_rows public_rows) (lent_tables left right public)
+    ensures value { result ≡ solved_code (solved_with weighted_rule (host_dimensions n left_rows right_rows public_rows)
+        (lent_tables left right public)
         budget) }
-    ensures answer_after { answer.new ≡ numbers_or (solved_numbers (solved_with weighted_rule (host_dimensions n left_rows right_rows public_rows)
+    ensures answer_after { answer.new ≡ numbers_or
+        (solved_numbers (solved_with weighted_rule (host_dimensions n left_rows right_rows public_rows)
         (lent_tables left right public) budget)) answer.old }
 {
     host_weighted::forkhemit_solve_weighted(

@@ -24,7 +24,8 @@ pub extern "C" fn forkhemit_solve_whole(
     wires: &mut [u8],
     answer: &mut [u64; 3],
 ) -> u8
-    ensures value { result ≡ solved_code (solved_whole (host_dimensions n left_rows right_rows public_rows) (lent_tables left right public) budget
+    ensures value { result ≡ solved_code (solved_whole (host_dimensions n left_rows right_rows public_rows) (lent_tables left right public)
+        budget
         gates.old bytes.old wires.old) }
     ensures gates_after { gates.new ≡ gates_after_whole (host_dimensions n left_rows right_rows public_rows) (lent_tables left right public)
         budget gates.old bytes.old wires.old }

@@ -62,7 +62,8 @@ pub fn count_free(
 ) -> Outcome
     ensures value { result ≡ outcome (count_checks d (lent_tables left right public) run (length counts.old)) }
     ensures counts_after { counts.new ≡ counts_after d (lent_tables left right public) run counts.old }
-    ensures result_value { code_of result ∷ [] ≡ said (outcome (count_checks d (lent_tables left right public) run (length counts.old))) [] }
+    ensures result_value { code_of result ∷ []
+        ≡ said (outcome (count_checks d (lent_tables left right public) run (length counts.old))) [] }
 {
     match check_counts(d, left, right, public, run, counts.len()) {
         Outcome::Taken => {}

@@ -25,7 +25,8 @@ use Rattle.game.proofs.Strategies.{forced_formula, formula_forced}
 use Rattle.game.proofs.Satisfiability.{text_unfixed, plain-forced, plain_satisfiable}
 
 meaning : String → GameText
-unfolding game_text without_remarks lines_of kept header_of past_remarks parts_from cut not_empty run trimmed same clauses number_read decimal_of digits_after put
+unfolding game_text without_remarks lines_of kept header_of past_remarks parts_from cut not_empty run trimmed same clauses number_read decimal_of digits_after
+    put
     bound_on prefix_of behind_prefix tokens_on game_turns
 meaning s = game_text (bytes s)
 

@@ -19,7 +19,8 @@ use Rattle.qdimacs.specs.Text.{game_turns, game_text}
 use Rattle.game.specs.Game.{forced, game_said}
 
 answer : String → List ℕ
-unfolding game_text without_remarks lines_of kept header_of past_remarks parts_from cut not_empty run trimmed same clauses number_read decimal_of digits_after put
+unfolding game_text without_remarks lines_of kept header_of past_remarks parts_from cut not_empty run trimmed same clauses number_read decimal_of digits_after
+    put
     bound_on prefix_of behind_prefix tokens_on game_turns forced all_true row_true all_rows any bit
 answer s = game_said (game_text (bytes s))
 

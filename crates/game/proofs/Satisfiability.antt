@@ -92,7 +92,8 @@ low_reading : (n : ℕ) (x : Reading) → is_below_all n x ≡ true → all_rows
 unfolding all_rows
 low_reading n (clause ls from to rest) e =
     let b = and_l (below n ls) (is_below_all n rest) e in
-    and_i (and_i (lt-ltb _ (2 ^ n) (row_lt n false ls b)) (lt-ltb _ (2 ^ n) (row_lt n true ls b))) (low_reading n rest (and_r (below n ls) (is_below_all n rest) e))
+    and_i (and_i (lt-ltb _ (2 ^ n) (row_lt n false ls b)) (lt-ltb _ (2 ^ n) (row_lt n true ls b)))
+    (low_reading n rest (and_r (below n ls) (is_below_all n rest) e))
 low_reading n ended e = refl
 low_reading n unreadable e = refl
 

@@ -40,7 +40,8 @@ module _ (text : List ℕ) (at : ℕ) where
   unfolding run_end
   lines_first =
       cut-first is_line_feed at (drop at text)
-      ∙ ap (λ (l : List ℕ). record { at = at; bytes = take (run in_line (drop at text)) (drop at text) } ∷ later is_line_feed (at + run in_line (drop at text)) l)
+      ∙ ap (λ (l : List ℕ). record { at = at; bytes = take (run in_line (drop at text)) (drop at text) }
+      ∷ later is_line_feed (at + run in_line (drop at text)) l)
       (drop-drop (run in_line (drop at text)) at text)
 
   module _ (h : at < length text) where

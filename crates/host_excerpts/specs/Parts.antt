@@ -23,4 +23,5 @@ length_after o part number = given o (length part ∷ []) (λ r. number)
 -- asking for a clause's bytes: what its place is refused with, then 11
 abbrev pub excerpt_in : Dimensions → Tables → List ℕ → List ℕ → ℕ → List ℕ → Outcome
 excerpt_in d tables text_of_left text_of_right row bytes =
-    outcome (excerpt_checks d tables text_of_left text_of_right row ++ room_checks (clause_bytes d tables text_of_left text_of_right row) bytes)
+    outcome (excerpt_checks d tables text_of_left text_of_right row
+    ++ room_checks (clause_bytes d tables text_of_left text_of_right row) bytes)

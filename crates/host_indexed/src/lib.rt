@@ -29,7 +29,8 @@ pub fn forkhemit_index(
     public: &[u32],
     index: &mut [u64; 384],
 ) -> u8
-    ensures value { result ≡ code_of (outcome (table_checks (host_dimensions n left_rows right_rows public_rows) (lent_tables left right public))) }
+    ensures value { result ≡ code_of (outcome
+        (table_checks (host_dimensions n left_rows right_rows public_rows) (lent_tables left right public))) }
     ensures index_after { index.new ≡ index_after (host_dimensions n left_rows right_rows public_rows) (lent_tables left right public)
         index.old }
 {
@@ -80,11 +81,13 @@ pub fn forkhemit_step_indexed(
 ) -> u8
     ensures value { result ≡ code_of (indexed_step_in (host_dimensions n left_rows right_rows public_rows) (lent_tables left right public)
         index.now run.old number.old).outcome }
-    ensures run_after { run.new ≡ stored_if (indexed_step_in (host_dimensions n left_rows right_rows public_rows) (lent_tables left right public)
+    ensures run_after { run.new ≡ stored_if (indexed_step_in (host_dimensions n left_rows right_rows public_rows)
+        (lent_tables left right public)
         index.now run.old number.old).outcome
         (indexed_step_in (host_dimensions n left_rows right_rows public_rows) (lent_tables left right public) index.now
         run.old number.old).run run.old }
-    ensures number_after { number.new ≡ (indexed_step_in (host_dimensions n left_rows right_rows public_rows) (lent_tables left right public)
+    ensures number_after { number.new ≡ (indexed_step_in (host_dimensions n left_rows right_rows public_rows)
+        (lent_tables left right public)
         index.now run.old number.old).number ∷ [] }
 {
     let d = codes::dimensions(n, left_rows, right_rows, public_rows);
@@ -131,12 +134,15 @@ pub fn forkhemit_continue(
     run: &mut [u32; 101],
     continued: &mut [u64; 2],
 ) -> u8
-    ensures value { result ≡ continued_code (continue_in (host_dimensions n left_rows right_rows public_rows) (lent_tables left right public) times
+    ensures value { result ≡ continued_code (continue_in (host_dimensions n left_rows right_rows public_rows)
+        (lent_tables left right public) times
         run.old) }
-    ensures run_after { run.new ≡ stored_if (continue_in (host_dimensions n left_rows right_rows public_rows) (lent_tables left right public)
+    ensures run_after { run.new ≡ stored_if (continue_in (host_dimensions n left_rows right_rows public_rows)
+        (lent_tables left right public)
         times run.old).outcome (continue_in (host_dimensions n left_rows right_rows public_rows)
         (lent_tables left right public) times run.old).run run.old }
-    ensures continued_after { continued.new ≡ numbers_or (continued_numbers (continue_in (host_dimensions n left_rows right_rows public_rows)
+    ensures continued_after { continued.new ≡ numbers_or
+        (continued_numbers (continue_in (host_dimensions n left_rows right_rows public_rows)
         (lent_tables left right public) times run.old)) continued.old }
 {
     let d = codes::dimensions(n, left_rows, right_rows, public_rows);

@@ -47,11 +47,14 @@ pub fn forkhemit_replace(
     positive: u32,
     negative: u32,
 ) -> u8
-    ensures value { result ≡ code_of (outcome (late_checks (host_dimensions n left_rows right_rows public_rows) (all_tables left.old right.old public.now)
+    ensures value { result ≡ code_of (outcome
+        (late_checks (host_dimensions n left_rows right_rows public_rows) (all_tables left.old right.old public.now)
         (run_in run.now) (condition_of station row positive negative))) }
-    ensures left_after { left.new ≡ (tables_after (host_dimensions n left_rows right_rows public_rows) (all_tables left.old right.old public.now)
+    ensures left_after { left.new ≡ (tables_after (host_dimensions n left_rows right_rows public_rows)
+        (all_tables left.old right.old public.now)
         (run_in run.now) (condition_of station row positive negative)).left }
-    ensures right_after { right.new ≡ (tables_after (host_dimensions n left_rows right_rows public_rows) (all_tables left.old right.old public.now)
+    ensures right_after { right.new ≡ (tables_after (host_dimensions n left_rows right_rows public_rows)
+        (all_tables left.old right.old public.now)
         (run_in run.now) (condition_of station row positive negative)).right }
 {
     let d = codes::dimensions(n, left_rows, right_rows, public_rows);
@@ -78,19 +81,24 @@ pub fn forkhemit_replace_indexed(
     index: &mut [u64; 384],
     number: &mut [u64; 1],
 ) -> u8
-    ensures value { result ≡ code_of (outcome (replace_checks (host_dimensions n left_rows right_rows public_rows) (all_tables left.old right.old public.now)
+    ensures value { result ≡ code_of (outcome
+        (replace_checks (host_dimensions n left_rows right_rows public_rows) (all_tables left.old right.old public.now)
         index.old (run_in run.now) (get_or number.old 0 0)
         (condition_of station row positive negative))) }
-    ensures left_after { left.new ≡ (tables_then (host_dimensions n left_rows right_rows public_rows) (all_tables left.old right.old public.now)
+    ensures left_after { left.new ≡ (tables_then (host_dimensions n left_rows right_rows public_rows)
+        (all_tables left.old right.old public.now)
         index.old (run_in run.now) (get_or number.old 0 0)
         (condition_of station row positive negative)).left }
-    ensures right_after { right.new ≡ (tables_then (host_dimensions n left_rows right_rows public_rows) (all_tables left.old right.old public.now)
+    ensures right_after { right.new ≡ (tables_then (host_dimensions n left_rows right_rows public_rows)
+        (all_tables left.old right.old public.now)
         index.old (run_in run.now) (get_or number.old 0 0)
         (condition_of station row positive negative)).right }
-    ensures index_after { index.new ≡ index_then (host_dimensions n left_rows right_rows public_rows) (all_tables left.old right.old public.now)
+    ensures index_after { index.new ≡ index_then (host_dimensions n left_rows right_rows public_rows)
+        (all_tables left.old right.old public.now)
         index.old (run_in run.now) (get_or number.old 0 0)
         (condition_of station row positive negative) }
-    ensures number_after { number.new ≡ number_then (host_dimensions n left_rows right_rows public_rows) (all_tables left.old right.old public.now)
+    ensures number_after { number.new ≡ number_then (host_dimensions n left_rows right_rows public_rows)
+        (all_tables left.old right.old public.now)
         index.old (run_in run.now) (get_or number.old 0 0)
         (condition_of station row positive negative) ∷ [] }
 {

@@ -85,7 +85,8 @@ pub extern "C" fn forkhemit_write_lines(
         bytes.old) }
     ensures bytes_after { bytes.new ≡ Writing.filled_lines (host_dimensions n left_rows right_rows public_rows) gates.now line
         bytes.old }
-    ensures written_after { written.new ≡ numbers_or (lines_numbers (Writing.written_lines (host_dimensions n left_rows right_rows public_rows)
+    ensures written_after { written.new ≡ numbers_or
+        (lines_numbers (Writing.written_lines (host_dimensions n left_rows right_rows public_rows)
         gates.now line bytes.old)) written.old }
 {
     let d = codes::dimensions(n, left_rows, right_rows, public_rows);

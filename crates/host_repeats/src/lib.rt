@@ -39,7 +39,8 @@ pub fn forkhemit_repeat(
         gates.old bytes.old wires.old (run_in run.old) }
     ensures wires_after { wires.new ≡ wires_after (host_dimensions n left_rows right_rows public_rows) (lent_tables left right public) times
         gates.old bytes.old wires.old (run_in run.old) }
-    ensures run_after { run.new ≡ repeat_stored (repeat_in (host_dimensions n left_rows right_rows public_rows) (lent_tables left right public)
+    ensures run_after { run.new ≡ repeat_stored
+        (repeat_in (host_dimensions n left_rows right_rows public_rows) (lent_tables left right public)
         times gates.old bytes.old wires.old run.old) run.old }
     ensures repeated_after { repeated.new ≡ repeat_numbers (repeat_in (host_dimensions n left_rows right_rows public_rows)
         (lent_tables left right public) times gates.old bytes.old wires.old run.old)

@@ -33,7 +33,8 @@ pub fn forkhemit_accept(
     right: &[u32],
     public: &[u32],
 ) -> u8
-    ensures { result ≡ code_of (outcome (table_checks (host_dimensions n left_rows right_rows public_rows) (lent_tables left right public))) }
+    ensures { result ≡ code_of (outcome (table_checks (host_dimensions n left_rows right_rows public_rows)
+        (lent_tables left right public))) }
 {
     let d = codes::dimensions(n, left_rows, right_rows, public_rows);
     codes::code(tables::accept(d, left, right, public))
@@ -79,7 +80,8 @@ pub fn forkhemit_count_free(
     run: &[u32; 101],
     counts: &mut [u8],
 ) -> u8
-    ensures value { result ≡ code_of (outcome (count_checks (host_dimensions n left_rows right_rows public_rows) (lent_tables left right public)
+    ensures value { result ≡ code_of (outcome
+        (count_checks (host_dimensions n left_rows right_rows public_rows) (lent_tables left right public)
         (run_in run.now) (length counts.old))) }
     ensures counts_after { counts.new ≡ counts_after (host_dimensions n left_rows right_rows public_rows) (lent_tables left right public)
         (run_in run.now) counts.old }

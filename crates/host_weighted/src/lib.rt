@@ -26,7 +26,8 @@ pub fn forkhemit_step_weighted(
     public: &[u32],
     run: &mut [u32; 101],
 ) -> u8
-    ensures value { result ≡ code_of (stepped_with weighted_rule (host_dimensions n left_rows right_rows public_rows) (lent_tables left right public)
+    ensures value { result ≡ code_of (stepped_with weighted_rule (host_dimensions n left_rows right_rows public_rows)
+        (lent_tables left right public)
         (run_in run.old)).outcome }
     ensures run_after { run.new ≡ step_stored (stepped_with weighted_rule (host_dimensions n left_rows right_rows public_rows)
         (lent_tables left right public) (run_in run.old)) run.old }
@@ -51,9 +52,11 @@ pub fn forkhemit_solve_weighted(
     budget: u64,
     answer: &mut [u64; 3],
 ) -> u8
-    ensures value { result ≡ solved_code (solved_with weighted_rule (host_dimensions n left_rows right_rows public_rows) (lent_tables left right public)
+    ensures value { result ≡ solved_code (solved_with weighted_rule (host_dimensions n left_rows right_rows public_rows)
+        (lent_tables left right public)
         budget) }
-    ensures answer_after { answer.new ≡ numbers_or (solved_numbers (solved_with weighted_rule (host_dimensions n left_rows right_rows public_rows)
+    ensures answer_after { answer.new ≡ numbers_or
+        (solved_numbers (solved_with weighted_rule (host_dimensions n left_rows right_rows public_rows)
         (lent_tables left right public) budget)) answer.old }
 {
     let d = codes::dimensions(n, left_rows, right_rows, public_rows);

@@ -125,7 +125,8 @@ pub fn continue_indexed(
     run: Run,
 ) -> Continued
     ensures value { result ≡ continued d (lent_tables left right public) times run }
-    ensures result_value { continued_code result ∷ continued_numbers result ≡ said (outcome (table_checks d (lent_tables left right public) ++ state_checks d run))
+    ensures result_value { continued_code result ∷ continued_numbers result
+        ≡ said (outcome (table_checks d (lent_tables left right public) ++ state_checks d run))
         (ran_numbers (run_from d.n (always (rows_of d (lent_tables left right public))) times (state_of run))) }
 {
     match solver::check_all(d, left, right, public, run) {
@@ -204,7 +205,8 @@ fn count_unsatisfied(
 // How many rows are unsatisfied under the run's T and F, whatever its standing; 1, 2, 4, 3, 12 or 13 if the call is refused.
 pub fn unsatisfied(d: Dimensions, left: &[u32], right: &[u32], public: &[u32], run: Run) -> Counted
     ensures value { result ≡ counted d (lent_tables left right public) run }
-    ensures result_value { counted_code result ∷ counted_numbers result ≡ said (outcome (table_checks d (lent_tables left right public) ++ state_checks d run))
+    ensures result_value { counted_code result ∷ counted_numbers result
+        ≡ said (outcome (table_checks d (lent_tables left right public) ++ state_checks d run))
         (unsatisfied_rows d.n (rows_of d (lent_tables left right public)) run.t run.f ∷ []) }
 {
     match tables::accept(d, left, right, public) {
@@ -276,7 +278,8 @@ pub fn check_indexed(
     run: Run,
     number: u64,
 ) -> Outcome
-    ensures value { result ≡ outcome (table_checks d (lent_tables left right public) ++ indexed_checks d.n (rows_of d (lent_tables left right public))
+    ensures value { result ≡ outcome (table_checks d (lent_tables left right public)
+        ++ indexed_checks d.n (rows_of d (lent_tables left right public))
         index.now run number) }
     ensures result_value { code_of result ∷ [] ≡ said (outcome (table_checks d (lent_tables left right public) ++ indexed_checks d.n
         (rows_of d (lent_tables left right public)) index.now run number)) [] }

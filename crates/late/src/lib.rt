@@ -121,7 +121,8 @@ pub fn replace(
     ensures value { result ≡ outcome (late_checks d (all_tables left.old right.old public.now) run condition) }
     ensures left_after { left.new ≡ (tables_after d (all_tables left.old right.old public.now) run condition).left }
     ensures right_after { right.new ≡ (tables_after d (all_tables left.old right.old public.now) run condition).right }
-    ensures result_value { code_of result ∷ [] ≡ said (outcome (late_checks d (all_tables left.old right.old public.now) run condition)) [] }
+    ensures result_value { code_of result ∷ []
+        ≡ said (outcome (late_checks d (all_tables left.old right.old public.now) run condition)) [] }
 {
     match check_condition(d, left, right, public, run, condition) {
         Outcome::Taken => {}

@@ -21,7 +21,8 @@ replace_checks d tables index run number c =
 
 -- the tables; refused, as they were
 unfoldable pub tables_then : Dimensions → Tables → List ℕ → Run → ℕ → Condition → Tables
-tables_then d tables index run number c = given (outcome (replace_checks d tables index run number c)) (replaced_in d tables c) (λ r. tables)
+tables_then d tables index run number c =
+    given (outcome (replace_checks d tables index run number c)) (replaced_in d tables c) (λ r. tables)
 
 -- the sets of rows of the tables as they are then; refused, the index as it was
 unfoldable pub index_then : Dimensions → Tables → List ℕ → Run → ℕ → Condition → List ℕ

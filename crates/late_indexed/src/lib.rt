@@ -74,7 +74,8 @@ pub fn replace_indexed(
     ensures left_after { left.new ≡ (tables_then d (all_tables left.old right.old public.now) index.old run number condition).left }
     ensures right_after { right.new ≡ (tables_then d (all_tables left.old right.old public.now) index.old run number condition).right }
     ensures index_after { index.new ≡ index_then d (all_tables left.old right.old public.now) index.old run number condition }
-    ensures outcome_value { code_of result.outcome ∷ [] ≡ said (outcome (replace_checks d (all_tables left.old right.old public.now) index.old run number
+    ensures outcome_value { code_of result.outcome ∷ []
+        ≡ said (outcome (replace_checks d (all_tables left.old right.old public.now) index.old run number
         condition)) [] }
 {
     match indexed::check_indexed(d, left, right, public, index, run, number) {

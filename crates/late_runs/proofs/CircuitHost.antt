@@ -276,7 +276,8 @@ module _ (d : Dimensions) where
 
 module _ (d : Dimensions) (tables : Tables) (acc : Accepts d tables) (budget : ℕ) (turns : List Turn) where
   -- the repeats of demand 3, over the tables as the conditions leave them
-  pub host-repeats : repeats_by d tables budget (run_of d.n fresh) turns ≡ history_of d (tables_at d tables (conditions_in d 0 turns)) budget (attempts_in d turns)
+  pub host-repeats : repeats_by d tables budget (run_of d.n fresh) turns
+      ≡ history_of d (tables_at d tables (conditions_in d 0 turns)) budget (attempts_in d turns)
   host-repeats = repeats-follow d turns tables acc budget fresh (fresh-well_formed d.n) refl
 
   -- so each repeat returned the state after as many steps of the plain run over the same replacements
@@ -316,7 +317,8 @@ module _ (d : Dimensions) (tables : Tables) (acc : Accepts d tables) (budget : �
   host-seen = ap (λ (h : List Repeat). (circuit_text_of d, length h, marks h, answer_text (min d.n 32) (answer_in d.n h))) host-repeats
 
 -- two hosts, each with turns of its own, that have ended and agree in verdict, model and count see the same, wherever their replacements fell
-pub hosts_alike : (d : Dimensions) (tables tables' : Tables) (acc : Accepts d tables) (acc' : Accepts d tables') → rows_of_public d tables ≡ rows_of_public d tables'
+pub hosts_alike : (d : Dimensions) (tables tables' : Tables) (acc : Accepts d tables) (acc' : Accepts d tables')
+    → rows_of_public d tables ≡ rows_of_public d tables'
     → (budget : ℕ) (turns turns' : List Turn) → plain_answer d tables acc budget turns ≡ plain_answer d tables' acc' budget turns'
     → repeats_ended budget (host_repeats d tables acc budget turns) ≡ true → repeats_ended budget (host_repeats d tables' acc' budget turns') ≡ true
     → host_sees d tables acc budget turns ≡ host_sees d tables' acc' budget turns'

@@ -95,7 +95,8 @@ module _ (d : Dimensions) where
   with_all tables [] = tables
   with_all tables (c ∷ more) = with_all (tables_with d tables c) more
 
-  all-from-first : (conditions : List Dated) (tables : Tables) (k : ℕ) → (between : List Condition) × (tables_at d tables conditions k ≡ with_all tables between)
+  all-from-first : (conditions : List Dated) (tables : Tables) (k : ℕ)
+      → (between : List Condition) × (tables_at d tables conditions k ≡ with_all tables between)
   unfolding tables_at
   all-from-first [] tables k = ([], refl)
   all-from-first (c ∷ more) tables k =

@@ -30,7 +30,8 @@ budget_said input r e =
     (e, ap says e ∙ said_field says (field_of 10 input) no _ _ (λ v rest. said_if says (short_line input rest) (budget.Of v) no))
 
 pub size-said : (input : List ℕ) (r : DimensionLine) → r ≡ dimension_line_of input
-    → (r ≡ dimension_line_of input) × (dimension_line_said r ≡ on_dimension_line input (8 ∷ []) (λ n left right public. 0 ∷ (n ∷ (left ∷ (right ∷ (public ∷ []))))))
+    → (r ≡ dimension_line_of input) × (dimension_line_said r
+    ≡ on_dimension_line input (8 ∷ []) (λ n left right public. 0 ∷ (n ∷ (left ∷ (right ∷ (public ∷ []))))))
 size-said input r e =
     let says : DimensionLine → List ℕ = dimension_line_said in
     let no = dimension.Refused NumberLine in (

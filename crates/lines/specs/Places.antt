@@ -20,7 +20,8 @@ field_end_at line at closing = end_of_field line (field_of closing (drop at line
 
 -- what the budget line's one field leads to
 abbrev pub budget_from : List ℕ → Field → Budget
-budget_from input f = on_field f (budget.Refused NumberLine) (λ v rest. cond (short_line input rest) (budget.Of v) (budget.Refused NumberLine))
+budget_from input f = on_field f (budget.Refused NumberLine)
+    (λ v rest. cond (short_line input rest) (budget.Of v) (budget.Refused NumberLine))
 
 -- what the dimension line comes to by its fourth field
 abbrev pub fourth_from : List ℕ → ℕ → ℕ → ℕ → Field → DimensionLine

@@ -61,7 +61,8 @@ module _ (W : ℕ → Bool) (a : Addresses) where
     abbrev count_wires : ℕ → ℕ → List ℕ
     count_wires j i = three (a.literals + 10 + row * j + 12 * i) (a.counts + counted * j + 6 * i) (a.counts + 1 + counted * j + 6 * i)
 
-    count_gate : (j i : ℕ) → j < m → i < n → (k x : ℕ) → k < 6 → x ≡ a.counts + counted * j + 2 + 6 * i + k → W x ≡ gate_on W (count_wires j i) Templates.count k
+    count_gate : (j i : ℕ) → j < m → i < n → (k x : ℕ) → k < 6 → x ≡ a.counts + counted * j + 2 + 6 * i + k
+        → W x ≡ gate_on W (count_wires j i) Templates.count k
     unfolding ordered
     count_gate j i h g = array_at W Templates.count refl 2 _ _ _ _ _ _ s.counts_hold j i h g (count_wires j i) (omega arith) refl
 

@@ -50,7 +50,8 @@ rule =
 abbrev pub split : List Gate
 split = AND 0 1 ∷ XOR 0 8 ∷ []
 
--- slots variable, set_f, push: gate 0 is whether it goes to F, gate 1 (`pushed`) whether it is pushed, gate 2 (`sets_t`) whether it goes to T
+-- slots variable, set_f, push: gate 0 is whether it goes to F, gate 1 (`pushed`) whether it is pushed, gate 2 (`sets_t`) whether it goes
+-- to T
 abbrev pub target : List Gate
 target = AND 0 1 ∷ AND 0 2 ∷ XOR 0 8 ∷ []
 

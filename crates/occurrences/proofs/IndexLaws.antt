@@ -43,7 +43,8 @@ module _ (rows : List Row) where
 
   pub index-length : length (index_of rows) ≡ 384
   unfolding index_of
-  index-length = length-append (sets_from true rows 0 32) (sets_from false rows 0 32) ∙ ap₂ (λ (x y : ℕ). x + y) (sets-length true 32 0) (sets-length false 32 0)
+  index-length = length-append (sets_from true rows 0 32) (sets_from false rows 0 32)
+      ∙ ap₂ (λ (x y : ℕ). x + y) (sets-length true 32 0) (sets-length false 32 0)
 
   module _ (v w : ℕ) (b : v < 32) (h : w < 6) where
     plain : 0 + v ≡ v
@@ -71,6 +72,7 @@ place true v = v
 place false v = 32 + v
 
 -- in either sign: word w of a literal's set is the index's word at 6 times the literal's number and w more, for a variable below 32 and w below 6
-pub literal-at : (rows : List Row) (sign : Bool) (v w : ℕ) → v < 32 → w < 6 → get_or (index_of rows) (6 * place sign v + w) 0 ≡ word_at (holds_literal sign v) rows w
+pub literal-at : (rows : List Row) (sign : Bool) (v w : ℕ) → v < 32 → w < 6
+    → get_or (index_of rows) (6 * place sign v + w) 0 ≡ word_at (holds_literal sign v) rows w
 literal-at rows true v w b h = positive-at rows v w b h
 literal-at rows false v w b h = negative-at rows v w b h

@@ -146,7 +146,8 @@ set_at q (x ∷ xs) (suc i) new (suc k) h =
     set_at q xs i new k (le_of_suc-le-suc h) ∙ ap (λ (b : Bool). at q xs k ⊕ (b && (q (get_or xs i empty) ⊕ q new))) (sym (eqb-suc-suc k i))
 
 -- the sets of all rows become those of the rows as they are then
-pub replaced-index : (rows : List Row) (i : ℕ) (new : Row) → i < length rows → replaced_sets (index_of rows) i (get_or rows i empty) new ≡ index_of (set rows i new)
+pub replaced-index : (rows : List Row) (i : ℕ) (new : Row) → i < length rows
+    → replaced_sets (index_of rows) i (get_or rows i empty) new ≡ index_of (set rows i new)
 unfolding replaced_sets
 replaced-index rows i new h =
     let old = get_or rows i empty in

@@ -27,7 +27,8 @@ module _ (p : ℕ → Bool) (b : ℕ) where
   from-length i [] = refl
   from-length i (w ∷ ws) = ap suc (from-length (suc i) ws)
 
-  from_at : (i : ℕ) (ws : List ℕ) (k : ℕ) → k < length ws → get_or (turned_from p b i ws) k 0 ≡ cond (p (i + k)) (bit_xor (get_or ws k 0) (2 ^ b)) (get_or ws k 0)
+  from_at : (i : ℕ) (ws : List ℕ) (k : ℕ) → k < length ws
+      → get_or (turned_from p b i ws) k 0 ≡ cond (p (i + k)) (bit_xor (get_or ws k 0) (2 ^ b)) (get_or ws k 0)
   unfolding turned_from
   from_at i [] k h = absurd (not-suc-le-zero h)
   from_at i (w ∷ ws) zero h = let z : i ≡ i + 0 = omega arith in ap (λ (x : ℕ). cond (p x) (bit_xor w (2 ^ b)) w) z

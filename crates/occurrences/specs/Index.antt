@@ -16,7 +16,8 @@ word_at p rows w = word_of (λ j. at p rows (64 * w + j)) 64
 
 -- the rows that pass, of at most 384
 abbrev pub row_set : (Row → Bool) → List Row → List ℕ
-row_set p rows = word_at p rows 0 ∷ (word_at p rows 1 ∷ (word_at p rows 2 ∷ (word_at p rows 3 ∷ (word_at p rows 4 ∷ (word_at p rows 5 ∷ [])))))
+row_set p rows = word_at p rows 0 ∷ (word_at p rows 1
+    ∷ (word_at p rows 2 ∷ (word_at p rows 3 ∷ (word_at p rows 4 ∷ (word_at p rows 5 ∷ [])))))
 
 -- the row holds the variable with this sign
 abbrev pub holds_literal : Bool → ℕ → Row → Bool

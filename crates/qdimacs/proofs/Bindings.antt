@@ -128,7 +128,8 @@ none-held n false p = refl
 -- The numbers from `start` on give what those from `at` on give with the variables so far.
 pub record Listing (line : List ℕ) (start n : ℕ) (u : Bool) (before : Prefix) (p : Prefix) (at : ℕ) : Type 0 where
   pub later : start ≤ at
-  pub whole : line_held n before (some_variable (bound_on u (parts_from is_blank line start))) ≡ rest_held n (ltb start at) p (bound_on u (parts_from is_blank line at))
+  pub whole : line_held n before (some_variable (bound_on u (parts_from is_blank line start)))
+      ≡ rest_held n (ltb start at) p (bound_on u (parts_from is_blank line at))
 
 pub listing : (line : List ℕ) (start n : ℕ) (u : Bool) (p : Prefix) → Listing line start n u p p start
 listing line start n u p = record { later = omega arith; whole = rw (le-ltb start start (omega arith)) refl }

@@ -29,7 +29,8 @@ numbers_of (game rows turns) = 0 ∷ (turn_numbers turns ++ words_of_rows rows)
 numbers_of (no_game r) = number_of r ∷ []
 
 meaning : String → List ℕ
-unfolding game_text without_remarks lines_of kept header_of past_remarks parts_from cut not_empty run trimmed same clauses number_read decimal_of digits_after put
+unfolding game_text without_remarks lines_of kept header_of past_remarks parts_from cut not_empty run trimmed same clauses number_read decimal_of digits_after
+    put
     bound_on prefix_of behind_prefix tokens_on game_turns
 meaning s = numbers_of (game_text (bytes s))
 

@@ -64,7 +64,8 @@ unfolding SameLines
 kept_lines bs = (same_lines bs).0
 
 cut_lines : (at : ℕ) (bs : List ℕ)
-    → (q : Piece) × (qs : List Piece) × (cut is_line_feed at bs ≡ q ∷ qs) × (q.bytes ≡ (line_cut no_token bs).line) × (token_lines qs ≡ (line_cut no_token bs).later)
+    → (q : Piece) × (qs : List Piece) × (cut is_line_feed at bs ≡ q ∷ qs) × (q.bytes ≡ (line_cut no_token bs).line)
+    × (token_lines qs ≡ (line_cut no_token bs).later)
 unfolding cut line_cut
 cut_lines at [] = (record { at = at; bytes = [] }, [], refl, refl, refl)
 cut_lines at (b ∷ bs) =

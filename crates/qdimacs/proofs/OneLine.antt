@@ -85,7 +85,8 @@ module _ (n : ℕ) (p : Prefix) (line : List ℕ) where
         → Clauses ≡ line_read n p line
     clauses-line q qs e h = sym (filled-line (ap no_piece e) ∙ ap (λ (t : Bool). cond t (line_held n p (variable_line line)) Clauses) h)
 
-    pub letter_line : (length line ≡ 0 → ⊥) → eqb (get_or line 0 0) 97 || eqb (get_or line 0 0) 101 ≡ true → line_read n p line ≡ line_held n p (variable_line line)
+    pub letter_line : (length line ≡ 0 → ⊥) → eqb (get_or line 0 0) 97 || eqb (get_or line 0 0) 101 ≡ true
+        → line_read n p line ≡ line_held n p (variable_line line)
     letter_line h e =
         filled-line (has_token line h (letter (get_or line 0 0) e)) ∙ ap (λ (t : Bool). cond t (line_held n p (variable_line line)) Clauses) e
       where

@@ -74,7 +74,8 @@ game_lines n m lines = game_on n m (prefix_of lines) (clauses n (tokens_on (behi
 -- "21 directly follows the header's 1 and 2 and comes before 5"
 abbrev pub game_behind : List ℕ → ℕ → HeaderNumbers → GameText
 game_behind text end (Refused r) = no_game r
-game_behind text end (Of n m) = cond (ltb most_game_variables n) (no_game GameVariables) (game_lines n m (lines_behind (lines_from text end)))
+game_behind text end (Of n m) = cond (ltb most_game_variables n) (no_game GameVariables)
+    (game_lines n m (lines_behind (lines_from text end)))
 
 -- the game of a text without remarks; it has 1 row or more
 abbrev pub plain_game : List ℕ → GameText

@@ -1,5 +1,30 @@
 -- Turns and the variables of a prefix as code holds them, in words. No entry's contract rests on this file.
-use Rattle.std.specs.Prelude.{ℕ, zero, suc, ◌+◌, ◌-◌, ◌*◌, ◌/◌, ◌%◌, ◌^◌, Bool, true, false, not, ◌||◌, cond, List, [], ◌∷◌, ◌++◌, eqb, ltb, leb, length, replicate}
+use Rattle.std.specs.Prelude.{
+  ℕ,
+  zero,
+  suc,
+  ◌+◌,
+  ◌-◌,
+  ◌*◌,
+  ◌/◌,
+  ◌%◌,
+  ◌^◌,
+  Bool,
+  true,
+  false,
+  not,
+  ◌||◌,
+  cond,
+  List,
+  [],
+  ◌∷◌,
+  ◌++◌,
+  eqb,
+  ltb,
+  leb,
+  length,
+  replicate,
+}
 use Rattle.std.proofs.Math.Option.{Option, none, some}
 use Rattle.words.specs.Booleans.{digit}
 use Rattle.words.specs.Sets.{bit, put}

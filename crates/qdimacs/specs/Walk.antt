@@ -58,7 +58,8 @@ walked n p (l ∷ ls) =
 
 -- what the prefix is answered with: its variables and the end of the line after which the clauses begin, or malformed
 abbrev pub PrefixEnds : List ℕ → Option Walked → PrefixEnd → Type 0
-PrefixEnds text w (At p at) = (w ≡ some (record { prefix = p; rest = lines_past text at })) × ((line_cut passed_by (drop at text)).line ≡ [])
+PrefixEnds text w (At p at) = (w ≡ some (record { prefix = p; rest = lines_past text at }))
+    × ((line_cut passed_by (drop at text)).line ≡ [])
 PrefixEnds text w Malformed = w ≡ none
 
 -- the game after a header of n and m that ends at a place of the text as it is

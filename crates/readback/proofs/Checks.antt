@@ -82,7 +82,8 @@ module _ (n : ℕ) (bytes : List ℕ) where
       (e, ap says e ∙ given-said says (outcome (read_checks n bytes)) whole (λ q. record { outcome = Refused q; run = run_of n fresh }) [] refl (λ q. refl))
 
   -- what comparing the packed run with the bytes found
-  pub found : (run : Run) (r : Bool) → run ≡ run_in n bytes → r ≡ well_formed run && same (bytes_of (state_bits n (state_of run))) (take (state_wire_count n) bytes)
+  pub found : (run : Run) (r : Bool) → run ≡ run_in n bytes
+      → r ≡ well_formed run && same (bytes_of (state_bits n (state_of run))) (take (state_wire_count n) bytes)
       → holds_state n bytes ≡ r
   unfolding holds_state
   found run r e q = sym (q ∙ ap (λ (x : Run). well_formed x && same (bytes_of (state_bits n (state_of x))) (take (state_wire_count n) bytes)) e)

@@ -81,7 +81,8 @@ module _ (n : ℕ) (s : State) (rest : List ℕ) (h : well_formed_state n s ≡ 
         within = rw (le-ltb n 1 a, le-ltb 32 n b)
 
 -- bytes that begin with those of a well-formed state are read back as its run: 12 is only where no well-formed state has such bytes
-pub read-front : (n : ℕ) (s : State) (bytes : List ℕ) → well_formed_state n s ≡ true → 1 ≤ n → n ≤ 32 → bytes_of (state_bits n s) ≡ take (state_wire_count n) bytes
+pub read-front : (n : ℕ) (s : State) (bytes : List ℕ) → well_formed_state n s ≡ true → 1 ≤ n → n ≤ 32
+    → bytes_of (state_bits n s) ≡ take (state_wire_count n) bytes
     → read_back n bytes ≡ record { outcome = Taken; run = run_of n s }
 read-front n s bytes h a b e =
     ap (read_back n) (sym (ap (λ (l : List ℕ). l ++ drop (state_wire_count n) bytes) e ∙ take-append-drop (state_wire_count n) bytes))

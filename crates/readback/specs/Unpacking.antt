@@ -49,4 +49,5 @@ run_in n bytes = run_of n (unpacked n (state_at n (λ k. wire_in bytes k)))
 -- bytes of a well-formed state: the run in them is one, and packed again it gives them back. So a byte other than 0 or 1, no depth wire or
 -- two, both closing bits or an unused level that is not zero are no such bytes.
 unfoldable pub holds_state : ℕ → List ℕ → Bool
-holds_state n bytes = well_formed (run_in n bytes) && same (bytes_of (state_bits n (state_of (run_in n bytes)))) (take (state_wire_count n) bytes)
+holds_state n bytes = well_formed (run_in n bytes)
+    && same (bytes_of (state_bits n (state_of (run_in n bytes)))) (take (state_wire_count n) bytes)

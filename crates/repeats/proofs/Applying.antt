@@ -138,7 +138,8 @@ module _ (d : Dimensions) (tables : Tables) (acc : Accepts d tables) (run : Run)
       few-handed handed h =
           let short : length (take handed outputs) < state_wire_count d.n = omega (arith, length-take handed outputs) in
           by_reading handed
-          ∙ ap (λ (x : Read). given x.outcome (record { outcome = Taken; run = x.run; mark = eqb (get_or outputs (state_wire_count d.n) 0) 1 }) (turned_back run))
+          ∙ ap (λ (x : Read). given x.outcome (record { outcome = Taken; run = x.run; mark = eqb (get_or outputs (state_wire_count d.n) 0) 1 })
+          (turned_back run))
           (let z = held.allowed.size in
           sym (no_room d.n (take handed outputs) (rw (le-ltb d.n 1 z.n_least, le-ltb 32 d.n z.n-most)) short))
 

@@ -56,45 +56,46 @@ pub record Ready (d : Dimensions) (tables : Tables) (bytes wires : List ℕ) : T
   pub room : input_wires d ≤ length bytes
   pub space : input_wires d + length (gates_on d) ≤ length wires
 
-module _ (d : Dimensions) (tables : Tables) (bytes wires : List ℕ) (y : Ready d tables bytes wires) (run : Run) (ok : outcome (state_checks d run) ≡ Taken) where
-  abbrev bits : List Bool
-  bits = input_bits d tables (state_of run)
+module _ (d : Dimensions) (tables : Tables) (bytes wires : List ℕ) (y : Ready d tables bytes wires) (run : Run) (ok : outcome (state_checks d run) ≡ Taken)
+  where
+    abbrev bits : List Bool
+    bits = input_bits d tables (state_of run)
 
-  abbrev values : List Bool
-  values = wires_of bits (gates_on d)
+    abbrev values : List Bool
+    values = wires_of bits (gates_on d)
 
-  bits-length : length (bytes_of bits) ≡ input_wires d
-  bits-length = length-map bits digit ∙ input_length d tables (state_of run)
+    bits-length : length (bytes_of bits) ≡ input_wires d
+    bits-length = length-map bits digit ∙ input_length d tables (state_of run)
 
-  values_length : length (bytes_of values) ≡ input_wires d + length (gates_on d)
-  values_length = length-map values digit ∙ wires_length bits (gates_on d) ∙ ap (λ (k : ℕ). k + length (gates_on d)) (input_length d tables (state_of run))
+    values_length : length (bytes_of values) ≡ input_wires d + length (gates_on d)
+    values_length = length-map values digit ∙ wires_length bits (gates_on d) ∙ ap (λ (k : ℕ). k + length (gates_on d)) (input_length d tables (state_of run))
 
-  packed-is : packed d tables run bytes ≡ over (bytes_of bits) bytes
-  packed-is = sym (pack-taken d tables run bytes (packs d tables y.accepts run ok bytes wires y.room))
+    packed-is : packed d tables run bytes ≡ over (bytes_of bits) bytes
+    packed-is = sym (pack-taken d tables run bytes (packs d tables y.accepts run ok bytes wires y.room))
 
-  filled_is : wires_after d tables (circuit_words d) run bytes wires ≡ over (bytes_of values) wires
-  filled_is = wires_are d tables y.accepts run ok bytes wires y.room y.space
+    filled_is : wires_after d tables (circuit_words d) run bytes wires ≡ over (bytes_of values) wires
+    filled_is = wires_are d tables y.accepts run ok bytes wires y.room y.space
 
-  -- what packing leaves agrees with what it found, from the inputs on
-  pub packed_agrees : Agree (input_wires d) (packed d tables run bytes) bytes
-  packed_agrees = rw packed-is (over_agrees (input_wires d) (bytes_of bits) bits-length bytes y.room)
+    -- what packing leaves agrees with what it found, from the inputs on
+    pub packed_agrees : Agree (input_wires d) (packed d tables run bytes) bytes
+    packed_agrees = rw packed-is (over_agrees (input_wires d) (bytes_of bits) bits-length bytes y.room)
 
-  -- and what evaluation leaves, from the last of the circuit's wires on
-  pub filled_agrees : Agree (input_wires d + length (gates_on d)) (wires_after d tables (circuit_words d) run bytes wires) wires
-  filled_agrees = rw filled_is (over_agrees (input_wires d + length (gates_on d)) (bytes_of values) values_length wires y.space)
+    -- and what evaluation leaves, from the last of the circuit's wires on
+    pub filled_agrees : Agree (input_wires d + length (gates_on d)) (wires_after d tables (circuit_words d) run bytes wires) wires
+    filled_agrees = rw filled_is (over_agrees (input_wires d + length (gates_on d)) (bytes_of values) values_length wires y.space)
 
-  -- the next run, whatever the buffers hold
-  abbrev pub next : State
-  next = step d.n (rows_of d tables) (state_of run)
+    -- the next run, whatever the buffers hold
+    abbrev pub next : State
+    next = step d.n (rows_of d tables) (state_of run)
 
-  -- an application gives the giant step and its mark
-  pub applied-is : applied d tables (circuit_words d) run bytes wires
-      (state_wire_count d.n + 1) ≡ record { outcome = Taken; run = run_of d.n next; mark = closed next }
-  applied-is = next-is d tables y.accepts run ok bytes wires y.room y.space (state_wire_count d.n + 1) (omega arith)
+    -- an application gives the giant step and its mark
+    pub applied-is : applied d tables (circuit_words d) run bytes wires
+        (state_wire_count d.n + 1) ≡ record { outcome = Taken; run = run_of d.n next; mark = closed next }
+    applied-is = next-is d tables y.accepts run ok bytes wires y.room y.space (state_wire_count d.n + 1) (omega arith)
 
-  pub next-fine : outcome (state_checks d (run_of d.n next)) ≡ Taken
-  next-fine = fine d tables y.accepts next
-      (step-well_formed d.n (rows_of d tables) (state_of run) (formed d tables y.accepts run ok bytes wires y.room))
+    pub next-fine : outcome (state_checks d (run_of d.n next)) ≡ Taken
+    next-fine = fine d tables y.accepts next
+        (step-well_formed d.n (rows_of d tables) (state_of run) (formed d tables y.accepts run ok bytes wires y.room))
 
 -- ---- other buffers in their place
 

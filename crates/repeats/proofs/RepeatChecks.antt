@@ -195,7 +195,8 @@ module _ (d : Dimensions) (tables : Tables) (times : ℕ) (gates bytes wires : L
 
   pub repeat-taken : outcome (repeat_checks d tables (length gates) (length bytes) (length wires) run) ≡ Taken
       → (x : Repeated) (g b w : List ℕ) → x ≡ repeated_by run (made d tables times bytes wires run) → g ≡ written_words d gates
-      → b ≡ bytes_left_by d tables bytes run (made d tables times bytes wires run) → w ≡ wires_left d tables bytes wires run (made d tables times bytes wires run)
+      → b ≡ bytes_left_by d tables bytes run (made d tables times bytes wires run)
+      → w ≡ wires_left d tables bytes wires run (made d tables times bytes wires run)
       → Meets x g b w
   unfolding allowed repeated gates_after bytes_after wires_after
   repeat-taken e x g b w p q s t = rw e (p, (q, (s, (t, ap (λ (y : Repeated). code_of y.outcome ∷ []) p))))

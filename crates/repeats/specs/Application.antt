@@ -37,7 +37,8 @@ module _ (d : Dimensions) (tables : Tables) (gates : List ℕ) (run : Run) (byte
 
   -- the wires afterwards: what evaluation leaves; as they were where packing is refused
   abbrev pub wires_after : List ℕ
-  wires_after = given (outcome (pack_checks d tables run (length bytes))) (filled_wires gates (inputs d tables run bytes) wires) (λ r. wires)
+  wires_after = given (outcome (pack_checks d tables run (length bytes))) (filled_wires gates (inputs d tables run bytes) wires)
+      (λ r. wires)
 
   -- the next run and its mark, where `handed` of the output wires go to the read-back; refused, the run as it was
   unfoldable pub applied : ℕ → Applied

@@ -56,7 +56,8 @@ bytes_left_by d tables bytes run (r ∷ later) = packed d tables (run_before run
 -- the lent wires: what the last one evaluated
 abbrev pub wires_left : Dimensions → Tables → List ℕ → List ℕ → Run → List Repeat → List ℕ
 wires_left d tables bytes wires run [] = wires
-wires_left d tables bytes wires run (r ∷ later) = Application.wires_after d tables (circuit_words d) (run_before run (r ∷ later)) bytes wires
+wires_left d tables bytes wires run (r ∷ later) =
+    Application.wires_after d tables (circuit_words d) (run_before run (r ∷ later)) bytes wires
 
 -- ---- the call
 

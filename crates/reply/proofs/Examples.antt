@@ -22,7 +22,8 @@ use Rattle.answers.specs.Printed.{literals, answer_text, refusal_text}
 use Rattle.reply.specs.Reply.{reply_text}
 
 printed : String → String → String → String → List ℕ
-unfolding reply_text solved answer_of table_of without_remarks lines_of kept header_of past_remarks parts_from cut not_empty trimmed same clauses number_read decimal_of
+unfolding reply_text solved answer_of table_of without_remarks lines_of kept header_of past_remarks parts_from cut not_empty trimmed same clauses number_read
+    decimal_of
     digits_after run field_of put bit any count lowest padding satisfied free_literals all_below literals answer_text refusal_text decimal
 printed left right public line = reply_text (bytes left) (bytes right) (bytes public) (bytes line)
 

@@ -44,7 +44,8 @@ module _ (n k : ℕ) (wide : n ≤ k) (t f : ℕ) where
     variable_alike e =
         let v = forced_hit n rows t f e in
         ap (λ (p : ℕ → Bool). lowest p k)
-        (fun_ext (λ i. any-row_cong (forces k t f i) (forces n t f i) rows (λ r m. ap (λ (b : Bool). b && free_in r t f i) (with-alike 1 r (m (low_row n) low)))))
+        (fun_ext (λ i. any-row_cong (forces k t f i) (forces n t f i) rows
+        (λ r m. ap (λ (b : Bool). b && free_in r t f i) (with-alike 1 r (m (low_row n) low)))))
         ∙ lowest_width (λ i. any_row (forces n t f i) rows) n k (forced_variable n rows t f) wide v.0 v.1
 
     true-alike : (v : ℕ) → forced_true k rows t f v ≡ forced_true n rows t f v
@@ -59,7 +60,8 @@ module _ (n k : ℕ) (wide : n ≤ k) (t f : ℕ) where
     forced-alike other =
         on (any_row (unsatisfied_with 1 n t f) rows)
         (λ e. rw (unit-alike ∙ e, unit_or) (rw (e, unit_or)
-        (ap (λ (v : ℕ). Unit v (forced_true k rows t f v)) (variable_alike e) ∙ ap (Unit (forced_variable n rows t f)) (true-alike (forced_variable n rows t f)))))
+        (ap (λ (v : ℕ). Unit v (forced_true k rows t f v)) (variable_alike e)
+        ∙ ap (Unit (forced_variable n rows t f)) (true-alike (forced_variable n rows t f)))))
         (λ e. rw (unit-alike ∙ e, unit_or) (rw (e, unit_or)))
 
     choice-alike : all_rows (λ r. satisfied n r t f) rows ≡ false → any_row (unsatisfied_with 0 n t f) rows ≡ false → choice k rows t f ≡ choice n rows t f

@@ -55,7 +55,8 @@ pub fn check_all(d: Dimensions, left: &[u32], right: &[u32], public: &[u32], run
 // The run after one giant step; as it was where the call is refused.
 pub fn step(d: Dimensions, left: &[u32], right: &[u32], public: &[u32], run: Run) -> Stepped
     ensures value { result ≡ stepped d (lent_tables left right public) run }
-    ensures outcome_value { code_of result.outcome ∷ [] ≡ said (outcome (table_checks d (lent_tables left right public) ++ state_checks d run)) [] }
+    ensures outcome_value { code_of result.outcome ∷ []
+        ≡ said (outcome (table_checks d (lent_tables left right public) ++ state_checks d run)) [] }
 {
     match check_all(d, left, right, public, run) {
         Outcome::Taken => {}
@@ -80,7 +81,8 @@ pub fn step_in_place(
 ) -> Outcome
     ensures value { result ≡ (stepped d (lent_tables left right public) run.old).outcome }
     ensures run_after { run.new ≡ (stepped d (lent_tables left right public) run.old).run }
-    ensures result_value { code_of result ∷ [] ≡ said (outcome (table_checks d (lent_tables left right public) ++ state_checks d run.old)) [] }
+    ensures result_value { code_of result ∷ []
+        ≡ said (outcome (table_checks d (lent_tables left right public) ++ state_checks d run.old)) [] }
 {
     let next = step(d, left, right, public, *run);
     *run = next.run;
@@ -90,7 +92,8 @@ pub fn step_in_place(
 // One giant step of a run that is kept elsewhere, as in a host's words: it is lent to `step_in_place`, and comes back with the outcome.
 pub fn step_lent(d: Dimensions, left: &[u32], right: &[u32], public: &[u32], run: Run) -> Stepped
     ensures value { result ≡ stepped d (lent_tables left right public) run }
-    ensures outcome_value { code_of result.outcome ∷ [] ≡ said (outcome (table_checks d (lent_tables left right public) ++ state_checks d run)) [] }
+    ensures outcome_value { code_of result.outcome ∷ []
+        ≡ said (outcome (table_checks d (lent_tables left right public) ++ state_checks d run)) [] }
 {
     let mut next = run;
     let outcome = step_in_place(d, left, right, public, &mut next);

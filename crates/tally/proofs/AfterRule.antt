@@ -93,7 +93,8 @@ module _ (rows : List Row) (t f : ℕ) where
         ∙ ap (λ (y : Bool). at (unmet 32 t f) rows i && y) (at_both (holds_literal true v) (holds_literal false v) (λ r. holds r v)
         (λ x y. x || y) refl (λ r. refl) rows i))
 
-    touches-is : (v w : ℕ) → v < 32 → w < 6 → touches (index_of rows) v w (get_or (row_set (unmet 32 t f) rows) w 0) ≡ any (λ j. at (touch v) rows (64 * w + j)) 64
+    touches-is : (v w : ℕ) → v < 32 → w < 6 → touches (index_of rows) v w (get_or (row_set (unmet 32 t f) rows) w 0)
+        ≡ any (λ j. at (touch v) rows (64 * w + j)) 64
     touches-is v w b h =
         any_cong _ _ 64
         (λ j c. ap₂ (λ (x y : Bool). x && y) (ap (λ (s : ℕ). bit s j) (set_at rows (unmet 32 t f) w h) ∙ word-bit (unmet 32 t f) rows w j c)

@@ -51,8 +51,10 @@ module _ (words set : List ℕ) (unset : ℕ) (s : Forced) where
       more sign = word_of_cong _ _ 32 (λ v b. ap (λ (y : Bool). y || only sign v k) (bit_word_of (λ v. or_upto (bit (side sign s) v) (only sign v) k) 32 v b))
 
   pub set_is : {a b c d e r : Forced}
-      → a ≡ forced_among words 0 (get_or set 0 0) unset s → b ≡ forced_among words 64 (get_or set 1 0) unset a → c ≡ forced_among words 128 (get_or set 2 0) unset b
-      → d ≡ forced_among words 192 (get_or set 3 0) unset c → e ≡ forced_among words 256 (get_or set 4 0) unset d → r ≡ forced_among words 320 (get_or set 5 0) unset e
+      → a ≡ forced_among words 0 (get_or set 0 0) unset s → b ≡ forced_among words 64 (get_or set 1 0) unset a
+      → c ≡ forced_among words 128 (get_or set 2 0) unset b
+      → d ≡ forced_among words 192 (get_or set 3 0) unset c → e ≡ forced_among words 256 (get_or set 4 0) unset d
+      → r ≡ forced_among words 320 (get_or set 5 0) unset e
       → r ≡ forced_in words set unset s
   unfolding forced_among forced_in
   set_is p q k l m o = shown-next 5 (shown-next 4 (shown-next 3 (shown-next 2 (shown-next 1 p q) k) l) m) o

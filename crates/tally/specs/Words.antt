@@ -43,7 +43,8 @@ word_of_sign false words i = get_or words (2 * i + 1) 0
 
 -- they are exactly one, v, which the row holds with this sign
 abbrev pub forces_only : Bool → List ℕ → ℕ → ℕ → ℕ → Bool
-forces_only sign words unset v i = variables_are 1 words unset i && (bit (word_of_sign sign words i) v && bit (variables_of words unset i) v)
+forces_only sign words unset v i = variables_are 1 words unset i
+    && (bit (word_of_sign sign words i) v && bit (variables_of words unset i) v)
 
 -- ---- what rows show
 

@@ -52,7 +52,8 @@ pub fn closed(run: Run) -> bool
 // The verdict of a run that goes no further.
 pub fn verdict_of(run: Run) -> Verdict
     ensures value { result ≡ verdict_of run.standing run.t }
-    ensures result_value { verdict_number result ∷ (model_word result ∷ []) ≡ standing_number run.standing ∷ (cond (is_satisfied run.standing) run.t 0 ∷ []) }
+    ensures result_value { verdict_number result ∷ (model_word result ∷ [])
+        ≡ standing_number run.standing ∷ (cond (is_satisfied run.standing) run.t 0 ∷ []) }
 {
     let standing = run.standing;
     match standing {

@@ -26,7 +26,8 @@ at-pattern : (k : ℕ) → k ≤ 32 → not (nan_bits binary64 (pattern k)) && e
 at-pattern k h = all_e (λ k. not (nan_bits binary64 (pattern k)) && eqb (to_bits binary64 (scaled (2 ^ (32 - k)))) (pattern k)) 33 all_patterns k (omega arith)
 
 pub pattern_number : (k : ℕ) → k ≤ 32 → T (not (nan_bits binary64 (pattern k)))
-pattern_number k h = subst T (sym (and_l (not (nan_bits binary64 (pattern k))) (eqb (to_bits binary64 (scaled (2 ^ (32 - k)))) (pattern k)) (at-pattern k h))) tt
+pattern_number k h = subst T (sym (and_l (not (nan_bits binary64 (pattern k))) (eqb (to_bits binary64 (scaled (2 ^ (32 - k)))) (pattern k)) (at-pattern k h)))
+    tt
 
 scaled_fits : (w : ℕ) → of_bits binary64 (to_bits binary64 (scaled w)) ≡ scaled w
 unfolding scaled

@@ -198,5 +198,6 @@ module _ (t f : ℕ) (left right public : List ℕ) (a b c : ℕ) (ha : a ≤ 12
       ∙ ap scaled e
 
   -- so the heaviest by floats is the heaviest by weights
-  pub heaviest-all : (r : List Float) → Weighs r (weight 32 all t f) → greatest (λ i j. lt (get_or r i nan) (get_or r j nan)) 32 ≡ heaviest (weight 32 all t f) 32
+  pub heaviest-all : (r : List Float) → Weighs r (weight 32 all t f)
+      → greatest (λ i j. lt (get_or r i nan) (get_or r j nan)) 32 ≡ heaviest (weight 32 all t f) 32
   heaviest-all r h = heaviest_of r (weight 32 all t f) (λ i b. weight-small i) h

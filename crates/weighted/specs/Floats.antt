@@ -16,7 +16,8 @@ Weighs floats w = (i : ℕ) → i < 32 → get_or floats i nan ≡ scaled (w i)
 
 -- the floats with gain added at each variable of the word
 unfoldable pub Raised : List Float → ℕ → Float → List Float → Type 0
-Raised floats word gain r = (i : ℕ) → i < 32 → get_or r i nan ≡ cond (bit word i) (add binary64 (get_or floats i nan) gain) (get_or floats i nan)
+Raised floats word gain r = (i : ℕ) → i < 32
+    → get_or r i nan ≡ cond (bit word i) (add binary64 (get_or floats i nan) gain) (get_or floats i nan)
 
 -- r is floats and these weights, wherever the sums stay below 2 ^ 53
 unfoldable pub Adds : (ℕ → ℕ) → List Float → List Float → Type 0

@@ -60,7 +60,8 @@ pub fn step_weighted(
     run: Run,
 ) -> Stepped
     ensures value { result ≡ stepped_with weighted_rule d (lent_tables left right public) run }
-    ensures outcome_value { code_of result.outcome ∷ [] ≡ said (outcome (table_checks d (lent_tables left right public) ++ state_checks d run)) [] }
+    ensures outcome_value { code_of result.outcome ∷ []
+        ≡ said (outcome (table_checks d (lent_tables left right public) ++ state_checks d run)) [] }
 {
     match solver::check_all(d, left, right, public, run) {
         Outcome::Taken => {}
@@ -87,7 +88,8 @@ fn run_accepted(
     requires public_value { outcome (table_checks d (all_tables left.now right.now public.now)) ≡ Taken }
     requires run_value { well_formed run ≡ true }
     requires n_value { run.n ≡ d.n }
-    ensures { result ≡ continued_by d.n (run_with weighted_rule d.n (always (rows_of d (lent_tables left right public))) times (state_of run)) }
+    ensures { result ≡ continued_by d.n (run_with weighted_rule d.n (always (rows_of d (lent_tables left right public))) times
+        (state_of run)) }
 {
     let words = occurrences::row_words(d, left, right, public);
     let mut index = [0u64; 384];
@@ -106,7 +108,8 @@ pub fn continue_weighted(
     run: Run,
 ) -> Continued
     ensures value { result ≡ continued_with weighted_rule d (lent_tables left right public) times run }
-    ensures result_value { continued_code result ∷ continued_numbers result ≡ said (outcome (table_checks d (lent_tables left right public) ++ state_checks d run))
+    ensures result_value { continued_code result ∷ continued_numbers result
+        ≡ said (outcome (table_checks d (lent_tables left right public) ++ state_checks d run))
         (ran_numbers (run_with weighted_rule d.n (always (rows_of d (lent_tables left right public))) times (state_of run))) }
 {
     match solver::check_all(d, left, right, public, run) {

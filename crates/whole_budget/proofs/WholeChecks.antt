@@ -24,7 +24,16 @@ use Rattle.generator.specs.Generation.{written_words}
 use Rattle.repeats.specs.Repeating.{generation_checks, wire_checks}
 use Rattle.repeats.proofs.RepeatChecks.{words_passed, room_passed}
 use Rattle.whole_budget.specs.Applications.{whole_answer}
-use Rattle.whole_budget.specs.WholeBudget.{most_budget, whole_checks, cleared, whole_allowed, solved_whole, gates_after_whole, bytes_after_whole, wires_after_whole}
+use Rattle.whole_budget.specs.WholeBudget.{
+  most_budget,
+  whole_checks,
+  cleared,
+  whole_allowed,
+  solved_whole,
+  gates_after_whole,
+  bytes_after_whole,
+  wires_after_whole,
+}
 
 -- ---- what the checks say
 

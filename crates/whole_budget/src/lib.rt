@@ -63,7 +63,8 @@ fn apply_through(
     requires gates_value { gates.now ≡ circuit_words d }
     requires public_value { outcome (table_checks d (all_tables left.now right.now public.now)) ≡ Taken }
     requires d_in_bounds { (input_wires d ≤ length bytes.old) × (input_wires d + length (gates_on d) ≤ length wires.old) }
-    ensures value { result ≡ last_of (run_of d.n fresh) (whole_runs d (lent_tables left right public) budget (replicate budget (enough d))) }
+    ensures value { result ≡ last_of (run_of d.n fresh)
+        (whole_runs d (lent_tables left right public) budget (replicate budget (enough d))) }
     ensures bytes_unchanged { drop (input_wires d) bytes.new ≡ drop (input_wires d) bytes.old }
     ensures wires_unchanged { drop (input_wires d + length (gates_on d)) wires.new ≡ drop (input_wires d + length (gates_on d)) wires.old }
 {
@@ -109,7 +110,8 @@ pub fn solve_whole(
         wires.old }
     ensures wires_after { wires.new ≡ wires_after_whole d (lent_tables left right public) budget gates.old bytes.old
         wires.old }
-    ensures result_value { solved_code result ∷ solved_numbers result ≡ said (outcome (whole_checks d (lent_tables left right public) budget (length gates.old)
+    ensures result_value { solved_code result ∷ solved_numbers result
+        ≡ said (outcome (whole_checks d (lent_tables left right public) budget (length gates.old)
         (length bytes.old) (length wires.old))) (answer_numbers (whole_answer d (lent_tables left right public) budget)) }
 {
     let lent = gates.len();

@@ -20,7 +20,8 @@ use Rattle.whole_reply.specs.WholeReply.{whole_text}
 
 -- both stations have one row
 printed : String → String → String → String → List ℕ
-unfolding whole_text table_of without_remarks lines_of kept header_of past_remarks parts_from cut not_empty trimmed same clauses number_read decimal_of digits_after run
+unfolding whole_text table_of without_remarks lines_of kept header_of past_remarks parts_from cut not_empty trimmed same clauses number_read decimal_of
+    digits_after run
     field_of put refusal_text decimal
 printed left right public line = whole_text (bytes left) (bytes right) (bytes public) (bytes line)
 

@@ -40,7 +40,8 @@ module _ (d : Dimensions) (x : WholeSecrecy d) where
     -- ---- history
 
     -- a closed run stays as it is, and the next application follows
-    pub closed-goes_on : (i : ℕ) (none : Run) → suc i < length runs → closed (state_of (get_or runs i none)) ≡ true → get_or runs (suc i) none ≡ get_or runs i none
+    pub closed-goes_on : (i : ℕ) (none : Run) → suc i < length runs → closed (state_of (get_or runs i none)) ≡ true
+        → get_or runs (suc i) none ≡ get_or runs i none
     unfolding run_of after
     closed-goes_on i none b c =
         let h = x.history tables acc budget attempts in

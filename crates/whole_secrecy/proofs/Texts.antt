@@ -90,6 +90,7 @@ module _ (left right public left' right' public' : List ℕ) (taken : (text_tabl
 -- document 01's example, with the budget for its count
 pub example : whole_text (bytes "p cnf 2 1\n1 2 0\n") (bytes "p cnf 2 1\n-1 0\n") (bytes "p cnf 2 0\n") (bytes "9\n")
     ≡ bytes "c steps 9\ns SATISFIABLE\nv -1 2 0\n"
-unfolding table_of without_remarks lines_of kept header_of past_remarks parts_from cut not_empty trimmed same clauses number_read decimal_of digits_after run field_of
+unfolding table_of without_remarks lines_of kept header_of past_remarks parts_from cut not_empty trimmed same clauses number_read decimal_of digits_after run
+    field_of
     put bit any count lowest padding satisfied free_literals literals answer_text answer_of decimal
 example = whole_prints (bytes "p cnf 2 1\n1 2 0\n") (bytes "p cnf 2 1\n-1 0\n") (bytes "p cnf 2 0\n") refl (bytes "9\n") 9 refl refl

@@ -132,5 +132,6 @@ state-row n f =
     upto_add (λ i. f (n + (n + i))) (suc n) _ ∙ ap (λ (l : List Bool). upto (λ i. f (n + (n + i))) (suc n) ++ l) (
     upto_add (λ i. f (n + (n + (suc n + i)))) (level_at n n) 2 ∙ ap (λ (l : List Bool). l ++ upto (λ i. f (n + (n + (suc n + (level_at n n + i))))) 2) (
     upto_mul (λ i. f (n + (n + (suc n + i)))) (n + (n + n)) n ∙ joined_cong _ _ n (λ l h.
-    upto_add (λ i. f (n + (n + (suc n + (level_at n l + i))))) n (n + n) ∙ ap (λ (x : List Bool). upto (λ i. f (n + (n + (suc n + (level_at n l + i))))) n ++ x) (
+    upto_add (λ i. f (n + (n + (suc n + (level_at n l + i))))) n (n + n)
+    ∙ ap (λ (x : List Bool). upto (λ i. f (n + (n + (suc n + (level_at n l + i))))) n ++ x) (
     upto_add (λ i. f (n + (n + (suc n + (level_at n l + (n + i)))))) n n)))))))

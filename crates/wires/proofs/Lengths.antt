@@ -51,7 +51,8 @@ state-length n s = order_length n (bits_in s) ∙ width_is n
 pub rows-length : (n : ℕ) (rows : List Row) → length (rows_bits n rows) ≡ (n + n) * length rows
 unfolding rows_bits
 rows-length n [] = sym (mul-zero (n + n))
-rows-length n (r ∷ rs) = length-append (row_bits n r) (rows_bits n rs) ∙ ap₂ ◌+◌ (row-length n r) (rows-length n rs) ∙ omega (arith, mul-suc (n + n) (length rs))
+rows-length n (r ∷ rs) = length-append (row_bits n r) (rows_bits n rs) ∙ ap₂ ◌+◌ (row-length n r) (rows-length n rs)
+    ∙ omega (arith, mul-suc (n + n) (length rs))
 
 -- n + n wires for each of m rows are 2 times n times m
 pub twice : (n m : ℕ) → (n + n) * m ≡ 2 * n * m

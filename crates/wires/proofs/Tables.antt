@@ -23,7 +23,8 @@ use Rattle.wires.proofs.Stores.{stored, stored-then, stored-front}
 rows_append : (n : ℕ) (xs ys : List Row) → rows_bits n (xs ++ ys) ≡ rows_bits n xs ++ rows_bits n ys
 unfolding rows_bits
 rows_append n [] ys = refl
-rows_append n (x ∷ xs) ys = ap (λ (l : List Bool). row_bits n x ++ l) (rows_append n xs ys) ∙ sym (append_assoc (row_bits n x) (rows_bits n xs) (rows_bits n ys))
+rows_append n (x ∷ xs) ys = ap (λ (l : List Bool). row_bits n x ++ l) (rows_append n xs ys)
+    ∙ sym (append_assoc (row_bits n x) (rows_bits n xs) (rows_bits n ys))
 
 rows-from : (n : ℕ) (words : List ℕ) (i k : ℕ) → rows_bits n (rows_from words i k) ≡ joined (λ j. row_bits n (row_at words (i + j))) k
 unfolding rows_bits joined

@@ -23,7 +23,10 @@ returns-then-n-m c =
 pub read_rows-requires : goal.read_rows-requires
 read_rows-requires c =
     let a = c.args in
-    record { n_le_most_variables = ltb-false most_variables a.n (or_l (ltb most_variables a.n) (ltb most_rows a.m) c.if-n-m.false); m_le_most_rows = ltb-false most_rows a.m (or_r (ltb most_variables a.n) (ltb most_rows a.m) c.if-n-m.false) }
+    record {
+      n_le_most_variables = ltb-false most_variables a.n (or_l (ltb most_variables a.n) (ltb most_rows a.m) c.if-n-m.false);
+      m_le_most_rows = ltb-false most_rows a.m (or_r (ltb most_variables a.n) (ltb most_rows a.m) c.if-n-m.false);
+    }
 
 pub returns : goal.returns
 returns c =

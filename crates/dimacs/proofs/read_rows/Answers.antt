@@ -23,7 +23,8 @@ loop-k-preserved c =
 
 pub returns-in_default-read_clause : goal.returns-in_default-read_clause
 returns-in_default-read_clause c =
-    c.refuse-in_default-read_clause.ensures ∙ sym (overfull c.loop-k.invariant c.loop-k-test.false _ c.read_clause-2.ensures.value c.in_default-read_clause.not-End)
+    c.refuse-in_default-read_clause.ensures ∙ sym (overfull c.loop-k.invariant c.loop-k-test.false _ c.read_clause-2.ensures.value
+    c.in_default-read_clause.not-End)
 
 pub returns : goal.returns
 returns c =

@@ -22,12 +22,14 @@ taken c = sym c.accept-accepted.ensures.value ∙ c.in-Taken.is
 
 pub returns-in-Refused : goal.returns-in-Refused
 returns-in-Refused c =
-    let proved = outcome-said (tables-refused c.args.d (tables (goal.at.returns-in-Refused c).Start) c.args.text.now _ (sym c.accept-accepted.ensures.value ∙ c.in-Refused.is)) in
+    let proved = outcome-said (tables-refused c.args.d (tables (goal.at.returns-in-Refused c).Start) c.args.text.now _
+    (sym c.accept-accepted.ensures.value ∙ c.in-Refused.is)) in
     record { value = proved.0; result_value = proved.1 }
 
 pub returns-then-text-gt65536 : goal.returns-then-text-gt65536
 returns-then-text-gt65536 c =
-    let proved = outcome-said (overlong c.args.d (tables (goal.at.returns-then-text-gt65536 c).Start) c.args.text.now (taken (goal.at.returns-then-text-gt65536 c).In-Taken) (omega arith)) in
+    let proved = outcome-said (overlong c.args.d (tables (goal.at.returns-then-text-gt65536 c).Start) c.args.text.now
+    (taken (goal.at.returns-then-text-gt65536 c).In-Taken) (omega arith)) in
     record { value = proved.0; result_value = proved.1 }
 
 pub fill-rows-requires : goal.fill-rows-requires
@@ -36,11 +38,16 @@ fill-rows-requires c =
 
 pub check_lines-requires : goal.check_lines-requires
 check_lines-requires c =
-    record { n_bound = (accepted c.args.d (tables (goal.at.check_lines-requires c).Start) (taken (goal.at.check_lines-requires c).In-Taken)).size.n-most; count_bound = c.fill-rows.ensures.upper_bound; in_bounds = search rules }
+    record {
+      n_bound = (accepted c.args.d (tables (goal.at.check_lines-requires c).Start) (taken (goal.at.check_lines-requires c).In-Taken)).size.n-most;
+      count_bound = c.fill-rows.ensures.upper_bound;
+      in_bounds = search rules;
+    }
 
 pub returns : goal.returns
 returns c =
     let proved = outcome-said
-    (lines_checked c.args.d (tables (goal.at.returns c).Start) c.args.text.now (taken (goal.at.returns c).In-Taken) (omega arith) _ c.fill-rows.ensures.result_after c.check_lines.result
+    (lines_checked c.args.d (tables (goal.at.returns c).Start) c.args.text.now (taken (goal.at.returns c).In-Taken) (omega arith) _
+    c.fill-rows.ensures.result_after c.check_lines.result
     c.check_lines.ensures) in
     record { value = proved.0; result_value = proved.1 }

@@ -23,7 +23,10 @@ append-first-requires c =
 pub append-second-requires : goal.append-second-requires
 append-second-requires c =
     let a = limits (goal.at.append-second-requires c).Start in
-    record { rows_in_bounds = omega (arith, a.size.left-most, a.size.right_most, c.append-first.ensures.value, c.append-first.auto.words); rows_in_bounds_2 = a.right_length }
+    record {
+      rows_in_bounds = omega (arith, a.size.left-most, a.size.right_most, c.append-first.ensures.value, c.append-first.auto.words);
+      rows_in_bounds_2 = a.right_length;
+    }
 
 pub append-requires : goal.append-requires
 append-requires c =
@@ -46,7 +49,8 @@ pub returns : goal.returns
 returns c =
     let a = limits (goal.at.returns c).Start in
     record {
-      result_after = all-rows c.args.d (tables (goal.at.returns c).Start) _ _ _ _ refl c.append-first.ensures.result_after c.append-second.ensures.result_after c.append.ensures.result_after;
+      result_after = all-rows c.args.d (tables (goal.at.returns c).Start) _ _ _ _ refl c.append-first.ensures.result_after c.append-second.ensures.result_after
+          c.append.ensures.result_after;
       upper_bound = omega (
         arith,
         a.size.left-most,

@@ -20,7 +20,8 @@ pub returns-in-Nothing : goal.returns-in-Nothing
 returns-in-Nothing c =
     let a = c.args in
     record {
-      reads = reads_as (said (goal.at.returns-in-Nothing c).After-read_line-said) _ a.checker a.words.now a.checker a.words.now (is_said (goal.at.returns-in-Nothing c).After-read_line-said _ c.in-Nothing.is)
+      reads = reads_as (said (goal.at.returns-in-Nothing c).After-read_line-said) _ a.checker a.words.now a.checker a.words.now
+          (is_said (goal.at.returns-in-Nothing c).After-read_line-said _ c.in-Nothing.is)
           (reads_nothing a.checker a.words.now);
       room_2 = c.requires.room;
     }
@@ -29,7 +30,8 @@ pub returns-in-Added : goal.returns-in-Added
 returns-in-Added c =
     let a = c.args in
     record {
-      reads = reads_as (said (goal.at.returns-in-Added c).After-read_line-said) _ a.checker a.words.now c.take_addition.result c.take_addition.new.words (is_said (goal.at.returns-in-Added c).After-read_line-said _ c.in-Added.is)
+      reads = reads_as (said (goal.at.returns-in-Added c).After-read_line-said) _ a.checker a.words.now c.take_addition.result c.take_addition.new.words
+          (is_said (goal.at.returns-in-Added c).After-read_line-said _ c.in-Added.is)
           c.take_addition.ensures.reads;
       room_2 = c.take_addition.ensures.room;
     }
@@ -38,7 +40,8 @@ pub returns-in-Deleted : goal.returns-in-Deleted
 returns-in-Deleted c =
     let a = c.args in
     record {
-      reads = reads_as (said (goal.at.returns-in-Deleted c).After-read_line-said) _ a.checker a.words.now c.take_deletion.result c.take_deletion.new.words (is_said (goal.at.returns-in-Deleted c).After-read_line-said _ c.in-Deleted.is)
+      reads = reads_as (said (goal.at.returns-in-Deleted c).After-read_line-said) _ a.checker a.words.now c.take_deletion.result c.take_deletion.new.words
+          (is_said (goal.at.returns-in-Deleted c).After-read_line-said _ c.in-Deleted.is)
           c.take_deletion.ensures.reads;
       room_2 = c.take_deletion.ensures.room;
     }
@@ -46,4 +49,9 @@ returns-in-Deleted c =
 pub returns-in-Malformed : goal.returns-in-Malformed
 returns-in-Malformed c =
     let a = c.args in
-    record { reads = reads_as (said (goal.at.returns-in-Malformed c).After-read_line-said) _ a.checker a.words.now (record a.checker { malformed = true }) a.words.now (is_said (goal.at.returns-in-Malformed c).After-read_line-said _ c.in-Malformed.is) (reads_malformed a.checker a.words.now); room_2 = room_malformed a.checker a.words.now c.requires.room }
+    record {
+      reads = reads_as (said (goal.at.returns-in-Malformed c).After-read_line-said) _ a.checker a.words.now (record a.checker { malformed = true })
+          a.words.now (is_said (goal.at.returns-in-Malformed c).After-read_line-said _ c.in-Malformed.is) (reads_malformed a.checker a.words.now);
+      room_2 =
+          room_malformed a.checker a.words.now c.requires.room;
+    }

@@ -17,4 +17,5 @@ pub returns-in-End : goal.returns-in-End
 returns-in-End c = sym (end_told (left (goal.at.returns-in-End c).After-read_clause-next) (sym c.read_clause-next.ensures.value ∙ c.in-End.is))
 
 pub returns-in-Unreadable : goal.returns-in-Unreadable
-returns-in-Unreadable c = sym (unreadable_told (left (goal.at.returns-in-Unreadable c).After-read_clause-next) (sym c.read_clause-next.ensures.value ∙ c.in-Unreadable.is))
+returns-in-Unreadable c = sym (unreadable_told (left (goal.at.returns-in-Unreadable c).After-read_clause-next)
+    (sym c.read_clause-next.ensures.value ∙ c.in-Unreadable.is))

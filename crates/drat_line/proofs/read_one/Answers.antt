@@ -17,12 +17,14 @@ returns-then-has_break c =
 
 pub returns-then-not-is_ended : goal.returns-then-not-is_ended
 returns-then-not-is_ended c =
-    one_more c.args.n c.args.part.now (unbroken (goal.at.returns-then-not-is_ended c).After-read_clause-first) c.requires _ _ _ (sym c.read_clause-first.ensures.value ∙ c.in-Read.is)
+    one_more c.args.n c.args.part.now (unbroken (goal.at.returns-then-not-is_ended c).After-read_clause-first) c.requires _ _ _
+    (sym c.read_clause-first.ensures.value ∙ c.in-Read.is)
     c.is_ended.result c.is_ended.ensures c.if-not-is_ended.true
 
 pub returns-else-not-is_ended : goal.returns-else-not-is_ended
 returns-else-not-is_ended c =
-    one_just c.args.n c.args.part.now (unbroken (goal.at.returns-else-not-is_ended c).After-read_clause-first) c.requires _ _ _ (sym c.read_clause-first.ensures.value ∙ c.in-Read.is)
+    one_just c.args.n c.args.part.now (unbroken (goal.at.returns-else-not-is_ended c).After-read_clause-first) c.requires _ _ _
+    (sym c.read_clause-first.ensures.value ∙ c.in-Read.is)
     c.is_ended.result c.is_ended.ensures c.if-not-is_ended.false
 
 pub returns-in-End : goal.returns-in-End
@@ -33,4 +35,5 @@ returns-in-End c =
 pub returns-in-Unreadable : goal.returns-in-Unreadable
 returns-in-Unreadable c =
     let a = c.args in
-    one_unreadable a.n a.part.now (unbroken (goal.at.returns-in-Unreadable c).After-read_clause-first) (sym c.read_clause-first.ensures.value ∙ c.in-Unreadable.is)
+    one_unreadable a.n a.part.now (unbroken (goal.at.returns-in-Unreadable c).After-read_clause-first)
+    (sym c.read_clause-first.ensures.value ∙ c.in-Unreadable.is)

@@ -29,11 +29,13 @@ overflow_add-result c =
 
 pub slice_bounds-result-end-then-place-eq0 : goal.slice_bounds-result-end-then-place-eq0
 slice_bounds-result-end-then-place-eq0 c =
-    left-within c.args.d (tables (goal.at.slice_bounds-result-end-then-place-eq0 c).Start) c.args.left_text.now c.args.right_text.now c.args.number _ (is-placed (goal.at.slice_bounds-result-end-then-place-eq0 c).In-Of) c.if-place-eq0.true
+    left-within c.args.d (tables (goal.at.slice_bounds-result-end-then-place-eq0 c).Start) c.args.left_text.now c.args.right_text.now c.args.number _
+    (is-placed (goal.at.slice_bounds-result-end-then-place-eq0 c).In-Of) c.if-place-eq0.true
 
 pub returns-then-place-eq0 : goal.returns-then-place-eq0
 returns-then-place-eq0 c =
-    left-bytes c.args.d (tables (goal.at.returns-then-place-eq0 c).Start) c.args.left_text.now c.args.right_text.now c.args.number _ (is-placed (goal.at.returns-then-place-eq0 c).In-Of) c.if-place-eq0.true
+    left-bytes c.args.d (tables (goal.at.returns-then-place-eq0 c).Start) c.args.left_text.now c.args.right_text.now c.args.number _
+    (is-placed (goal.at.returns-then-place-eq0 c).In-Of) c.if-place-eq0.true
 
 pub overflow_add-result-2 : goal.overflow_add-result-2
 overflow_add-result-2 c =
@@ -43,8 +45,10 @@ overflow_add-result-2 c =
 
 pub slice_bounds-result-end-2 : goal.slice_bounds-result-end-2
 slice_bounds-result-end-2 c =
-    right_within c.args.d (tables (goal.at.slice_bounds-result-end-2 c).Start) c.args.left_text.now c.args.right_text.now c.args.number _ (is-placed (goal.at.slice_bounds-result-end-2 c).In-Of) c.if-place-eq0.false
+    right_within c.args.d (tables (goal.at.slice_bounds-result-end-2 c).Start) c.args.left_text.now c.args.right_text.now c.args.number _
+    (is-placed (goal.at.slice_bounds-result-end-2 c).In-Of) c.if-place-eq0.false
 
 pub returns : goal.returns
 returns c =
-    right_bytes c.args.d (tables (goal.at.returns c).Start) c.args.left_text.now c.args.right_text.now c.args.number _ (is-placed (goal.at.returns c).In-Of) c.if-place-eq0.false
+    right_bytes c.args.d (tables (goal.at.returns c).Start) c.args.left_text.now c.args.right_text.now c.args.number _ (is-placed (goal.at.returns c).In-Of)
+    c.if-place-eq0.false

@@ -26,12 +26,14 @@ returns-in-Refused c =
 
 pub overflow_sub-i : goal.overflow_sub-i
 overflow_sub-i c =
-    some-row c.args.d (tables (goal.at.overflow_sub-i c).Start) c.args.left_text.now c.args.right_text.now c.args.number (taken (goal.at.overflow_sub-i c).In-Taken)
+    some-row c.args.d (tables (goal.at.overflow_sub-i c).Start) c.args.left_text.now c.args.right_text.now c.args.number
+    (taken (goal.at.overflow_sub-i c).In-Taken)
 
 pub returns-then-number-left_rows : goal.returns-then-number-left_rows
 returns-then-number-left_rows c =
     let proved = with-said c.args.d (tables (goal.at.returns-then-number-left_rows c).Start) c.args.left_text.now c.args.right_text.now c.args.number _
-    (left-place c.args.d (tables (goal.at.returns-then-number-left_rows c).Start) c.args.left_text.now c.args.right_text.now c.args.number (taken (goal.at.returns-then-number-left_rows c).In-Taken)
+    (left-place c.args.d (tables (goal.at.returns-then-number-left_rows c).Start) c.args.left_text.now c.args.right_text.now c.args.number
+    (taken (goal.at.returns-then-number-left_rows c).In-Taken)
     c.if-number-left_rows.true _ c.find_place.ensures) in
     record { value = proved.0; result_value = proved.1 }
 

@@ -48,7 +48,14 @@ slice_bounds-tell-end-3 c = sym (length-take-le _ _ (known c).public_length)
 pub tell-requires : goal.tell-requires
 tell-requires c =
     let a = known c in
-    record { left_len_bound = omega (arith, length-take-le (2 * c.args.d.left) c.args.left.now a.left-length, a.size.left-most); right_len_bound = omega (arith, length-take-le (2 * c.args.d.right) c.args.right.now a.right_length, a.size.right_most); public_len_bound = omega (arith, length-take-le (2 * c.args.d.public) c.args.public.now a.public_length, a.size.public_most); depth_bound = deep c.args.run c.requires.run_value }
+    record {
+      left_len_bound = omega (arith, length-take-le (2 * c.args.d.left) c.args.left.now a.left-length, a.size.left-most);
+      right_len_bound = omega (arith, length-take-le (2 * c.args.d.right) c.args.right.now a.right_length, a.size.right_most);
+      public_len_bound =
+          omega (arith, length-take-le (2 * c.args.d.public) c.args.public.now a.public_length, a.size.public_most);
+      depth_bound =
+          deep c.args.run c.requires.run_value;
+    }
 
 pub returns : goal.returns
 returns c =

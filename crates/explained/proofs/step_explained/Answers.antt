@@ -11,12 +11,14 @@ tables s = all_tables s.args.left.now s.args.right.now s.args.public.now
 
 pub returns-in-Refused : goal.returns-in-Refused
 returns-in-Refused c =
-    let proved = explained-refused c.args.d (tables (goal.at.returns-in-Refused c).Start) c.args.run c.step-stepped.result c.step-stepped.ensures.value _ c.in-Refused.is in
+    let proved = explained-refused c.args.d (tables (goal.at.returns-in-Refused c).Start) c.args.run c.step-stepped.result c.step-stepped.ensures.value _
+    c.in-Refused.is in
     record { value = proved.0; result_value = proved.1 }
 
 pub explain-requires : goal.explain-requires
 explain-requires c =
-    let p = passed c.args.d (tables (goal.at.explain-requires c).Start) c.args.run _ (passed_checks c.args.d (tables (goal.at.explain-requires c).Start) c.args.run c.step-stepped.result
+    let p = passed c.args.d (tables (goal.at.explain-requires c).Start) c.args.run _
+    (passed_checks c.args.d (tables (goal.at.explain-requires c).Start) c.args.run c.step-stepped.result
     c.step-stepped.ensures.value) c.in-Taken.is in
     record { public_value = p.taken; run_value = p.formed }
 

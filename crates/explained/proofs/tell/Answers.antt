@@ -13,7 +13,8 @@ rows s = rows_of_words s.args.left.now ++ (rows_of_words s.args.right.now ++ row
 
 pub returns-in-AllSatisfied : goal.returns-in-AllSatisfied
 returns-in-AllSatisfied c =
-    tells-satisfied 32 (rows (goal.at.returns-in-AllSatisfied c).Start) (state_of c.args.run) c.find_rule-rule.result _ c.find_rule-rule.ensures.value c.in-AllSatisfied.is
+    tells-satisfied 32 (rows (goal.at.returns-in-AllSatisfied c).Start) (state_of c.args.run) c.find_rule-rule.result _ c.find_rule-rule.ensures.value
+    c.in-AllSatisfied.is
 
 pub returns-in-Conflict : goal.returns-in-Conflict
 returns-in-Conflict c =
@@ -23,9 +24,11 @@ returns-in-Conflict c =
 
 pub returns-in-Unit : goal.returns-in-Unit
 returns-in-Unit c =
-    tells-unit 32 (rows (goal.at.returns-in-Unit c).Start) (state_of c.args.run) c.find_rule-rule.result _ c.find_rule-rule.ensures.value c.in-Unit.variable c.in-Unit.value c.in-Unit.is
+    tells-unit 32 (rows (goal.at.returns-in-Unit c).Start) (state_of c.args.run) c.find_rule-rule.result _ c.find_rule-rule.ensures.value c.in-Unit.variable
+    c.in-Unit.value c.in-Unit.is
     c.lowest_row-row-in-Unit.result c.lowest_row-row-in-Unit.ensures
 
 pub returns-in-Choice : goal.returns-in-Choice
 returns-in-Choice c =
-    tells-choice 32 (rows (goal.at.returns-in-Choice c).Start) (state_of c.args.run) c.find_rule-rule.result _ c.find_rule-rule.ensures.value c.in-Choice.variable c.in-Choice.is
+    tells-choice 32 (rows (goal.at.returns-in-Choice c).Start) (state_of c.args.run) c.find_rule-rule.result _ c.find_rule-rule.ensures.value
+    c.in-Choice.variable c.in-Choice.is

@@ -58,7 +58,9 @@ returns c =
     let e = passes (goal.at.returns c).In-Taken in
     let p = c.count_rows-right_at in
     let q = c.count_rows-public_at in
-    let stored = tables-counted c.args.d (tables (goal.at.returns c).Start) (allowed (goal.at.returns c).In-Taken).0 c.args.run.t c.args.run.f c.args.counts.now _ _ _ _ _
-    c.count_rows-right_at.ensures.counts_after c.count_rows-right_at.ensures.value c.count_rows-public_at.ensures.counts_after c.count_rows-public_at.ensures.value c.count_rows.ensures.counts_after in
+    let stored = tables-counted c.args.d (tables (goal.at.returns c).Start) (allowed (goal.at.returns c).In-Taken).0 c.args.run.t c.args.run.f c.args.counts.now
+    _ _ _ _ _
+    c.count_rows-right_at.ensures.counts_after c.count_rows-right_at.ensures.value c.count_rows-public_at.ensures.counts_after
+    c.count_rows-public_at.ensures.value c.count_rows.ensures.counts_after in
     let proved = also_said (sym e, stored ∙ count-taken c.args.d (tables (goal.at.returns c).Start) c.args.run c.args.counts.now e) in
     record { value = proved.0; counts_after = proved.1.0; result_value = proved.1.1 }

@@ -16,7 +16,11 @@ loop-at-init c = (omega arith, λ least. refl)
 
 pub returns-then-text-at-ne99 : goal.returns-then-text-at-ne99
 returns-then-text-at-ne99 c =
-    record { upper_bound = c.loop-at.invariant.0; header_from = λ least. sym (ap (headed least _) (other-line _ _ c.loop-at-test.true c.if-text-at-ne99.true)) ∙ c.loop-at.invariant.1 least }
+    record {
+      upper_bound = c.loop-at.invariant.0;
+      header_from = λ least. sym (ap (headed least _) (other-line _ _ c.loop-at-test.true c.if-text-at-ne99.true))
+          ∙ c.loop-at.invariant.1 least;
+    }
 
 pub returns-then-text-end : goal.returns-then-text-end
 returns-then-text-end c =
@@ -45,4 +49,8 @@ loop-at-preserved c =
 
 pub returns : goal.returns
 returns c =
-    record { upper_bound = c.loop-at.invariant.0; header_from = λ least. sym (ap (headed least _) (no_line _ _ c.loop-at-test.false)) ∙ c.loop-at.invariant.1 least }
+    record {
+      upper_bound = c.loop-at.invariant.0;
+      header_from = λ least. sym (ap (headed least _) (no_line _ _ c.loop-at-test.false))
+          ∙ c.loop-at.invariant.1 least;
+    }

@@ -35,5 +35,6 @@ returns c =
     let least = c.args.least in
     let proved = said least _ _
     (ap (λ (x : HeaderNumbers). record { sizes = x; end = c.find-end.result }) c.read_line-sizes.ensures
-    ∙ sym (header_at _ found.result least c.find-end.result c.find-end.ensures c.find_header-at.ensures.upper_bound) ∙ c.find_header-at.ensures.header_from least) in
+    ∙ sym (header_at _ found.result least c.find-end.result c.find-end.ensures c.find_header-at.ensures.upper_bound)
+    ∙ c.find_header-at.ensures.header_from least) in
     record { value = proved.0; sizes_value = proved.1 }

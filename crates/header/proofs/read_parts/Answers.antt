@@ -29,18 +29,21 @@ returns-in_default c =
 
 pub returns-in_default-next_part : goal.returns-in_default-next_part
 returns-in_default-next_part c =
-    sym (one-part c.args.least _ _ _ (p-found (goal.at.returns-in_default-next_part c).In-At) (missing is_blank _ _ (sym c.next_part-2.ensures ∙ c.in_default-next_part.is)))
+    sym (one-part c.args.least _ _ _ (p-found (goal.at.returns-in_default-next_part c).In-At)
+    (missing is_blank _ _ (sym c.next_part-2.ensures ∙ c.in_default-next_part.is)))
 
 pub returns-then-p-ne0 : goal.returns-then-p-ne0
 returns-then-p-ne0 c =
-    sym (not_first c.args.least _ _ _ (p-found (goal.at.returns-then-p-ne0 c).In-At) _ _ (f-found (goal.at.returns-then-p-ne0 c).In-At-next_part) c.if-p-ne0.true)
+    sym (not_first c.args.least _ _ _ (p-found (goal.at.returns-then-p-ne0 c).In-At) _ _ (f-found (goal.at.returns-then-p-ne0 c).In-At-next_part)
+    c.if-p-ne0.true)
 
 pub slice_bounds-same-end : goal.slice_bounds-same-end
 slice_bounds-same-end c = (p-found (goal.at.slice_bounds-same-end c).In-At).within
 
 pub returns-then-not-same : goal.returns-then-not-same
 returns-then-not-same c =
-    sym (not_p c.args.least _ _ _ (p-found (goal.at.returns-then-not-same c).In-At) _ _ (f-found (goal.at.returns-then-not-same c).In-At-next_part) c.if-p-ne0.false
+    sym (not_p c.args.least _ _ _ (p-found (goal.at.returns-then-not-same c).In-At) _ _ (f-found (goal.at.returns-then-not-same c).In-At-next_part)
+    c.if-p-ne0.false
     (sym (same-is _ _ _ c.same.ensures) ∙ c.if-not-same.true))
 
 pub slice_bounds-same-count-2 : goal.slice_bounds-same-count-2
@@ -54,11 +57,13 @@ slice_bounds-same-end-3 c = (f-found (goal.at.slice_bounds-same-end-3 c).In-At-n
 
 pub returns-then-not-same-2 : goal.returns-then-not-same-2
 returns-then-not-same-2 c =
-    sym (not_cnf c.args.least _ _ _ (p-found (goal.at.returns-then-not-same-2 c).In-At) _ _ (f-found (goal.at.returns-then-not-same-2 c).In-At-next_part) c.if-p-ne0.false (p-named (goal.at.returns-then-not-same-2 c).Else-not-same)
+    sym (not_cnf c.args.least _ _ _ (p-found (goal.at.returns-then-not-same-2 c).In-At) _ _ (f-found (goal.at.returns-then-not-same-2 c).In-At-next_part)
+    c.if-p-ne0.false (p-named (goal.at.returns-then-not-same-2 c).Else-not-same)
     (sym (same-is _ _ _ c.same-2.ensures) ∙ c.if-not-same-2.true))
 
 pub returns : goal.returns
 returns c =
     c.read_sizes.ensures
-    ∙ sym (both_names c.args.least _ _ _ (p-found (goal.at.returns c).In-At) _ _ (f-found (goal.at.returns c).In-At-next_part) c.if-p-ne0.false (p-named (goal.at.returns c).Else-not-same)
+    ∙ sym (both_names c.args.least _ _ _ (p-found (goal.at.returns c).In-At) _ _ (f-found (goal.at.returns c).In-At-next_part) c.if-p-ne0.false
+    (p-named (goal.at.returns c).Else-not-same)
     (sym (same-is _ _ _ c.same-2.ensures) ∙ c.if-not-same-2.false))

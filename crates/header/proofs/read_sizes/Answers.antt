@@ -20,11 +20,13 @@ returns-in_default c =
 
 pub returns-in_default-next_part : goal.returns-in_default-next_part
 returns-in_default-next_part c =
-    sym (one_size c.args.least _ _ _ _ (n-found (goal.at.returns-in_default-next_part c).In-At) (missing is_blank _ _ (sym c.next_part-2.ensures ∙ c.in_default-next_part.is)))
+    sym (one_size c.args.least _ _ _ _ (n-found (goal.at.returns-in_default-next_part c).In-At)
+    (missing is_blank _ _ (sym c.next_part-2.ensures ∙ c.in_default-next_part.is)))
 
 pub returns-in_default-next_part-2 : goal.returns-in_default-next_part-2
 returns-in_default-next_part-2 c =
-    sym (three-sizes c.args.least _ _ _ _ (n-found (goal.at.returns-in_default-next_part-2 c).In-At) _ _ (m-found (goal.at.returns-in_default-next_part-2 c).In-At-next_part) _ _
+    sym (three-sizes c.args.least _ _ _ _ (n-found (goal.at.returns-in_default-next_part-2 c).In-At) _ _
+    (m-found (goal.at.returns-in_default-next_part-2 c).In-At-next_part) _ _
     (found is_blank _ _ _ _ (sym c.next_part-3.ensures ∙ c.in_default-next_part-2.is)))
 
 pub slice_bounds-read_both-count : goal.slice_bounds-read_both-count

@@ -16,10 +16,19 @@ pub returns-in-Of : goal.returns-in-Of
 returns-in-Of c =
     let told = c in
     let place = told in
-    let is = sym told.in-Of.is ∙ rw place.dimensions-d.ensures at place.clause_place.ensures.value in record { value = ap placed_code is; place_after = ap (λ (p : Placed). numbers_or (placed_numbers p) (lent (goal.at.returns-in-Of place).After-dimensions-d)) is }
+    let is = sym told.in-Of.is ∙ rw place.dimensions-d.ensures at place.clause_place.ensures.value in
+    record {
+      value = ap placed_code is;
+      place_after = ap (λ (p : Placed). numbers_or (placed_numbers p) (lent (goal.at.returns-in-Of place).After-dimensions-d))
+          is;
+    }
 
 pub returns-in-Refused : goal.returns-in-Refused
 returns-in-Refused c =
     let told = c in
     let place = told in
-    let is = sym told.in-Refused.is ∙ rw place.dimensions-d.ensures at place.clause_place.ensures.value in record { value = c.number.ensures ∙ ap placed_code is; place_after = ap (λ (p : Placed). numbers_or (placed_numbers p) (lent (goal.at.returns-in-Refused place).After-dimensions-d)) is }
+    let is = sym told.in-Refused.is ∙ rw place.dimensions-d.ensures at place.clause_place.ensures.value in
+    record {
+      value = c.number.ensures ∙ ap placed_code is;
+      place_after = ap (λ (p : Placed). numbers_or (placed_numbers p) (lent (goal.at.returns-in-Refused place).After-dimensions-d)) is;
+    }

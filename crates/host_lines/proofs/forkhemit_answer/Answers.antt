@@ -23,7 +23,12 @@ returns-in-Refused c =
     let byte = check in
     let a = byte.args in
     let text = answer_text (as_byte a.n) (answer_from a.count a.verdict a.model) in
-    let is = sym c.in-Refused.is ∙ rw byte.byte-k.ensures at check.check_variables.ensures.value in record { value = c.number.ensures ∙ ap code_of is; text_after = ap (λ (o : Outcome). given o (front text a.text.now) (λ r. a.text.now)) is; length_after = ap (λ (o : Outcome). given o (length text ∷ []) (λ r. a.length.now)) is }
+    let is = sym c.in-Refused.is ∙ rw byte.byte-k.ensures at check.check_variables.ensures.value in
+    record {
+      value = c.number.ensures ∙ ap code_of is;
+      text_after = ap (λ (o : Outcome). given o (front text a.text.now) (λ r. a.text.now)) is;
+      length_after = ap (λ (o : Outcome). given o (length text ∷ []) (λ r. a.length.now)) is;
+    }
 
 pub returns : goal.returns
 returns c =
@@ -36,7 +41,8 @@ returns c =
     let text = answer_text (as_byte a.n) (answer_from a.count a.verdict a.model) in
     let is = sym told.in-Taken.is ∙ rw byte.byte-k.ensures at check.check_variables.ensures.value in
     let low : min byte.byte-k.result 32 ≡ as_byte a.n = omega (arith, byte.byte-k.ensures, taken-low (as_byte a.n) (sym is)) in
-    let e = print.answer_text-printed.ensures ∙ (λ i. text_of (answer_text (low i) (record { count = a.count; verdict = verdict.verdict_from.ensures i }))) in record {
+    let e = print.answer_text-printed.ensures ∙ (λ i. text_of (answer_text (low i) (record { count = a.count; verdict = verdict.verdict_from.ensures i }))) in
+    record {
       value = ap code_of is;
       text_after = c.put_text.ensures ∙ ap (λ (t : Text). front (take t.length t.bytes) a.text.now) e
           ∙ ap (λ (bytes : List ℕ). front bytes a.text.now) (text_back text)

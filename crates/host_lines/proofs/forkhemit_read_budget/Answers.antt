@@ -10,11 +10,13 @@ returns-in-Of c =
     let told = c in
     let read = told in
     let a = read.args in
-    let is = sym told.in-Of.is ∙ read.read_budget.ensures.value in record { value = ap budget_code is; budget_after = ap (λ (b : Budget). numbers_or (budget_numbers b) a.budget.now) is }
+    let is = sym told.in-Of.is ∙ read.read_budget.ensures.value in
+    record { value = ap budget_code is; budget_after = ap (λ (b : Budget). numbers_or (budget_numbers b) a.budget.now) is }
 
 pub returns-in-Refused : goal.returns-in-Refused
 returns-in-Refused c =
     let told = c in
     let read = told in
     let a = read.args in
-    let is = sym told.in-Refused.is ∙ read.read_budget.ensures.value in record { value = c.number.ensures ∙ ap budget_code is; budget_after = ap (λ (b : Budget). numbers_or (budget_numbers b) a.budget.now) is }
+    let is = sym told.in-Refused.is ∙ read.read_budget.ensures.value in
+    record { value = c.number.ensures ∙ ap budget_code is; budget_after = ap (λ (b : Budget). numbers_or (budget_numbers b) a.budget.now) is }

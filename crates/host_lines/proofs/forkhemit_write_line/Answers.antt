@@ -11,7 +11,11 @@ returns-in-Line c =
     let write = told in
     let sized = write in
     let gave = rw sized.dimensions-d.ensures at write.write_line.ensures in
-    let is = sym told.in-Line.is ∙ gave.value in record { value = ap line_code is; bytes_after = gave.bytes_after; length_after = ap (λ (x : WrittenLine). numbers_or (line_numbers x) sized.args.length.now) is }
+    let is = sym told.in-Line.is ∙ gave.value in record {
+      value = ap line_code is;
+      bytes_after = gave.bytes_after;
+      length_after = ap (λ (x : WrittenLine). numbers_or (line_numbers x) sized.args.length.now) is;
+    }
 
 pub returns-in-Past : goal.returns-in-Past
 returns-in-Past c =
@@ -19,7 +23,11 @@ returns-in-Past c =
     let write = told in
     let sized = write in
     let gave = rw sized.dimensions-d.ensures at write.write_line.ensures in
-    let is = sym told.in-Past.is ∙ gave.value in record { value = ap line_code is; bytes_after = gave.bytes_after; length_after = ap (λ (x : WrittenLine). numbers_or (line_numbers x) sized.args.length.now) is }
+    let is = sym told.in-Past.is ∙ gave.value in record {
+      value = ap line_code is;
+      bytes_after = gave.bytes_after;
+      length_after = ap (λ (x : WrittenLine). numbers_or (line_numbers x) sized.args.length.now) is;
+    }
 
 pub returns-in-Refused : goal.returns-in-Refused
 returns-in-Refused c =
@@ -27,4 +35,9 @@ returns-in-Refused c =
     let write = told in
     let sized = write in
     let gave = rw sized.dimensions-d.ensures at write.write_line.ensures in
-    let is = sym told.in-Refused.is ∙ gave.value in record { value = c.number.ensures ∙ ap line_code is; bytes_after = gave.bytes_after; length_after = ap (λ (x : WrittenLine). numbers_or (line_numbers x) sized.args.length.now) is }
+    let is = sym told.in-Refused.is ∙ gave.value in
+    record {
+      value = c.number.ensures ∙ ap line_code is;
+      bytes_after = gave.bytes_after;
+      length_after = ap (λ (x : WrittenLine). numbers_or (line_numbers x) sized.args.length.now) is;
+    }

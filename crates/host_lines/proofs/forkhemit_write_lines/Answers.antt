@@ -11,7 +11,11 @@ returns-in-Lines c =
     let write = told in
     let sized = write in
     let gave = rw sized.dimensions-d.ensures at write.write_lines.ensures in
-    let is = sym told.in-Lines.is ∙ gave.value in record { value = ap lines_code is; bytes_after = gave.bytes_after; written_after = ap (λ (x : WrittenLines). numbers_or (lines_numbers x) sized.args.written.now) is }
+    let is = sym told.in-Lines.is ∙ gave.value in record {
+      value = ap lines_code is;
+      bytes_after = gave.bytes_after;
+      written_after = ap (λ (x : WrittenLines). numbers_or (lines_numbers x) sized.args.written.now) is;
+    }
 
 pub returns-in-Refused : goal.returns-in-Refused
 returns-in-Refused c =
@@ -19,4 +23,9 @@ returns-in-Refused c =
     let write = told in
     let sized = write in
     let gave = rw sized.dimensions-d.ensures at write.write_lines.ensures in
-    let is = sym told.in-Refused.is ∙ gave.value in record { value = c.number.ensures ∙ ap lines_code is; bytes_after = gave.bytes_after; written_after = ap (λ (x : WrittenLines). numbers_or (lines_numbers x) sized.args.written.now) is }
+    let is = sym told.in-Refused.is ∙ gave.value in
+    record {
+      value = c.number.ensures ∙ ap lines_code is;
+      bytes_after = gave.bytes_after;
+      written_after = ap (λ (x : WrittenLines). numbers_or (lines_numbers x) sized.args.written.now) is;
+    }

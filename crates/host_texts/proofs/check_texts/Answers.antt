@@ -25,7 +25,8 @@ returns-in-Refused-public_outcome c =
     let right = c in
     let left = right in
     let s = left in
-    public_refused (texts (goal.at.returns-in-Refused-public_outcome s).Start) s.args.left_words s.args.right_words s.args.public_words left.in-Taken.is right.in-Taken-right_outcome.is _
+    public_refused (texts (goal.at.returns-in-Refused-public_outcome s).Start) s.args.left_words s.args.right_words s.args.public_words left.in-Taken.is
+    right.in-Taken-right_outcome.is _
     c.in-Refused-public_outcome.is
 
 pub returns-then-left_words-left : goal.returns-then-left_words-left
@@ -34,7 +35,8 @@ returns-then-left_words-left c =
     let right = public in
     let left = right in
     let s = left in
-    no_room (texts (goal.at.returns-then-left_words-left s).Start) s.args.left_words s.args.right_words s.args.public_words left.in-Taken.is right.in-Taken-right_outcome.is
+    no_room (texts (goal.at.returns-then-left_words-left s).Start) s.args.left_words s.args.right_words s.args.public_words left.in-Taken.is
+    right.in-Taken-right_outcome.is
     public.in-Taken-public_outcome.is c.if-left_words-left.true
 
 pub returns-then-left-right : goal.returns-then-left-right
@@ -44,7 +46,8 @@ returns-then-left-right c =
     let right = public in
     let left = right in
     let s = left in
-    differ (texts (goal.at.returns-then-left-right s).Start) s.args.left_words s.args.right_words s.args.public_words left.in-Taken.is right.in-Taken-right_outcome.is
+    differ (texts (goal.at.returns-then-left-right s).Start) s.args.left_words s.args.right_words s.args.public_words left.in-Taken.is
+    right.in-Taken-right_outcome.is
     public.in-Taken-public_outcome.is room.if-left_words-left.false c.if-left-right.true
 
 pub returns : goal.returns

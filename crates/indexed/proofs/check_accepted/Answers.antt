@@ -26,7 +26,8 @@ pub returns : goal.returns
 returns c =
     let words_are = c.make_index-words.ensures.d_value in
     judged c.args.d.n _ _ _
-    (made c.args.d (tables (goal.at.returns c).Start) _ words_are _ c.rows.ensures c.requires _ c.make_index-words.ensures.index_after) _ c.args.run c.args.number
+    (made c.args.d (tables (goal.at.returns c).Start) _ words_are _ c.rows.ensures c.requires _ c.make_index-words.ensures.index_after) _ c.args.run
+    c.args.number
     (t_low (goal.at.returns c).Start) (f-low (goal.at.returns c).Start) _ c.survey-tally.ensures _ c.check_kept.ensures
     ∙ ap (λ (rows : List Row). outcome (indexed_checks c.args.d.n rows c.args.index.now c.args.run c.args.number))
     (made-rows c.args.d (tables (goal.at.returns c).Start) _ words_are _ c.rows.ensures)

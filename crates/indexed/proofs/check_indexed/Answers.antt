@@ -23,7 +23,8 @@ then s = indexed_checks s.args.d.n (rows_of s.args.d (tables s)) s.args.index.no
 pub returns-in-Refused : goal.returns-in-Refused
 returns-in-Refused c =
     let proved = outcome-said
-    (sym (outcome-refused (firstly (goal.at.returns-in-Refused c).Start) (then (goal.at.returns-in-Refused c).Start) c.in-Refused.refusal (sym c.accept.ensures.value ∙ c.in-Refused.is))) in
+    (sym (outcome-refused (firstly (goal.at.returns-in-Refused c).Start) (then (goal.at.returns-in-Refused c).Start) c.in-Refused.refusal
+    (sym c.accept.ensures.value ∙ c.in-Refused.is))) in
     record { value = proved.0; result_value = proved.1 }
 
 pub check_accepted-requires : goal.check_accepted-requires
@@ -32,5 +33,6 @@ check_accepted-requires c = sym c.accept.ensures.value ∙ c.in-Taken.is
 pub returns : goal.returns
 returns c =
     let proved = outcome-said
-    (c.check_accepted.ensures ∙ sym (outcome-taken (firstly (goal.at.returns c).Start) (then (goal.at.returns c).Start) (sym c.accept.ensures.value ∙ c.in-Taken.is))) in
+    (c.check_accepted.ensures ∙ sym (outcome-taken (firstly (goal.at.returns c).Start) (then (goal.at.returns c).Start)
+    (sym c.accept.ensures.value ∙ c.in-Taken.is))) in
     record { value = proved.0; result_value = proved.1 }

@@ -12,7 +12,8 @@ tables s = all_tables s.args.left.now s.args.right.now s.args.public.now
 
 pub returns-in-Refused : goal.returns-in-Refused
 returns-in-Refused c =
-    let proved = continue-refused c.args.d (tables (goal.at.returns-in-Refused c).Start) c.args.times c.args.run _ (sym c.in-Refused.is ∙ c.check_all.ensures.value)
+    let proved = continue-refused c.args.d (tables (goal.at.returns-in-Refused c).Start) c.args.times c.args.run _
+    (sym c.in-Refused.is ∙ c.check_all.ensures.value)
     c.in-Refused.refusal refl in
     record { value = proved.0; result_value = proved.1 }
 

@@ -11,5 +11,6 @@ tables s = all_tables s.args.left.now s.args.right.now s.args.public.now
 
 pub returns : goal.returns
 returns c =
-    counted_is c.args.d (tables (goal.at.returns c).Start) _ c.make_index-words.ensures.d_value _ c.rows.ensures c.requires _ c.make_index-words.ensures.index_after
+    counted_is c.args.d (tables (goal.at.returns c).Start) _ c.make_index-words.ensures.d_value _ c.rows.ensures c.requires _
+    c.make_index-words.ensures.index_after
     _ _ (omega arith) (omega arith) _ c.survey-tally.ensures

@@ -19,7 +19,8 @@ tables s = all_tables s.args.left.now s.args.right.now s.args.public.now
 
 pub run_to_close-requires : goal.run_to_close-requires
 run_to_close-requires c =
-    let x = made c.args.d (tables (goal.at.run_to_close-requires c).Start) _ c.make_index-words.ensures.d_value _ c.rows.ensures c.requires.public_value _ c.make_index-words.ensures.index_after in
+    let x = made c.args.d (tables (goal.at.run_to_close-requires c).Start) _ c.make_index-words.ensures.d_value _ c.rows.ensures c.requires.public_value _
+    c.make_index-words.ensures.index_after in
     record { indexed = of_run _ _ _ _ x c.args.run c.requires.n_value; run_value = c.requires.run_value }
 
 pub returns : goal.returns

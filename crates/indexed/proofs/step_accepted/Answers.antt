@@ -14,7 +14,8 @@ tables s = all_tables s.args.left.now s.args.right.now s.args.public.now
 
 pub step_rows-requires : goal.step_rows-requires
 step_rows-requires c =
-    made c.args.d (tables (goal.at.step_rows-requires c).Start) _ c.make_index-words.ensures.d_value _ c.rows.ensures c.requires _ c.make_index-words.ensures.index_after
+    made c.args.d (tables (goal.at.step_rows-requires c).Start) _ c.make_index-words.ensures.d_value _ c.rows.ensures c.requires _
+    c.make_index-words.ensures.index_after
 
 pub returns : goal.returns
 returns c =

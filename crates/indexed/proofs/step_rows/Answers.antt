@@ -16,13 +16,15 @@ f-low s = omega arith
 pub returns-in-Refused : goal.returns-in-Refused
 returns-in-Refused c =
     over-refused _ _ _ c.args.run c.args.number _
-    (judged _ _ _ _ c.requires _ c.args.run c.args.number (t_low (goal.at.returns-in-Refused c).Start) (f-low (goal.at.returns-in-Refused c).Start) _ c.survey-tally.ensures _
+    (judged _ _ _ _ c.requires _ c.args.run c.args.number (t_low (goal.at.returns-in-Refused c).Start) (f-low (goal.at.returns-in-Refused c).Start) _
+    c.survey-tally.ensures _
     (sym c.in-Refused.is ∙ c.check_kept.ensures))
     c.in-Refused.refusal refl
 
 pub advance-next-requires : goal.advance-next-requires
 advance-next-requires c =
-    let proved = step_ready _ _ _ _ c.requires _ c.args.run c.args.number (t_low (goal.at.advance-next-requires c).Start) (f-low (goal.at.advance-next-requires c).Start) _ c.survey-tally.ensures _
+    let proved = step_ready _ _ _ _ c.requires _ c.args.run c.args.number (t_low (goal.at.advance-next-requires c).Start)
+    (f-low (goal.at.advance-next-requires c).Start) _ c.survey-tally.ensures _
     c.check_kept.ensures c.in-Taken.is in
     record { indexed = proved.0; exact = proved.1 }
 

@@ -14,7 +14,9 @@ loop-done-preserved g c =
       search rules,
       search rules,
       search rules,
-      take-append-le c.args.from (take l.done l.buf) (c.read_some.new.buf ++ rest) (simp length-take (omega (arith, l.invariant))) ∙ take-take c.args.from l.done l.buf l.invariant.2 ∙ l.invariant.3,
-      subst (HasGiven g.F.Read.remaining c.args.file.now c.read_some.new.file) (follows-on c.args.from l.done c.in-Some.n l.buf c.read_some.new.buf rest l.invariant.2 l.invariant.0 read.bound)
+      take-append-le c.args.from (take l.done l.buf) (c.read_some.new.buf ++ rest) (simp length-take (omega (arith, l.invariant)))
+          ∙ take-take c.args.from l.done l.buf l.invariant.2 ∙ l.invariant.3,
+      subst (HasGiven g.F.Read.remaining c.args.file.now c.read_some.new.file)
+          (follows-on c.args.from l.done c.in-Some.n l.buf c.read_some.new.buf rest l.invariant.2 l.invariant.0 read.bound)
           (more-given g.F.Read.remaining _ _ _ _ _ l.invariant.4 read.given),
     )

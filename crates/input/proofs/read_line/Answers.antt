@@ -24,7 +24,8 @@ loop-done-preserved g c =
       simp length-set l.invariant.1,
       goes_on l.buf l.done _ (omega arith) (ne_eqb _ _ c.if-one-eq10.false) l.invariant.2,
       rest-left l.buf c.args.buf.now l.done _ l.invariant.3,
-      byte-given _ _ _ l.buf c.read.new.buf l.done c.in-Ok.field-0 (omega arith) (search rules) c.in-Ok.ensures.bound.0 (search rules) l.invariant.4 c.in-Ok.ensures.bytes.0,
+      byte-given _ _ _ l.buf c.read.new.buf l.done c.in-Ok.field-0 (omega arith) (search rules) c.in-Ok.ensures.bound.0 (search rules) l.invariant.4
+          c.in-Ok.ensures.bytes.0,
     )
 
 pub returns-clause-buf_after : goal.returns-clause-buf_after

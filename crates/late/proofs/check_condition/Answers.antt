@@ -27,27 +27,33 @@ returns-in-Refused c =
 
 pub returns-in-Refused-check_state : goal.returns-in-Refused-check_state
 returns-in-Refused-check_state c =
-    refuse_state c.args.d (tables (goal.at.returns-in-Refused-check_state c).Start) c.args.run c.args.condition (tables-taken (goal.at.returns-in-Refused-check_state c).In-Taken) _
+    refuse_state c.args.d (tables (goal.at.returns-in-Refused-check_state c).Start) c.args.run c.args.condition
+    (tables-taken (goal.at.returns-in-Refused-check_state c).In-Taken) _
     (sym c.check_state.ensures.value ∙ c.in-Refused-check_state.is)
 
 pub returns-then-not-replaceable : goal.returns-then-not-replaceable
 returns-then-not-replaceable c =
-    refuse_padding c.args.d (tables (goal.at.returns-then-not-replaceable c).Start) c.args.run c.args.condition (tables-taken (goal.at.returns-then-not-replaceable c).In-Taken) (state-taken (goal.at.returns-then-not-replaceable c).In-Taken-check_state) _ c.replaceable.ensures
+    refuse_padding c.args.d (tables (goal.at.returns-then-not-replaceable c).Start) c.args.run c.args.condition
+    (tables-taken (goal.at.returns-then-not-replaceable c).In-Taken) (state-taken (goal.at.returns-then-not-replaceable c).In-Taken-check_state) _
+    c.replaceable.ensures
     c.if-not-replaceable.true
 
 pub returns-then-closed : goal.returns-then-closed
 returns-then-closed c =
-    refuse_closed c.args.d (tables (goal.at.returns-then-closed c).Start) c.args.run c.args.condition (tables-taken (goal.at.returns-then-closed c).In-Taken) (state-taken (goal.at.returns-then-closed c).In-Taken-check_state) _ c.replaceable.ensures
+    refuse_closed c.args.d (tables (goal.at.returns-then-closed c).Start) c.args.run c.args.condition (tables-taken (goal.at.returns-then-closed c).In-Taken)
+    (state-taken (goal.at.returns-then-closed c).In-Taken-check_state) _ c.replaceable.ensures
     c.if-not-replaceable.false (sym c.closed.ensures ∙ c.if-closed.true)
 
 pub returns-then-not-low : goal.returns-then-not-low
 returns-then-not-low c =
-    refuse_row c.args.d (tables (goal.at.returns-then-not-low c).Start) c.args.run c.args.condition (tables-taken (goal.at.returns-then-not-low c).In-Taken) (state-taken (goal.at.returns-then-not-low c).In-Taken-check_state) _ c.replaceable.ensures
+    refuse_row c.args.d (tables (goal.at.returns-then-not-low c).Start) c.args.run c.args.condition (tables-taken (goal.at.returns-then-not-low c).In-Taken)
+    (state-taken (goal.at.returns-then-not-low c).In-Taken-check_state) _ c.replaceable.ensures
     c.if-not-replaceable.false (sym c.closed.ensures ∙ c.if-closed.false)
     (sym c.low.ensures ∙ c.if-not-low.true)
 
 pub returns : goal.returns
 returns c =
-    take_condition c.args.d (tables (goal.at.returns c).Start) c.args.run c.args.condition (tables-taken (goal.at.returns c).In-Taken) (state-taken (goal.at.returns c).In-Taken-check_state) _ c.replaceable.ensures
+    take_condition c.args.d (tables (goal.at.returns c).Start) c.args.run c.args.condition (tables-taken (goal.at.returns c).In-Taken)
+    (state-taken (goal.at.returns c).In-Taken-check_state) _ c.replaceable.ensures
     c.if-not-replaceable.false (sym c.closed.ensures ∙ c.if-closed.false)
     (sym c.low.ensures ∙ c.if-not-low.false)

@@ -28,7 +28,12 @@ pub returns-in-Refused : goal.returns-in-Refused
 returns-in-Refused c =
     let e = sym c.check_condition.ensures ∙ c.in-Refused.is in
     let q = after-refused c.args.d (tables (goal.at.returns-in-Refused c).Start) c.args.run c.args.condition _ e in
-    record { value = sym e; left_after = sym (ap (λ (t : Tables). t.left) q); right_after = sym (ap (λ (t : Tables). t.right) q); result_value = (outcome-said (sym e)).1 }
+    record {
+      value = sym e;
+      left_after = sym (ap (λ (t : Tables). t.left) q);
+      right_after = sym (ap (λ (t : Tables). t.right) q);
+      result_value = (outcome-said (sym e)).1;
+    }
 
 pub overflow_sub-number : goal.overflow_sub-number
 overflow_sub-number c =
@@ -43,8 +48,14 @@ put-requires c =
 
 pub returns-then-number-left_rows : goal.returns-then-number-left_rows
 returns-then-number-left_rows c =
-    let q = left-replaced c.args.d (tables (goal.at.returns-then-number-left_rows c).Start) c.args.run c.args.condition (passes (goal.at.returns-then-number-left_rows c).In-Taken) c.if-number-left_rows.true in
-    record { value = sym (passes (goal.at.returns-then-number-left_rows c).In-Taken); left_after = c.put.ensures ∙ q.0; right_after = q.1; result_value = (outcome-said (sym (passes (goal.at.returns-then-number-left_rows c).In-Taken))).1 }
+    let q = left-replaced c.args.d (tables (goal.at.returns-then-number-left_rows c).Start) c.args.run c.args.condition
+    (passes (goal.at.returns-then-number-left_rows c).In-Taken) c.if-number-left_rows.true in
+    record {
+      value = sym (passes (goal.at.returns-then-number-left_rows c).In-Taken);
+      left_after = c.put.ensures ∙ q.0;
+      right_after = q.1;
+      result_value = (outcome-said (sym (passes (goal.at.returns-then-number-left_rows c).In-Taken))).1;
+    }
 
 pub put-requires-2 : goal.put-requires-2
 put-requires-2 c =
@@ -55,5 +66,11 @@ put-requires-2 c =
 
 pub returns : goal.returns
 returns c =
-    let q = right_replaced c.args.d (tables (goal.at.returns c).Start) c.args.run c.args.condition (passes (goal.at.returns c).In-Taken) c.if-number-left_rows.false in
-    record { value = sym (passes (goal.at.returns c).In-Taken); left_after = q.0; right_after = c.put-2.ensures ∙ q.1; result_value = (outcome-said (sym (passes (goal.at.returns c).In-Taken))).1 }
+    let q = right_replaced c.args.d (tables (goal.at.returns c).Start) c.args.run c.args.condition (passes (goal.at.returns c).In-Taken)
+    c.if-number-left_rows.false in
+    record {
+      value = sym (passes (goal.at.returns c).In-Taken);
+      left_after = q.0;
+      right_after = c.put-2.ensures ∙ q.1;
+      result_value = (outcome-said (sym (passes (goal.at.returns c).In-Taken))).1;
+    }

@@ -39,36 +39,60 @@ returns-in-Refused c =
     let refused = sym c.in-Refused.is ∙ c.check_indexed.ensures.value in
     let e = first-refused c.args.d (tables (goal.at.returns-in-Refused c).Start) c.args.index.now c.args.run c.args.number c.args.condition r refused in
     let k = all-kept c.args.d (tables (goal.at.returns-in-Refused c).Start) c.args.index.now c.args.run c.args.number c.args.condition (Refused r) r e refl in
-    record { value = k.0; left_after = ap (λ (t : Tables). t.left) k.1; right_after = ap (λ (t : Tables). t.right) k.1; index_after = k.2; outcome_value = (held-said (λ (x : ReplacedIndexed). x.outcome) k.0).1 }
+    record {
+      value = k.0;
+      left_after = ap (λ (t : Tables). t.left) k.1;
+      right_after = ap (λ (t : Tables). t.right) k.1;
+      index_after = k.2;
+      outcome_value = (held-said (λ (x : ReplacedIndexed). x.outcome) k.0).1;
+    }
 
 pub returns-in-Refused-replace : goal.returns-in-Refused-replace
 returns-in-Refused-replace c =
-    let decided = decided-alike c.args.d (tables (goal.at.returns-in-Refused-replace c).Start) c.args.index.now c.args.run c.args.number c.args.condition (passed (goal.at.returns-in-Refused-replace c).In-Taken) in
+    let decided = decided-alike c.args.d (tables (goal.at.returns-in-Refused-replace c).Start) c.args.index.now c.args.run c.args.number c.args.condition
+    (passed (goal.at.returns-in-Refused-replace c).In-Taken) in
     let e = sym c.in-Refused-replace.is ∙ c.replace.ensures.value ∙ decided in
-    let k = all-kept c.args.d (tables (goal.at.returns-in-Refused-replace c).Start) c.args.index.now c.args.run c.args.number c.args.condition _ c.in-Refused-replace.refusal e refl in
-    let alike = tables-alike c.args.d (tables (goal.at.returns-in-Refused-replace c).Start) c.args.index.now c.args.run c.args.number c.args.condition (passed (goal.at.returns-in-Refused-replace c).In-Taken) in
-    record { value = k.0; left_after = c.replace.ensures.left_after ∙ ap (λ (x : Tables). x.left) alike; right_after = c.replace.ensures.right_after ∙ ap (λ (x : Tables). x.right) alike; index_after = k.2; outcome_value = (held-said (λ (x : ReplacedIndexed). x.outcome) k.0).1 }
+    let k = all-kept c.args.d (tables (goal.at.returns-in-Refused-replace c).Start) c.args.index.now c.args.run c.args.number c.args.condition _
+    c.in-Refused-replace.refusal e refl in
+    let alike = tables-alike c.args.d (tables (goal.at.returns-in-Refused-replace c).Start) c.args.index.now c.args.run c.args.number c.args.condition
+    (passed (goal.at.returns-in-Refused-replace c).In-Taken) in
+    record {
+      value = k.0;
+      left_after = c.replace.ensures.left_after ∙ ap (λ (x : Tables). x.left) alike;
+      right_after = c.replace.ensures.right_after ∙ ap (λ (x : Tables). x.right) alike;
+      index_after = k.2;
+      outcome_value =
+          (held-said (λ (x : ReplacedIndexed). x.outcome) k.0).1;
+    }
 
 pub overflow_sub-condition : goal.overflow_sub-condition
 overflow_sub-condition c =
-    omega (arith, (row_number c.args.d (tables (goal.at.overflow_sub-condition c).Start) c.args.index.now c.args.run c.args.number c.args.condition (passed (goal.at.overflow_sub-condition c).In-Taken) (taken (goal.at.overflow_sub-condition c).In-Taken-replace)).0)
+    omega (
+      arith,
+      (row_number c.args.d (tables (goal.at.overflow_sub-condition c).Start) c.args.index.now c.args.run c.args.number c.args.condition
+          (passed (goal.at.overflow_sub-condition c).In-Taken) (taken (goal.at.overflow_sub-condition c).In-Taken-replace)).0,
+    )
 
 pub count_row-requires : goal.count_row-requires
 count_row-requires c =
-    number-few c.args.d (tables (goal.at.count_row-requires c).Start) c.args.index.now c.args.run c.args.number c.args.condition (passed (goal.at.count_row-requires c).In-Taken)
+    number-few c.args.d (tables (goal.at.count_row-requires c).Start) c.args.index.now c.args.run c.args.number c.args.condition
+    (passed (goal.at.count_row-requires c).In-Taken)
 
 pub returns : goal.returns
 returns c =
-    let alike = tables-alike c.args.d (tables (goal.at.returns c).Start) c.args.index.now c.args.run c.args.number c.args.condition (passed (goal.at.returns c).In-Taken) in
+    let alike = tables-alike c.args.d (tables (goal.at.returns c).Start) c.args.index.now c.args.run c.args.number c.args.condition
+    (passed (goal.at.returns c).In-Taken) in
     let e =
-    answer-then c.args.d (tables (goal.at.returns c).Start) c.args.index.now c.args.run c.args.number c.args.condition (passed (goal.at.returns c).In-Taken) (taken (goal.at.returns c).In-Taken-replace) _ _
+    answer-then c.args.d (tables (goal.at.returns c).Start) c.args.index.now c.args.run c.args.number c.args.condition (passed (goal.at.returns c).In-Taken)
+    (taken (goal.at.returns c).In-Taken-replace) _ _
     (sym (taken (goal.at.returns c).In-Taken-replace)) c.count_row.ensures in
     record {
       value = e;
       left_after = c.replace.ensures.left_after ∙ ap (λ (x : Tables). x.left) alike;
       right_after = c.replace.ensures.right_after ∙ ap (λ (x : Tables). x.right) alike;
       index_after = c.replace_row.ensures
-          ∙ index-then c.args.d (tables (goal.at.returns c).Start) c.args.index.now c.args.run c.args.number c.args.condition (passed (goal.at.returns c).In-Taken) (taken (goal.at.returns c).In-Taken-replace) _
+          ∙ index-then c.args.d (tables (goal.at.returns c).Start) c.args.index.now c.args.run c.args.number c.args.condition
+          (passed (goal.at.returns c).In-Taken) (taken (goal.at.returns c).In-Taken-replace) _
           c.old_row-old.ensures;
       outcome_value = (held-said (λ (x : ReplacedIndexed). x.outcome) e).1;
     }

@@ -25,4 +25,8 @@ loop-k-preserved c = stored_more _ _ _ _ _ _ _ c.loop-k.invariant c.loop-k-test.
 
 pub returns : goal.returns
 returns c =
-    record { upper_bound = omega arith; value = ap (λ (n : ℕ). c.args.at + n) c.count-end.ensures.value; all_after = stored-all _ _ _ _ _ _ _ c.loop-k.invariant c.loop-k-test.false }
+    record {
+      upper_bound = omega arith;
+      value = ap (λ (n : ℕ). c.args.at + n) c.count-end.ensures.value;
+      all_after = stored-all _ _ _ _ _ _ _ c.loop-k.invariant c.loop-k-test.false;
+    }

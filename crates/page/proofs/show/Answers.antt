@@ -19,7 +19,11 @@ returns-in-Model c =
     ∙ c.model.ensures.value) in
     let call = c.show_model in
     let e = c.show_model.ensures.value ∙ page_shaped a.run a.pilots a.watches a.page.now w.0 in
-    record { value = e; page_after = c.show_model.ensures.page_after ∙ page-left a.run a.pilots a.watches a.page.now _ e _ w.1; result_value = (outcome-said e).1 }
+    record {
+      value = e;
+      page_after = c.show_model.ensures.page_after ∙ page-left a.run a.pilots a.watches a.page.now _ e _ w.1;
+      result_value = (outcome-said e).1;
+    }
 
 pub returns-in-Refused : goal.returns-in-Refused
 returns-in-Refused c =

@@ -46,7 +46,8 @@ returns-in-Refused c =
     let p = prefix (goal.at.returns-in-Refused c).In-At in
     c.refuse-in-Refused.ensures
     ∙ sym (ap quantified (p.whole
-    ∙ table-refused a.n a.m c.if-n-gt-MOST.false c.requires.m_le_most_rows (reading (goal.at.returns-in-Refused c).In-At) _ c.read_body-table.ensures.value p.variables _
+    ∙ table-refused a.n a.m c.if-n-gt-MOST.false c.requires.m_le_most_rows (reading (goal.at.returns-in-Refused c).In-At) _ c.read_body-table.ensures.value
+    p.variables _
     c.in-Refused.is))
 
 pub returns-then-not-p : goal.returns-then-not-p
@@ -55,7 +56,8 @@ returns-then-not-p c =
     let p = prefix (goal.at.returns-then-not-p c).In-At in
     c.refuse-then-not-p.ensures
     ∙ sym (ap quantified (p.whole
-    ∙ table-improper a.n a.m c.if-n-gt-MOST.false c.requires.m_le_most_rows (reading (goal.at.returns-then-not-p c).In-At) _ c.read_body-table.ensures.value p.variables
+    ∙ table-improper a.n a.m c.if-n-gt-MOST.false c.requires.m_le_most_rows (reading (goal.at.returns-then-not-p c).In-At) _ c.read_body-table.ensures.value
+    p.variables
     c.in-Taken.is
     (sym p.held.proper-is ∙ not-true _ c.if-not-p.true)))
 

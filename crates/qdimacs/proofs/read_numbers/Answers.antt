@@ -39,7 +39,12 @@ returns-then-v-eq0 c =
     c.if-v-eq0.true)
 
 pub loop-from-smaller : goal.loop-from-smaller
-loop-from-smaller c = omega (arith, (next (goal.at.loop-from-smaller c).In-At).past, (next (goal.at.loop-from-smaller c).In-At).filled, (next (goal.at.loop-from-smaller c).In-At).within)
+loop-from-smaller c = omega (
+  arith,
+  (next (goal.at.loop-from-smaller c).In-At).past,
+  (next (goal.at.loop-from-smaller c).In-At).filled,
+  (next (goal.at.loop-from-smaller c).In-At).within,
+)
 
 pub loop-from-preserved : goal.loop-from-preserved
 loop-from-preserved c =

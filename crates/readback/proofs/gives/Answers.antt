@@ -41,5 +41,6 @@ returns c =
     ∙ sym c.pack_state.ensures.value ∙ c.if-not-pack_state.false in
     rw f
     (same-is _ _ _ c.same.ensures
-    ∙ ap₂ same (ap₂ take k c.pack_state.ensures.bytes_after ∙ again_bytes c.args.n c.args.run c.requires.n_value (replicate 3171 0) (enough (goal.at.returns c).Start) f)
+    ∙ ap₂ same (ap₂ take k c.pack_state.ensures.bytes_after
+    ∙ again_bytes c.args.n c.args.run c.requires.n_value (replicate 3171 0) (enough (goal.at.returns c).Start) f)
     (ap (λ (j : ℕ). take j c.args.bytes.now) k))

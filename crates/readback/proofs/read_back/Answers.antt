@@ -21,7 +21,8 @@ within c = tested (goal.at.After-state_wires_of c).After-variables_outside false
 pub returns-then-variables_outside : goal.returns-then-variables_outside
 returns-then-variables_outside c =
     let proved = read-said c.args.n c.args.bytes.now
-    (c.refused.ensures ∙ no_variables c.args.n c.args.bytes.now (tested (goal.at.returns-then-variables_outside c).After-variables_outside true c.if-variables_outside.true)) in
+    (c.refused.ensures ∙ no_variables c.args.n c.args.bytes.now
+    (tested (goal.at.returns-then-variables_outside c).After-variables_outside true c.if-variables_outside.true)) in
     record { value = proved.0; outcome_value = proved.1 }
 
 pub returns-then-bytes-state_wires_of : goal.returns-then-bytes-state_wires_of
@@ -34,11 +35,19 @@ returns-then-bytes-state_wires_of c =
 
 pub get_run-run-requires : goal.get_run-run-requires
 get_run-run-requires c =
-    record { n_bound = most 32 c.args.n (within (goal.at.get_run-run-requires c).After-state_wires_of); n_in_bounds = subst (λ (k : ℕ). k ≤ length c.args.bytes.now) c.state_wires_of.ensures c.if-bytes-state_wires_of.false }
+    record {
+      n_bound = most 32 c.args.n (within (goal.at.get_run-run-requires c).After-state_wires_of);
+      n_in_bounds = subst (λ (k : ℕ). k ≤ length c.args.bytes.now) c.state_wires_of.ensures c.if-bytes-state_wires_of.false;
+    }
 
 pub gives-requires : goal.gives-requires
 gives-requires c =
-    record { n_bound = most 32 c.args.n (within (goal.at.gives-requires c).After-state_wires_of); n_value = run_variables c.args.n c.args.bytes.now _ c.get_run-run.ensures; n_in_bounds = subst (λ (k : ℕ). k ≤ length c.args.bytes.now) c.state_wires_of.ensures c.if-bytes-state_wires_of.false }
+    record {
+      n_bound = most 32 c.args.n (within (goal.at.gives-requires c).After-state_wires_of);
+      n_value = run_variables c.args.n c.args.bytes.now _ c.get_run-run.ensures;
+      n_in_bounds =
+          subst (λ (k : ℕ). k ≤ length c.args.bytes.now) c.state_wires_of.ensures c.if-bytes-state_wires_of.false;
+    }
 
 pub returns-then-not-gives : goal.returns-then-not-gives
 returns-then-not-gives c =

@@ -45,25 +45,30 @@ front c =
 
 -- the evaluator's inputs are the definition's
 inputs_are : (c : After-input_wires-inputs)
-    → take c.input_wires-inputs.result (packed (goal.at.After-input_wires-inputs c).In-Taken) ≡ inputs c.args.d (tables (goal.at.After-input_wires-inputs c).Start) c.args.run c.args.bytes.now
+    → take c.input_wires-inputs.result (packed (goal.at.After-input_wires-inputs c).In-Taken)
+    ≡ inputs c.args.d (tables (goal.at.After-input_wires-inputs c).Start) c.args.run c.args.bytes.now
 inputs_are c = ap₂ (λ (k : ℕ) (b : List ℕ). take k b) c.input_wires-inputs.ensures c.pack.ensures.bytes_after
 
 -- what evaluation says, and what it leaves
 judged : (c : After-evaluate) → c.evaluate.result
     ≡ outcome (evaluation_checks c.args.gates.now (inputs c.args.d (tables (goal.at.After-evaluate c).Start) c.args.run c.args.bytes.now) c.args.wires.now)
 judged c =
-    c.evaluate.ensures.value ∙ ap (λ (i : List ℕ). outcome (evaluation_checks c.args.gates.now i c.args.wires.now)) (inputs_are (goal.at.After-evaluate c).After-input_wires-inputs)
+    c.evaluate.ensures.value ∙ ap (λ (i : List ℕ). outcome (evaluation_checks c.args.gates.now i c.args.wires.now))
+    (inputs_are (goal.at.After-evaluate c).After-input_wires-inputs)
 
 filled : (c : After-evaluate)
     → c.evaluate.new.wires ≡ wires_after c.args.d (tables (goal.at.After-evaluate c).Start) c.args.gates.now c.args.run c.args.bytes.now c.args.wires.now
 filled c =
-    c.evaluate.ensures.wires_after ∙ ap (λ (i : List ℕ). filled_wires c.args.gates.now i c.args.wires.now) (inputs_are (goal.at.After-evaluate c).After-input_wires-inputs)
-    ∙ sym (filled_are c.args.d (tables (goal.at.After-evaluate c).Start) c.args.gates.now c.args.run c.args.bytes.now c.args.wires.now (packs (goal.at.After-evaluate c).In-Taken))
+    c.evaluate.ensures.wires_after ∙ ap (λ (i : List ℕ). filled_wires c.args.gates.now i c.args.wires.now)
+    (inputs_are (goal.at.After-evaluate c).After-input_wires-inputs)
+    ∙ sym (filled_are c.args.d (tables (goal.at.After-evaluate c).Start) c.args.gates.now c.args.run c.args.bytes.now c.args.wires.now
+    (packs (goal.at.After-evaluate c).In-Taken))
 
 -- there is room for all wires
 room : (c : In-Taken-evaluate) → input_wires c.args.d + length c.args.gates.now / 3 ≤ length c.args.wires.now
 room c =
-    wires_room c.args.d (tables (goal.at.In-Taken-evaluate c).Start) c.args.gates.now c.args.run c.args.bytes.now c.args.wires.now (packs (goal.at.In-Taken-evaluate c).In-Taken)
+    wires_room c.args.d (tables (goal.at.In-Taken-evaluate c).Start) c.args.gates.now c.args.run c.args.bytes.now c.args.wires.now
+    (packs (goal.at.In-Taken-evaluate c).In-Taken)
     (sym (judged (goal.at.In-Taken-evaluate c).After-evaluate) ∙ c.in-Taken-evaluate.is)
 
 pub returns-in-Refused : goal.returns-in-Refused
@@ -71,7 +76,8 @@ returns-in-Refused c =
     let e = sym c.pack.ensures.value ∙ c.in-Refused.is in
     let proved = apply_said c.args.d (tables (goal.at.returns-in-Refused c).Start) c.args.gates.now c.args.run c.args.bytes.now c.args.wires.now
     (c.refused.ensures
-    ∙ sym (refused c.args.d (tables (goal.at.returns-in-Refused c).Start) c.args.gates.now c.args.run c.args.bytes.now c.args.wires.now (state_wire_count c.args.d.n + 1) _
+    ∙ sym (refused c.args.d (tables (goal.at.returns-in-Refused c).Start) c.args.gates.now c.args.run c.args.bytes.now c.args.wires.now
+    (state_wire_count c.args.d.n + 1) _
     (refuse_packing c.args.d (tables (goal.at.returns-in-Refused c).Start) c.args.gates.now c.args.run c.args.bytes.now c.args.wires.now _ e)))
     c.pack.ensures.bytes_after
     (unfilled c.args.d (tables (goal.at.returns-in-Refused c).Start) c.args.gates.now c.args.run c.args.bytes.now c.args.wires.now _ e) in
@@ -87,8 +93,10 @@ pub returns-in-Refused-evaluate : goal.returns-in-Refused-evaluate
 returns-in-Refused-evaluate c =
     let proved = apply_said c.args.d (tables (goal.at.returns-in-Refused-evaluate c).Start) c.args.gates.now c.args.run c.args.bytes.now c.args.wires.now
     (c.refused-in-Refused-evaluate.ensures
-    ∙ sym (refused c.args.d (tables (goal.at.returns-in-Refused-evaluate c).Start) c.args.gates.now c.args.run c.args.bytes.now c.args.wires.now (state_wire_count c.args.d.n + 1) _
-    (refuse_evaluation c.args.d (tables (goal.at.returns-in-Refused-evaluate c).Start) c.args.gates.now c.args.run c.args.bytes.now c.args.wires.now (packs (goal.at.returns-in-Refused-evaluate c).In-Taken) _
+    ∙ sym (refused c.args.d (tables (goal.at.returns-in-Refused-evaluate c).Start) c.args.gates.now c.args.run c.args.bytes.now c.args.wires.now
+    (state_wire_count c.args.d.n + 1) _
+    (refuse_evaluation c.args.d (tables (goal.at.returns-in-Refused-evaluate c).Start) c.args.gates.now c.args.run c.args.bytes.now c.args.wires.now
+    (packs (goal.at.returns-in-Refused-evaluate c).In-Taken) _
     (sym (judged (goal.at.returns-in-Refused-evaluate c).After-evaluate) ∙ c.in-Refused-evaluate.is))))
     c.pack.ensures.bytes_after (filled (goal.at.returns-in-Refused-evaluate c).After-evaluate) in
     record { value = proved.0; bytes_after = proved.1.0; wires_after = proved.1.1.0; outcome_value = proved.1.1.1 }
@@ -116,7 +124,8 @@ next_run-requires c =
     let kept : length c.evaluate.new.wires ≡ length c.args.wires.now = c.evaluate.auto.wires in
     ap length (outputs-part d c.args.gates.now c.input_wires-inputs.result c.state_wires.result c.input_wires-inputs.ensures
     c.state_wires.ensures (fit (goal.at.next_run-requires c).In-Taken) _)
-    ∙ outputs-length d c.args.gates.now _ (fit (goal.at.next_run-requires c).In-Taken) (omega (arith, room (goal.at.next_run-requires c).In-Taken-evaluate, kept))
+    ∙ outputs-length d c.args.gates.now _ (fit (goal.at.next_run-requires c).In-Taken)
+    (omega (arith, room (goal.at.next_run-requires c).In-Taken-evaluate, kept))
 
 pub returns : goal.returns
 returns c =

@@ -26,15 +26,20 @@ words-taken c = sym c.check_words.ensures.value ∙ c.in-Taken.is
 
 pub returns-in-Refused : goal.returns-in-Refused
 returns-in-Refused c =
-    sym (outcome-refused (first (goal.at.returns-in-Refused c).Start) (second (goal.at.returns-in-Refused c).Start ++ third (goal.at.returns-in-Refused c).Start) _ (sym c.check_words.ensures.value ∙ c.in-Refused.is))
+    sym (outcome-refused (first (goal.at.returns-in-Refused c).Start)
+    (second (goal.at.returns-in-Refused c).Start ++ third (goal.at.returns-in-Refused c).Start) _ (sym c.check_words.ensures.value ∙ c.in-Refused.is))
 
 pub returns-in-Refused-check_room : goal.returns-in-Refused-check_room
 returns-in-Refused-check_room c =
-    sym (outcome-taken (first (goal.at.returns-in-Refused-check_room c).Start) (second (goal.at.returns-in-Refused-check_room c).Start ++ third (goal.at.returns-in-Refused-check_room c).Start) (words-taken (goal.at.returns-in-Refused-check_room c).In-Taken)
-    ∙ outcome-refused (second (goal.at.returns-in-Refused-check_room c).Start) (third (goal.at.returns-in-Refused-check_room c).Start) _ (sym c.check_room.ensures.value ∙ c.in-Refused-check_room.is))
+    sym (outcome-taken (first (goal.at.returns-in-Refused-check_room c).Start)
+    (second (goal.at.returns-in-Refused-check_room c).Start ++ third (goal.at.returns-in-Refused-check_room c).Start)
+    (words-taken (goal.at.returns-in-Refused-check_room c).In-Taken)
+    ∙ outcome-refused (second (goal.at.returns-in-Refused-check_room c).Start) (third (goal.at.returns-in-Refused-check_room c).Start) _
+    (sym c.check_room.ensures.value ∙ c.in-Refused-check_room.is))
 
 pub returns : goal.returns
 returns c =
     c.check_state.ensures.value
-    ∙ sym (outcome-taken (first (goal.at.returns c).Start) (second (goal.at.returns c).Start ++ third (goal.at.returns c).Start) (words-taken (goal.at.returns c).In-Taken)
+    ∙ sym (outcome-taken (first (goal.at.returns c).Start) (second (goal.at.returns c).Start ++ third (goal.at.returns c).Start)
+    (words-taken (goal.at.returns c).In-Taken)
     ∙ outcome-taken (second (goal.at.returns c).Start) (third (goal.at.returns c).Start) (sym c.check_room.ensures.value ∙ c.in-Taken-check_room.is))

@@ -27,10 +27,12 @@ overflow_cast-a c = omega arith
 
 pub returns-then-bytes-input_wires : goal.returns-then-bytes-input_wires
 returns-then-bytes-input_wires c =
-    let proved = outcome-said (sym (ap (λ (b : Bool). cond b (Refused Wires) Taken) (sym (second (goal.at.returns-then-bytes-input_wires c).After-input_wires) ∙ c.if-bytes-input_wires.true))) in
+    let proved = outcome-said (sym (ap (λ (b : Bool). cond b (Refused Wires) Taken)
+    (sym (second (goal.at.returns-then-bytes-input_wires c).After-input_wires) ∙ c.if-bytes-input_wires.true))) in
     record { value = proved.0; result_value = proved.1 }
 
 pub returns : goal.returns
 returns c =
-    let proved = outcome-said (sym (ap (λ (b : Bool). cond b (Refused Wires) Taken) (sym (second (goal.at.returns c).After-input_wires) ∙ c.if-bytes-input_wires.false))) in
+    let proved = outcome-said (sym (ap (λ (b : Bool). cond b (Refused Wires) Taken)
+    (sym (second (goal.at.returns c).After-input_wires) ∙ c.if-bytes-input_wires.false))) in
     record { value = proved.0; result_value = proved.1 }

@@ -22,21 +22,29 @@ taken c = sym c.accept.ensures.value ∙ c.in-Taken.is
 
 pub returns-in-Refused : goal.returns-in-Refused
 returns-in-Refused c =
-    let proved = outcome-said (refuse_tables c.args.d (tables (goal.at.returns-in-Refused c).Start) c.args.gates _ (sym c.accept.ensures.value ∙ c.in-Refused.is)) in
+    let proved = outcome-said (refuse_tables c.args.d (tables (goal.at.returns-in-Refused c).Start) c.args.gates _
+    (sym c.accept.ensures.value ∙ c.in-Refused.is)) in
     record { value = proved.0; result_value = proved.1 }
 
 pub overflow_mul-ceiling : goal.overflow_mul-ceiling
 overflow_mul-ceiling c =
-    omega (arith, c.ceiling.ensures, ceiling-small c.args.d (within c.args.d (sizes-taken c.args.d (tables (goal.at.overflow_mul-ceiling c).Start) (taken (goal.at.overflow_mul-ceiling c).In-Taken))))
+    omega (
+      arith,
+      c.ceiling.ensures,
+      ceiling-small c.args.d
+          (within c.args.d (sizes-taken c.args.d (tables (goal.at.overflow_mul-ceiling c).Start) (taken (goal.at.overflow_mul-ceiling c).In-Taken))),
+    )
 
 pub returns-then-gates-ceiling : goal.returns-then-gates-ceiling
 returns-then-gates-ceiling c =
     let proved = outcome-said
-    (refuse_gates c.args.d (tables (goal.at.returns-then-gates-ceiling c).Start) c.args.gates (taken (goal.at.returns-then-gates-ceiling c).In-Taken) (rw c.ceiling.ensures at c.if-gates-ceiling.true)) in
+    (refuse_gates c.args.d (tables (goal.at.returns-then-gates-ceiling c).Start) c.args.gates (taken (goal.at.returns-then-gates-ceiling c).In-Taken)
+    (rw c.ceiling.ensures at c.if-gates-ceiling.true)) in
     record { value = proved.0; result_value = proved.1 }
 
 pub returns : goal.returns
 returns c =
     let proved = outcome-said
-    (take_words c.args.d (tables (goal.at.returns c).Start) c.args.gates (taken (goal.at.returns c).In-Taken) (rw c.ceiling.ensures at c.if-gates-ceiling.false)) in
+    (take_words c.args.d (tables (goal.at.returns c).Start) c.args.gates (taken (goal.at.returns c).In-Taken)
+    (rw c.ceiling.ensures at c.if-gates-ceiling.false)) in
     record { value = proved.0; result_value = proved.1 }

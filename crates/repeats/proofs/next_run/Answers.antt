@@ -21,9 +21,11 @@ read_is c =
 pub returns-in-Refused : goal.returns-in-Refused
 returns-in-Refused c =
     c.refused.ensures
-    ∙ sym (next-refused c.args.n c.args.run c.args.outputs.now _ (sym (ap (λ (x : Read). x.outcome) (read_is (goal.at.returns-in-Refused c).After-read_back-read)) ∙ c.in-Refused.is))
+    ∙ sym (next-refused c.args.n c.args.run c.args.outputs.now _
+    (sym (ap (λ (x : Read). x.outcome) (read_is (goal.at.returns-in-Refused c).After-read_back-read)) ∙ c.in-Refused.is))
 
 pub returns : goal.returns
 returns c =
     next-taken c.args.n c.args.run c.args.outputs.now (sym (ap (λ (x : Read). x.outcome) (read_is (goal.at.returns c).After-read_back-read)) ∙ c.in-Taken.is)
-    _ (ap (λ (x : Read). x.run) (read_is (goal.at.returns c).After-read_back-read)) _ (ap (λ (k : ℕ). eqb (get_or c.args.outputs.now k 0) 1) c.state_wires_of-closing.ensures)
+    _ (ap (λ (x : Read). x.run) (read_is (goal.at.returns c).After-read_back-read)) _
+    (ap (λ (k : ℕ). eqb (get_or c.args.outputs.now k 0) 1) c.state_wires_of-closing.ensures)

@@ -31,7 +31,8 @@ generated c = generates c.args.d (tables (goal.at.In-Taken c).Start) c.args.gate
 
 pub returns-in-Refused : goal.returns-in-Refused
 returns-in-Refused c =
-    let proved = repeat-refused c.args.d (tables (goal.at.returns-in-Refused c).Start) c.args.times c.args.gates.now c.args.bytes.now c.args.wires.now c.args.run _
+    let proved = repeat-refused c.args.d (tables (goal.at.returns-in-Refused c).Start) c.args.times c.args.gates.now c.args.bytes.now c.args.wires.now
+    c.args.run _
     (sym c.check_repeat.ensures ∙ c.in-Refused.is) _ c.refused.ensures in
     record { value = proved.0; gates_after = proved.1.0; bytes_after = proved.1.1.0; wires_after = proved.1.1.1.0; outcome_value = proved.1.1.1.1 }
 
@@ -44,7 +45,8 @@ slice_bounds-circuit-end-2 c = sym (length-take-le _ _ c.write_circuit-words.ens
 pub repeat_circuit-requires : goal.repeat_circuit-requires
 repeat_circuit-requires c =
     let k = known (goal.at.repeat_circuit-requires c).In-Taken in
-    let circuit = c.write_circuit-words.ensures.gates_after ∙ circuit_written c.args.d c.args.gates.now (generated (goal.at.repeat_circuit-requires c).In-Taken) in
+    let circuit = c.write_circuit-words.ensures.gates_after
+    ∙ circuit_written c.args.d c.args.gates.now (generated (goal.at.repeat_circuit-requires c).In-Taken) in
     record { gates_value = circuit; public_value = k.tables-taken; d_in_bounds = (k.bytes-enough, k.wires_enough); run_value = k.state-taken }
 
 pub returns : goal.returns

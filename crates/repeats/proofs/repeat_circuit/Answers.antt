@@ -29,13 +29,15 @@ on c = sym c.goes_on.ensures ∙ c.loop-d-test.true
 
 pub loop-d-init : goal.loop-d-init
 loop-d-init c =
-    repeating_start c.args.d (tables (goal.at.loop-d-init c).Start) c.args.times c.args.bytes.now c.args.wires.now (ready (goal.at.loop-d-init c).Start) c.args.run c.requires.run_value
+    repeating_start c.args.d (tables (goal.at.loop-d-init c).Start) c.args.times c.args.bytes.now c.args.wires.now (ready (goal.at.loop-d-init c).Start)
+    c.args.run c.requires.run_value
 
 pub overflow_add-repeats : goal.overflow_add-repeats
 overflow_add-repeats c =
     omega (
       arith,
-      repeating_less c.args.d (tables (goal.at.overflow_add-repeats c).Start) c.args.times c.args.bytes.now c.args.wires.now (ready (goal.at.overflow_add-repeats c).Start)
+      repeating_less c.args.d (tables (goal.at.overflow_add-repeats c).Start) c.args.times c.args.bytes.now c.args.wires.now
+          (ready (goal.at.overflow_add-repeats c).Start)
           c.args.run _ _ _ _ c.loop-d.invariant (on (goal.at.overflow_add-repeats c).In-loop-d),
     )
 
@@ -55,10 +57,12 @@ loop-d-preserved c =
     (ap (λ (x : Applied). x.run) (c.apply-next.ensures.value
     ∙ ap (λ (g : List ℕ). applied c.args.d (tables (goal.at.loop-d-preserved c).Start) g c.loop-d.last c.loop-d.bytes c.loop-d.wires k) c.requires.gates_value))
     c.apply-next.ensures.bytes_after
-    (c.apply-next.ensures.wires_after ∙ ap (λ (g : List ℕ). wires_after c.args.d (tables (goal.at.loop-d-preserved c).Start) g c.loop-d.last c.loop-d.bytes c.loop-d.wires) c.requires.gates_value)
+    (c.apply-next.ensures.wires_after ∙ ap (λ (g : List ℕ). wires_after c.args.d (tables (goal.at.loop-d-preserved c).Start) g c.loop-d.last c.loop-d.bytes
+    c.loop-d.wires) c.requires.gates_value)
 
 pub returns : goal.returns
 returns c =
-    let proved = repeating_end c.args.d (tables (goal.at.returns c).Start) c.args.times c.args.bytes.now c.args.wires.now (ready (goal.at.returns c).Start) c.args.run _ _ _ _ c.loop-d.invariant
+    let proved = repeating_end c.args.d (tables (goal.at.returns c).Start) c.args.times c.args.bytes.now c.args.wires.now (ready (goal.at.returns c).Start)
+    c.args.run _ _ _ _ c.loop-d.invariant
     (sym c.goes_on.ensures ∙ c.loop-d-test.false) _ c.closed.ensures in
     record { value = proved.0; bytes_after = proved.1.0; wires_after = proved.1.1 }

@@ -24,22 +24,26 @@ surveyed c =
 
 pub returns-then-conflict : goal.returns-then-conflict
 returns-then-conflict c =
-    let proved = with_number 32 _ _ _ _ (says_conflict c.survey_rows-found.result _ _ [] c.if-conflict.true ∙ surveyed (goal.at.returns-then-conflict c).After-survey_rows-found) in
+    let proved = with_number 32 _ _ _ _ (says_conflict c.survey_rows-found.result _ _ [] c.if-conflict.true
+    ∙ surveyed (goal.at.returns-then-conflict c).After-survey_rows-found) in
     record { value = proved.0; result_value = proved.1 }
 
 pub returns-then-free-eq0 : goal.returns-then-free-eq0
 returns-then-free-eq0 c =
-    let proved = with_number 32 _ _ _ _ (says-satisfied c.survey_rows-found.result _ _ c.if-conflict.false c.if-free-eq0.true ∙ surveyed (goal.at.returns-then-free-eq0 c).After-survey_rows-found) in
+    let proved = with_number 32 _ _ _ _ (says-satisfied c.survey_rows-found.result _ _ c.if-conflict.false c.if-free-eq0.true
+    ∙ surveyed (goal.at.returns-then-free-eq0 c).After-survey_rows-found) in
     record { value = proved.0; result_value = proved.1 }
 
 pub returns-then-forced-ne0 : goal.returns-then-forced-ne0
 returns-then-forced-ne0 c =
     let proved = with_number 32 _ _ _ _ (rw (c.bit.ensures, c.lowest-variable.ensures)
-    (says-unit c.survey_rows-found.result _ _ c.if-conflict.false c.if-free-eq0.false c.if-forced-ne0.true ∙ surveyed (goal.at.returns-then-forced-ne0 c).After-survey_rows-found)) in
+    (says-unit c.survey_rows-found.result _ _ c.if-conflict.false c.if-free-eq0.false c.if-forced-ne0.true
+    ∙ surveyed (goal.at.returns-then-forced-ne0 c).After-survey_rows-found)) in
     record { value = proved.0; result_value = proved.1 }
 
 pub returns : goal.returns
 returns c =
     let proved = with_number 32 _ _ _ _ (rw c.lowest.ensures
-    (says-choice c.survey_rows-found.result _ _ c.if-conflict.false c.if-free-eq0.false c.if-forced-ne0.false ∙ surveyed (goal.at.returns c).After-survey_rows-found)) in
+    (says-choice c.survey_rows-found.result _ _ c.if-conflict.false c.if-free-eq0.false c.if-forced-ne0.false
+    ∙ surveyed (goal.at.returns c).After-survey_rows-found)) in
     record { value = proved.0; result_value = proved.1 }

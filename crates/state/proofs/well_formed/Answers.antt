@@ -30,7 +30,8 @@ chain-requires c =
 
 pub returns-then-not-chain : goal.returns-then-not-chain
 returns-then-not-chain c =
-    not_linked _ (tested (goal.at.returns-then-not-chain c).After-variables_outside false c.if-variables_outside.false) (sym c.sets.ensures ∙ c.if-not-sets.false)
+    not_linked _ (tested (goal.at.returns-then-not-chain c).After-variables_outside false c.if-variables_outside.false)
+    (sym c.sets.ensures ∙ c.if-not-sets.false)
     c.if-run-depth.false (sym c.chain.ensures ∙ c.if-not-chain.true)
 
 pub returns : goal.returns

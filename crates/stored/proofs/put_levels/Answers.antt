@@ -9,7 +9,12 @@ pub loop-l-init : goal.loop-l-init
 loop-l-init c = (search rules, refl, refl)
 
 pub loop-l-preserved : goal.loop-l-preserved
-loop-l-preserved c = (search rules, simp length-set c.loop-l.invariant.1, store_turn c.args.levels c.loop-l.out c.loop-l.l (search rules) ∙ c.loop-l.invariant.2)
+loop-l-preserved c = (
+  search rules,
+  simp length-set c.loop-l.invariant.1,
+  store_turn c.args.levels c.loop-l.out c.loop-l.l (search rules)
+      ∙ c.loop-l.invariant.2,
+)
 
 pub returns : goal.returns
 unfolding with_rest

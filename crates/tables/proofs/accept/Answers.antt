@@ -22,7 +22,9 @@ sized : (c : After-struct_known-3-1) → outcome (size_checks c.args.d) ≡ Take
 sized c = sym c.check.ensures.value ∙ c.in-Taken.is
 
 lengths : (c : Else-left-left_words)
-    → (2 * c.args.d.left ≤ length (tables (goal.at.Else-left-left_words c).Start).left) × (2 * c.args.d.right ≤ length (tables (goal.at.Else-left-left_words c).Start).right) × (2 * c.args.d.public ≤ length (tables (goal.at.Else-left-left_words c).Start).public)
+    → (2 * c.args.d.left ≤ length (tables (goal.at.Else-left-left_words c).Start).left)
+    × (2 * c.args.d.right ≤ length (tables (goal.at.Else-left-left_words c).Start).right)
+    × (2 * c.args.d.public ≤ length (tables (goal.at.Else-left-left_words c).Start).public)
 lengths c = long c.args.d (tables (goal.at.Else-left-left_words c).Start) c.if-left-left_words.false
 
 -- the code's test of the bits is the definition's
@@ -39,7 +41,8 @@ returns-in-Refused c =
 
 pub returns-then-left-left_words : goal.returns-then-left-left_words
 returns-then-left-left_words c =
-    let proved = (outcome-said (refuse_buffer c.args.d (tables (goal.at.returns-then-left-left_words c).Start) (sized (goal.at.returns-then-left-left_words c).After-struct_known-3-1) c.if-left-left_words.true)) in
+    let proved = (outcome-said (refuse_buffer c.args.d (tables (goal.at.returns-then-left-left_words c).Start)
+    (sized (goal.at.returns-then-left-left_words c).After-struct_known-3-1) c.if-left-left_words.true)) in
     record { value = proved.0; result_value = proved.1 }
 
 pub slice_bounds-left_rows-end : goal.slice_bounds-left_rows-end
@@ -53,10 +56,13 @@ slice_bounds-public_rows-end c = sym (length-take-le _ _ (lengths c).2)
 
 pub returns-then-all_below : goal.returns-then-all_below
 returns-then-all_below c =
-    let proved = outcome-said (refuse_bit c.args.d (tables (goal.at.returns-then-all_below c).Start) (sized (goal.at.returns-then-all_below c).After-struct_known-3-1) c.if-left-left_words.false (bits (goal.at.returns-then-all_below c).After-all_below-3 ∙ c.if-all_below.true)) in
+    let proved = outcome-said (refuse_bit c.args.d (tables (goal.at.returns-then-all_below c).Start)
+    (sized (goal.at.returns-then-all_below c).After-struct_known-3-1) c.if-left-left_words.false
+    (bits (goal.at.returns-then-all_below c).After-all_below-3 ∙ c.if-all_below.true)) in
     record { value = proved.0; result_value = proved.1 }
 
 pub returns : goal.returns
 returns c =
-    let proved = outcome-said (take-tables c.args.d (tables (goal.at.returns c).Start) (sized (goal.at.returns c).After-struct_known-3-1) c.if-left-left_words.false (bits (goal.at.returns c).After-all_below-3 ∙ c.if-all_below.false)) in
+    let proved = outcome-said (take-tables c.args.d (tables (goal.at.returns c).Start) (sized (goal.at.returns c).After-struct_known-3-1)
+    c.if-left-left_words.false (bits (goal.at.returns c).After-all_below-3 ∙ c.if-all_below.false)) in
     record { value = proved.0; result_value = proved.1 }

@@ -25,11 +25,13 @@ fronts c = accepted c.args.d (lent (goal.at.After-struct_known-3-1 c).Start) c.r
 
 pub returns-in-Satisfied : goal.returns-in-Satisfied
 returns-in-Satisfied c =
-    satisfied_stays_with weighted_rule weighted_applies _ _ c.args.run c.requires.n_value c.requires.run_value (room (goal.at.returns-in-Satisfied c).Start) c.in-Satisfied.is
+    satisfied_stays_with weighted_rule weighted_applies _ _ c.args.run c.requires.n_value c.requires.run_value (room (goal.at.returns-in-Satisfied c).Start)
+    c.in-Satisfied.is
 
 pub returns-in-Refuted : goal.returns-in-Refuted
 returns-in-Refuted c =
-    refuted_stays_with weighted_rule weighted_applies _ _ c.args.run c.requires.n_value c.requires.run_value (room (goal.at.returns-in-Refuted c).Start) c.in-Refuted.is
+    refuted_stays_with weighted_rule weighted_applies _ _ c.args.run c.requires.n_value c.requires.run_value (room (goal.at.returns-in-Refuted c).Start)
+    c.in-Refuted.is
 
 pub slice_bounds-find_rule-end : goal.slice_bounds-find_rule-end
 slice_bounds-find_rule-end c = sym (length-take-le _ _ (fronts c).left-length)
@@ -43,11 +45,17 @@ slice_bounds-find_rule-end-3 c = sym (length-take-le _ _ (fronts c).public_lengt
 pub find_rule-rule-requires : goal.find_rule-rule-requires
 find_rule-rule-requires c =
     let a = fronts c in
-    record { left_len_bound = omega (arith, length-take-le (2 * c.args.d.left) c.args.left.now a.left-length, a.size.left-most); right_len_bound = omega (arith, length-take-le (2 * c.args.d.right) c.args.right.now a.right_length, a.size.right_most); public_len_bound = omega (arith, length-take-le (2 * c.args.d.public) c.args.public.now a.public_length, a.size.public_most) }
+    record {
+      left_len_bound = omega (arith, length-take-le (2 * c.args.d.left) c.args.left.now a.left-length, a.size.left-most);
+      right_len_bound = omega (arith, length-take-le (2 * c.args.d.right) c.args.right.now a.right_length, a.size.right_most);
+      public_len_bound =
+          omega (arith, length-take-le (2 * c.args.d.public) c.args.public.now a.public_length, a.size.public_most);
+    }
 
 pub returns : goal.returns
 returns c =
     c.follow.ensures
     ∙ open_step-with weighted_rule weighted_applies _ _ c.args.run c.requires.n_value c.requires.run_value _
-    (c.find_rule-rule.ensures ∙ weighted_of_fronts c.args.d (lent (goal.at.returns c).Start) c.requires.public_value c.args.run.t c.args.run.f) (room (goal.at.returns c).Start)
+    (c.find_rule-rule.ensures ∙ weighted_of_fronts c.args.d (lent (goal.at.returns c).Start) c.requires.public_value c.args.run.t c.args.run.f)
+    (room (goal.at.returns c).Start)
     c.in-Open.is

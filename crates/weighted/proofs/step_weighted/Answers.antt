@@ -13,12 +13,14 @@ lent s = all_tables s.args.left.now s.args.right.now s.args.public.now
 pub returns-in-Refused : goal.returns-in-Refused
 returns-in-Refused c =
     let proved = step-said-with weighted_rule c.args.d (lent (goal.at.returns-in-Refused c).Start) c.args.run
-    (step-refused-with weighted_rule c.args.d (lent (goal.at.returns-in-Refused c).Start) c.args.run _ (sym c.in-Refused.is ∙ c.check_all.ensures.value) _ refl) in
+    (step-refused-with weighted_rule c.args.d (lent (goal.at.returns-in-Refused c).Start) c.args.run _ (sym c.in-Refused.is ∙ c.check_all.ensures.value) _
+    refl) in
     record { value = proved.0; outcome_value = proved.1 }
 
 pub advance-requires : goal.advance-requires
 advance-requires c =
-    let p : Passed c.args.d (lent (goal.at.advance-requires c).Start) c.args.run = passed c.args.d (lent (goal.at.advance-requires c).Start) c.args.run _ c.check_all.ensures.value
+    let p : Passed c.args.d (lent (goal.at.advance-requires c).Start) c.args.run = passed c.args.d (lent (goal.at.advance-requires c).Start) c.args.run _
+    c.check_all.ensures.value
     c.in-Taken.is in
     record { public_value = p.taken; run_value = p.formed; n_value = p.same }
 

@@ -21,7 +21,8 @@ ready s = record { accepts = s.requires.public_value; room = s.requires.d_in_bou
 
 pub loop-done-init : goal.loop-done-init
 loop-done-init c =
-    through_start c.args.d (tables (goal.at.loop-done-init c).Start) c.args.budget c.args.bytes.now c.args.wires.now (ready (goal.at.loop-done-init c).Start) _ c.fresh-last.ensures
+    through_start c.args.d (tables (goal.at.loop-done-init c).Start) c.args.budget c.args.bytes.now c.args.wires.now (ready (goal.at.loop-done-init c).Start) _
+    c.fresh-last.ensures
 
 pub loop-done-smaller : goal.loop-done-smaller
 loop-done-smaller c = omega (arith, c.loop-done-test.true)
@@ -29,14 +30,18 @@ loop-done-smaller c = omega (arith, c.loop-done-test.true)
 pub loop-done-preserved : goal.loop-done-preserved
 loop-done-preserved c =
     let k = state_wire_count c.args.d.n + 1 in
-    through_on c.args.d (tables (goal.at.loop-done-preserved c).Start) c.args.budget c.args.bytes.now c.args.wires.now (ready (goal.at.loop-done-preserved c).Start) _ _ _ _ c.loop-done.invariant
+    through_on c.args.d (tables (goal.at.loop-done-preserved c).Start) c.args.budget c.args.bytes.now c.args.wires.now
+    (ready (goal.at.loop-done-preserved c).Start) _ _ _ _ c.loop-done.invariant
     c.loop-done-test.true _ _ _
     (ap (λ (x : Applied). x.run) (c.apply-next.ensures.value
-    ∙ ap (λ (g : List ℕ). applied c.args.d (tables (goal.at.loop-done-preserved c).Start) g c.loop-done.last c.loop-done.bytes c.loop-done.wires k) c.requires.gates_value))
+    ∙ ap (λ (g : List ℕ). applied c.args.d (tables (goal.at.loop-done-preserved c).Start) g c.loop-done.last c.loop-done.bytes c.loop-done.wires k)
+    c.requires.gates_value))
     c.apply-next.ensures.bytes_after
-    (c.apply-next.ensures.wires_after ∙ ap (λ (g : List ℕ). wires_after c.args.d (tables (goal.at.loop-done-preserved c).Start) g c.loop-done.last c.loop-done.bytes c.loop-done.wires) c.requires.gates_value)
+    (c.apply-next.ensures.wires_after ∙ ap (λ (g : List ℕ). wires_after c.args.d (tables (goal.at.loop-done-preserved c).Start) g c.loop-done.last
+    c.loop-done.bytes c.loop-done.wires) c.requires.gates_value)
 
 pub returns : goal.returns
 returns c =
-    let proved = through_end c.args.d (tables (goal.at.returns c).Start) c.args.budget c.args.bytes.now c.args.wires.now (ready (goal.at.returns c).Start) _ _ _ _ c.loop-done.invariant c.loop-done-test.false in
+    let proved = through_end c.args.d (tables (goal.at.returns c).Start) c.args.budget c.args.bytes.now c.args.wires.now (ready (goal.at.returns c).Start) _ _ _
+    _ c.loop-done.invariant c.loop-done-test.false in
     record { value = proved.0; bytes_unchanged = proved.1.0; wires_unchanged = proved.1.1 }

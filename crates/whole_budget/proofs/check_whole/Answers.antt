@@ -23,9 +23,11 @@ returns-in-Refused c =
 
 pub returns-then-budget-gt-MOST_BUDGET : goal.returns-then-budget-gt-MOST_BUDGET
 returns-then-budget-gt-MOST_BUDGET c =
-    refuse_budget c.args.d (tables (goal.at.returns-then-budget-gt-MOST_BUDGET c).Start) c.args.budget c.args.gates c.args.bytes c.args.wires (taken (goal.at.returns-then-budget-gt-MOST_BUDGET c).In-Taken) c.if-budget-gt-MOST_BUDGET.true
+    refuse_budget c.args.d (tables (goal.at.returns-then-budget-gt-MOST_BUDGET c).Start) c.args.budget c.args.gates c.args.bytes c.args.wires
+    (taken (goal.at.returns-then-budget-gt-MOST_BUDGET c).In-Taken) c.if-budget-gt-MOST_BUDGET.true
 
 pub returns : goal.returns
 returns c =
     c.check_room.ensures.value
-    ∙ room_decides c.args.d (tables (goal.at.returns c).Start) c.args.budget c.args.gates c.args.bytes c.args.wires (taken (goal.at.returns c).In-Taken) c.if-budget-gt-MOST_BUDGET.false
+    ∙ room_decides c.args.d (tables (goal.at.returns c).Start) c.args.budget c.args.gates c.args.bytes c.args.wires (taken (goal.at.returns c).In-Taken)
+    c.if-budget-gt-MOST_BUDGET.false

@@ -47,13 +47,15 @@ generated c = generates c.args.d (tables (goal.at.In-Taken c).Start) c.args.gate
 wires-counted : (c : After-input_wires-inputs) → let d = c.args.d in
     c.input_wires-inputs.result + c.write_circuit-words.result / 3 ≡ input_wires d + length (gates_on d)
 wires-counted c =
-    let count = c.write_circuit-words.ensures.value ∙ ap length (circuit_written c.args.d c.args.gates.now (generated (goal.at.After-input_wires-inputs c).In-Taken)) in
+    let count = c.write_circuit-words.ensures.value
+    ∙ ap length (circuit_written c.args.d c.args.gates.now (generated (goal.at.After-input_wires-inputs c).In-Taken)) in
     ap₂ (λ (i k : ℕ). i + k) c.input_wires-inputs.ensures (ap (λ (k : ℕ). k / 3) count ∙ words_third c.args.d)
 
 -- they are few
 wires-fit : (c : After-input_wires-inputs) → c.input_wires-inputs.result + c.write_circuit-words.result / 3 ≤ 1048576
 wires-fit c =
-    let few = wires_small c.args.d (tables (goal.at.After-input_wires-inputs c).Start) (known (goal.at.After-input_wires-inputs c).In-Taken).tables-taken (addresses_on c.args.d) refl in
+    let few = wires_small c.args.d (tables (goal.at.After-input_wires-inputs c).Start) (known (goal.at.After-input_wires-inputs c).In-Taken).tables-taken
+    (addresses_on c.args.d) refl in
     omega (arith, few.1, all_wires c.args.d, wires-counted c)
 
 pub returns-in-Refused : goal.returns-in-Refused
@@ -71,7 +73,8 @@ slice_bounds-circuit-end-2 c = sym (length-take-le _ _ c.write_circuit-words.ens
 pub apply_through-last-requires : goal.apply_through-last-requires
 apply_through-last-requires c =
     let k = known (goal.at.apply_through-last-requires c).In-Taken in
-    let circuit = c.write_circuit-words.ensures.gates_after ∙ circuit_written c.args.d c.args.gates.now (generated (goal.at.apply_through-last-requires c).In-Taken) in
+    let circuit = c.write_circuit-words.ensures.gates_after
+    ∙ circuit_written c.args.d c.args.gates.now (generated (goal.at.apply_through-last-requires c).In-Taken) in
     record { gates_value = circuit; public_value = k.tables-taken; d_in_bounds = (k.bytes-enough, k.wires_enough) }
 
 pub clear-requires : goal.clear-requires
@@ -91,10 +94,12 @@ pub returns : goal.returns
 unfolding whole_answer
 returns c =
     let d = c.args.d in
-    let proved = whole-taken d (tables (goal.at.returns c).Start) c.args.budget c.args.gates.now c.args.bytes.now c.args.wires.now (taken (goal.at.returns c).In-Taken) _ _ _ _
+    let proved = whole-taken d (tables (goal.at.returns c).Start) c.args.budget c.args.gates.now c.args.bytes.now c.args.wires.now
+    (taken (goal.at.returns c).In-Taken) _ _ _ _
     (ap (λ (v : Verdict). Of (record { count = c.args.budget; verdict = v })) c.verdict_of.ensures.value
     ∙ ap (λ (r : Run). Of (record { count = c.args.budget; verdict = verdict_of r.standing r.t })) c.apply_through-last.ensures.value)
     c.write_circuit-words.ensures.gates_after_2
     (cleared-same _ (input_wires d) _ _ _ c.clear.ensures c.input_wires-inputs.ensures c.apply_through-last.ensures.bytes_unchanged)
-    (cleared-same _ (input_wires d + length (gates_on d)) _ _ _ c.clear-2.ensures (wires-counted (goal.at.returns c).After-input_wires-inputs) c.apply_through-last.ensures.wires_unchanged) in
+    (cleared-same _ (input_wires d + length (gates_on d)) _ _ _ c.clear-2.ensures (wires-counted (goal.at.returns c).After-input_wires-inputs)
+    c.apply_through-last.ensures.wires_unchanged) in
     record { value = proved.0; gates_after = proved.1.0; bytes_after = proved.1.1.0; wires_after = proved.1.1.1.0; result_value = proved.1.1.1.1 }

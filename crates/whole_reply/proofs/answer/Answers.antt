@@ -24,7 +24,10 @@ returns-then-steps-gt-MOST_BUDGET c =
 
 pub go_through-requires : goal.go_through-requires
 go_through-requires c =
-    record { public_value = subst (λ (d : Dimensions). outcome (table_checks d (tables_in c.args.tables)) ≡ Taken) (sym c.dimensions_of-d.ensures) c.requires; budget_bound = c.if-steps-gt-MOST_BUDGET.false }
+    record {
+      public_value = subst (λ (d : Dimensions). outcome (table_checks d (tables_in c.args.tables)) ≡ Taken) (sym c.dimensions_of-d.ensures) c.requires;
+      budget_bound = c.if-steps-gt-MOST_BUDGET.false;
+    }
 
 pub returns-in-Refused : goal.returns-in-Refused
 returns-in-Refused c =

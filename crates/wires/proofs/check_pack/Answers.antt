@@ -13,12 +13,14 @@ tables s = all_tables s.args.left.now s.args.right.now s.args.public.now
 
 pub returns-in-Refused : goal.returns-in-Refused
 returns-in-Refused c =
-    let proved = outcome-said (refuse_tables c.args.d (tables (goal.at.returns-in-Refused c).Start) c.args.run c.args.room _ (sym c.accept.ensures.value ∙ c.in-Refused.is)) in
+    let proved = outcome-said (refuse_tables c.args.d (tables (goal.at.returns-in-Refused c).Start) c.args.run c.args.room _
+    (sym c.accept.ensures.value ∙ c.in-Refused.is)) in
     record { value = proved.0; result_value = proved.1 }
 
 pub returns-then-room-input_wires : goal.returns-then-room-input_wires
 returns-then-room-input_wires c =
-    let proved = outcome-said (refuse_room c.args.d (tables (goal.at.returns-then-room-input_wires c).Start) c.args.run c.args.room (sym c.accept.ensures.value ∙ c.in-Taken.is)
+    let proved = outcome-said (refuse_room c.args.d (tables (goal.at.returns-then-room-input_wires c).Start) c.args.run c.args.room
+    (sym c.accept.ensures.value ∙ c.in-Taken.is)
     (subst (λ (k : ℕ). c.args.room < k) c.input_wires.ensures c.if-room-input_wires.true)) in
     record { value = proved.0; result_value = proved.1 }
 

@@ -49,7 +49,11 @@ put_rows-behind_rows-requires c =
     let q = c.put_rows-behind_right in
     let k : length c.put_rows-behind_left.new.bytes ≡ length c.args.bytes.now = c.put_rows-behind_left.auto.bytes in
     let l : length c.put_rows-behind_right.new.bytes ≡ length c.put_rows-behind_left.new.bytes = c.put_rows-behind_right.auto.bytes in
-    record { n_bound = o.allowed.size.n-most; rows_in_bounds = omega (arith, c.put_rows-behind_left.ensures.value, c.put_rows-behind_right.ensures.value, o.enough, input_parts c.args.d) }
+    record {
+      n_bound = o.allowed.size.n-most;
+      rows_in_bounds = omega
+          (arith, c.put_rows-behind_left.ensures.value, c.put_rows-behind_right.ensures.value, o.enough, input_parts c.args.d);
+    }
 
 pub put_state-requires : goal.put_state-requires
 put_state-requires c =
@@ -60,7 +64,18 @@ put_state-requires c =
     let k : length c.put_rows-behind_left.new.bytes ≡ length c.args.bytes.now = c.put_rows-behind_left.auto.bytes in
     let l : length c.put_rows-behind_right.new.bytes ≡ length c.put_rows-behind_left.new.bytes = c.put_rows-behind_right.auto.bytes in
     let m : length c.put_rows-behind_rows.new.bytes ≡ length c.put_rows-behind_right.new.bytes = c.put_rows-behind_rows.auto.bytes in
-    record { n_bound = o.allowed.size.n-most; n_in_bounds = omega (arith, c.put_rows-behind_left.ensures.value, c.put_rows-behind_right.ensures.value, c.put_rows-behind_rows.ensures.value, o.enough, input_parts c.args.d) }
+    record {
+      n_bound = o.allowed.size.n-most;
+      n_in_bounds = omega (
+        arith,
+        c.put_rows-behind_left.ensures.value,
+        c.put_rows-behind_right.ensures.value,
+        c.put_rows-behind_rows.ensures.value,
+        o.enough,
+        input_parts
+            c.args.d,
+      );
+    }
 
 pub returns : goal.returns
 returns c =
@@ -70,7 +85,8 @@ returns c =
     let r = c.put_rows-behind_rows in
     let t = c.put_state in
     let stored =
-    inputs-stored c.args.d (tables (goal.at.returns c).Start) c.args.run c.args.bytes.now _ _ _ _ _ _ _ c.put_rows-behind_left.ensures.bytes_after c.put_rows-behind_left.ensures.value c.put_rows-behind_right.ensures.bytes_after c.put_rows-behind_right.ensures.value
+    inputs-stored c.args.d (tables (goal.at.returns c).Start) c.args.run c.args.bytes.now _ _ _ _ _ _ _ c.put_rows-behind_left.ensures.bytes_after
+    c.put_rows-behind_left.ensures.value c.put_rows-behind_right.ensures.bytes_after c.put_rows-behind_right.ensures.value
     c.put_rows-behind_rows.ensures.bytes_after c.put_rows-behind_rows.ensures.value c.put_state.ensures (taken (goal.at.returns c).In-Taken).enough in
     let proved = also_said (sym e, stored ∙ pack-taken c.args.d (tables (goal.at.returns c).Start) c.args.run c.args.bytes.now e) in
     record { value = proved.0; bytes_after = proved.1.0; result_value = proved.1.1 }

@@ -16,28 +16,32 @@ pub returns-then-variables_outside : goal.returns-then-variables_outside
 returns-then-variables_outside c =
     let a = c.args in
     let proved = with-said a.n a.left a.right a.public _
-    (refuse_variables a.n a.left a.right a.public (tested (goal.at.returns-then-variables_outside c).After-variables_outside true c.if-variables_outside.true)) in
+    (refuse_variables a.n a.left a.right a.public (tested (goal.at.returns-then-variables_outside c).After-variables_outside true
+    c.if-variables_outside.true)) in
     record { value = proved.0; result_value = proved.1 }
 
 pub returns-then-left : goal.returns-then-left
 returns-then-left c =
     let a = c.args in
     let proved = with-said a.n a.left a.right a.public _
-    (refuse_left a.n a.left a.right a.public (tested (goal.at.returns-then-left c).After-variables_outside false c.if-variables_outside.false) c.if-left.true) in
+    (refuse_left a.n a.left a.right a.public (tested (goal.at.returns-then-left c).After-variables_outside false c.if-variables_outside.false)
+    c.if-left.true) in
     record { value = proved.0; result_value = proved.1 }
 
 pub returns-then-right : goal.returns-then-right
 returns-then-right c =
     let a = c.args in
     let proved = with-said a.n a.left a.right a.public _
-    (refuse_right a.n a.left a.right a.public (tested (goal.at.returns-then-right c).After-variables_outside false c.if-variables_outside.false) c.if-left.false c.if-right.true) in
+    (refuse_right a.n a.left a.right a.public (tested (goal.at.returns-then-right c).After-variables_outside false c.if-variables_outside.false) c.if-left.false
+    c.if-right.true) in
     record { value = proved.0; result_value = proved.1 }
 
 pub returns-then-public-gt-ROWS : goal.returns-then-public-gt-ROWS
 returns-then-public-gt-ROWS c =
     let a = c.args in
     let proved = with-said a.n a.left a.right a.public _
-    (refuse_public a.n a.left a.right a.public (tested (goal.at.returns-then-public-gt-ROWS c).After-variables_outside false c.if-variables_outside.false) c.if-left.false c.if-right.false
+    (refuse_public a.n a.left a.right a.public (tested (goal.at.returns-then-public-gt-ROWS c).After-variables_outside false c.if-variables_outside.false)
+    c.if-left.false c.if-right.false
     (lt-ltb 128 a.public c.if-public-gt-ROWS.true)) in
     record { value = proved.0; result_value = proved.1 }
 
@@ -55,6 +59,7 @@ pub returns : goal.returns
 returns c =
     let a = c.args in
     let proved = with-said a.n a.left a.right a.public _
-    (take-size a.n a.left a.right a.public (tested (goal.at.returns c).After-variables_outside false c.if-variables_outside.false) c.if-left.false c.if-right.false
+    (take-size a.n a.left a.right a.public (tested (goal.at.returns c).After-variables_outside false c.if-variables_outside.false) c.if-left.false
+    c.if-right.false
     (le-ltb 128 a.public c.if-public-gt-ROWS.false)) in
     record { value = proved.0; result_value = proved.1 }

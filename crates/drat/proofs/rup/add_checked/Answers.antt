@@ -11,7 +11,10 @@ slice_bounds-follows-end-2 c = sym (length-take-le _ _ (omega arith))
 pub returns-then-not-follows : goal.returns-then-not-follows
 returns-then-not-follows c =
     let a = c.args in
-    record { takes = takes_failed a.words.now a.count a.clause (omega arith) c.follows.result c.follows.ensures c.if-not-follows.true; count_bound = omega arith }
+    record {
+      takes = takes_failed a.words.now a.count a.clause (omega arith) c.follows.result c.follows.ensures c.if-not-follows.true;
+      count_bound = omega arith;
+    }
 
 pub returns-then-clause-eq0 : goal.returns-then-clause-eq0
 returns-then-clause-eq0 c =

@@ -63,7 +63,13 @@ lane-requires c =
     let here = along-below 16777216 65536 384 s.slots s.outer c.loop-j.j f.below.0 f.below.1 (omega (arith, f.counts.1)) in
     let room : 3 * (c.loop-j.at - c.args.inputs) + 3 * (s.zeros + s.size * s.cells) ≤ length c.loop-j.words =
     omega (arith, f.room, f.begins, at, t) in
-    record { template_value = (c.requires.template_value.0, few); zeros_bound = (f.counts.0, f.counts.2, omega (arith, f.begins, at), omega (arith, f.begins, at, t)); below = (rw c.along-here.ensures here, f.below.2); n_in_bounds = rw e room }
+    record {
+      template_value = (c.requires.template_value.0, few);
+      zeros_bound = (f.counts.0, f.counts.2, omega (arith, f.begins, at), omega (arith, f.begins, at, t));
+      below =
+          (rw c.along-here.ensures here, f.below.2);
+      n_in_bounds = rw e room;
+    }
 
 pub overflow_add-at : goal.overflow_add-at
 overflow_add-at c =

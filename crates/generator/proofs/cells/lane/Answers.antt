@@ -8,12 +8,22 @@ use Rattle.generator.proofs.cells.lane.Goals as goal
 
 pub cells-requires : goal.cells-requires
 cells-requires c =
-    record { template_value = (refl, omega arith); n_bound = (omega arith, omega arith, omega arith); below = (omega arith, omega arith); n_in_bounds = omega arith }
+    record {
+      template_value = (refl, omega arith);
+      n_bound = (omega arith, omega arith, omega arith);
+      below = (omega arith, omega arith);
+      n_in_bounds = omega arith;
+    }
 
 pub cells-requires-2 : goal.cells-requires-2
 cells-requires-2 c =
     let k = c.cells.auto.words in
-    record { template_value = (c.requires.template_value.0, c.requires.template_value.1); n_bound = (omega arith, omega arith, omega arith); below = (c.requires.below.0, c.requires.below.1); n_in_bounds = omega arith }
+    record {
+      template_value = (c.requires.template_value.0, c.requires.template_value.1);
+      n_bound = (omega arith, omega arith, omega arith);
+      below = (c.requires.below.0, c.requires.below.1);
+      n_in_bounds = omega arith;
+    }
 
 pub returns : goal.returns
 returns c =

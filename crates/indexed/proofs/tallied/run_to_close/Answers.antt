@@ -15,7 +15,8 @@ room s = s.well_formed.1.1.1.1.0.1.1.1.1.1.1.1.0.1.0.1
 
 pub loop-held-init : goal.loop-held-init
 loop-held-init c =
-    kept_from _ _ _ c.requires.run_value (room (goal.at.loop-held-init c).Start) _ (c.survey-tally.ensures ∙ survey_exact _ _ _ _ c.requires.indexed _ _ (omega arith) (omega arith))
+    kept_from _ _ _ c.requires.run_value (room (goal.at.loop-held-init c).Start) _
+    (c.survey-tally.ensures ∙ survey_exact _ _ _ _ c.requires.indexed _ _ (omega arith) (omega arith))
 
 pub advance-held-requires : goal.advance-held-requires
 advance-held-requires c =

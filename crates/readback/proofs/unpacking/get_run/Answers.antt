@@ -7,7 +7,11 @@ use Rattle.readback.proofs.unpacking.get_run.Goals as goal
 
 pub get_levels-levels-requires : goal.get_levels-levels-requires
 get_levels-levels-requires c =
-    record { n_bound = search rules; depth_bound = omega (arith, c.get_one-depth.ensures.upper_bound); depth_in_bounds = levels-room c.args.n c.args.bytes.now c.get_one-depth.result c.get_one-depth.ensures.upper_bound c.requires.n_in_bounds }
+    record {
+      n_bound = search rules;
+      depth_bound = omega (arith, c.get_one-depth.ensures.upper_bound);
+      depth_in_bounds = levels-room c.args.n c.args.bytes.now c.get_one-depth.result c.get_one-depth.ensures.upper_bound c.requires.n_in_bounds;
+    }
 
 pub returns : goal.returns
 returns c =

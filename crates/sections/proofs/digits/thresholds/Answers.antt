@@ -8,4 +8,8 @@ use Rattle.sections.proofs.digits.thresholds.Goals as goal
 pub returns : goal.returns
 returns c =
     let e = ap (λ (x : ℕ). x / 2 ^ c.args.d) c.less.ensures in
-    record { value = e; upper_bound = subst (λ (x : ℕ). (x ≤ 255) × (2 ^ c.args.d * x ≤ c.args.n)) (sym e) (thresholds-few c.args.n 0 c.requires.0 (omega arith) c.args.d) }
+    record {
+      value = e;
+      upper_bound = subst (λ (x : ℕ). (x ≤ 255) × (2 ^ c.args.d * x ≤ c.args.n)) (sym e)
+          (thresholds-few c.args.n 0 c.requires.0 (omega arith) c.args.d);
+    }

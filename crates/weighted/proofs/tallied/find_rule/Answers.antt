@@ -19,7 +19,8 @@ chosen s = heaviest (set_weight s.args.words.now s.args.tally.unsatisfied (42949
 
 -- a rule that the tally shows, with it
 found : (c : After-rule-found) (k : Rule) → c.rule-found.result ≡ k
-    → choosing (chosen (goal.at.After-rule-found c).Start) k ≡ choosing (chosen (goal.at.After-rule-found c).Start) (rule_by c.args.index.now c.args.t c.args.f c.args.tally)
+    → choosing (chosen (goal.at.After-rule-found c).Start) k
+    ≡ choosing (chosen (goal.at.After-rule-found c).Start) (rule_by c.args.index.now c.args.t c.args.f c.args.tally)
 found c k e = told-rule (chosen (goal.at.After-rule-found c).Start) c.rule-found.result k _ c.rule-found.ensures e
 
 pub returns-in-AllSatisfied : goal.returns-in-AllSatisfied

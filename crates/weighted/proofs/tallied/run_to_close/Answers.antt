@@ -32,7 +32,8 @@ less c =
 
 pub loop-tally-init : goal.loop-tally-init
 loop-tally-init c =
-    kept_from _ _ _ c.requires.run_value (room (goal.at.loop-tally-init c).Start) _ (c.survey-tally.ensures ∙ survey_exact _ _ _ _ c.requires.indexed _ _ (omega arith) (omega arith))
+    kept_from _ _ _ c.requires.run_value (room (goal.at.loop-tally-init c).Start) _
+    (c.survey-tally.ensures ∙ survey_exact _ _ _ _ c.requires.indexed _ _ (omega arith) (omega arith))
 
 pub overflow_add-steps : goal.overflow_add-steps
 overflow_add-steps c = record { fits = omega (arith, less (goal.at.overflow_add-steps c).After-find_rule-rule) }
@@ -42,7 +43,8 @@ loop-tally-smaller c = omega (arith, less (goal.at.loop-tally-smaller c).After-f
 
 pub loop-tally-preserved : goal.loop-tally-preserved
 loop-tally-preserved c =
-    kept_on _ _ _ _ c.requires.indexed _ _ c.loop-tally.last c.loop-tally.tally _ c.loop-tally.invariant (goes (goal.at.loop-tally-preserved c).After-find_rule-rule) _ c.find_rule-rule.ensures
+    kept_on _ _ _ _ c.requires.indexed _ _ c.loop-tally.last c.loop-tally.tally _ c.loop-tally.invariant
+    (goes (goal.at.loop-tally-preserved c).After-find_rule-rule) _ c.find_rule-rule.ensures
     _ c.follow-next.ensures _ c.after_rule-tally.ensures
 
 pub returns : goal.returns

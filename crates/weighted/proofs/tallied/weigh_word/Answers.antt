@@ -48,7 +48,10 @@ pub bounds-words-at-in-loop-left : goal.bounds-words-at-in-loop-left
 bounds-words-at-in-loop-left c = omega (arith, row (goal.at.bounds-words-at-in-loop-left c).In-loop-left)
 
 pub overflow_cast-variables : goal.overflow_cast-variables
-overflow_cast-variables c = let a = c.args in record { fits = omega (arith, few_ones a.words.now a.unset (place (goal.at.overflow_cast-variables c).After-held-in-loop-left-1) (omega arith)) }
+overflow_cast-variables c = let a = c.args in record {
+  fits = omega
+      (arith, few_ones a.words.now a.unset (place (goal.at.overflow_cast-variables c).After-held-in-loop-left-1) (omega arith));
+}
 
 pub power-requires : goal.power-requires
 power-requires c = let a = c.args in few_ones a.words.now a.unset (place (goal.at.power-requires c).After-held-in-loop-left-1) (omega arith)
@@ -66,7 +69,8 @@ loop-left-preserved c =
       weighing-next _ _ _ _ l.invariant.1 _ _
           (word_first a.words.now a.first a.unset l.left l.invariant.0 c.loop-left-test.true _
           (sym (lowest_trailing 64 l.left l.invariant.0)))
-          _ (raised-row a.words.now a.unset (place (goal.at.loop-left-preserved c).After-held-in-loop-left-1) (omega arith) l.weights _ _ c.power.ensures c.raise.ensures),
+          _ (raised-row a.words.now a.unset (place (goal.at.loop-left-preserved c).After-held-in-loop-left-1) (omega arith) l.weights _ _ c.power.ensures
+          c.raise.ensures),
     )
 
 pub returns : goal.returns

@@ -16,7 +16,8 @@ found : (c : After-find_rule-found) → let a = c.args in
     choosing (heaviest (weight 32 rows a.t a.f) 32) k ≡ weighted_rule 32 rows a.t a.f
 found c k e =
     let a = c.args in
-    told 32 (rows_of_words a.left.now ++ (rows_of_words a.right.now ++ rows_of_words a.public.now)) a.t a.f c.find_rule-found.result k c.find_rule-found.ensures.value e
+    told 32 (rows_of_words a.left.now ++ (rows_of_words a.right.now ++ rows_of_words a.public.now)) a.t a.f c.find_rule-found.result k
+    c.find_rule-found.ensures.value e
 
 pub returns-in-AllSatisfied : goal.returns-in-AllSatisfied
 returns-in-AllSatisfied c = c.in-AllSatisfied.is ∙ found (goal.at.returns-in-AllSatisfied c).After-find_rule-found _ c.in-AllSatisfied.is

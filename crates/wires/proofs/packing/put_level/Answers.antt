@@ -21,6 +21,8 @@ pub returns : goal.returns
 returns c =
     record {
       value = omega (arith, c.put_set-behind_t.ensures.value, c.put_set-behind_f.ensures.value, c.put_one.ensures.value);
-      bytes_after = upto-then c.args.bytes.now c.args.at _ (bit c.args.level.t) c.args.n _ c.put_set-behind_t.ensures.bytes_after c.put_set-behind_t.ensures.value
-          (upto-then _ _ _ (bit c.args.level.f) c.args.n _ c.put_set-behind_f.ensures.bytes_after c.put_set-behind_f.ensures.value c.put_one.ensures.bytes_after);
+      bytes_after = upto-then c.args.bytes.now c.args.at _ (bit c.args.level.t) c.args.n _ c.put_set-behind_t.ensures.bytes_after
+          c.put_set-behind_t.ensures.value
+          (upto-then _ _ _ (bit c.args.level.f) c.args.n _ c.put_set-behind_f.ensures.bytes_after c.put_set-behind_f.ensures.value
+          c.put_one.ensures.bytes_after);
     }

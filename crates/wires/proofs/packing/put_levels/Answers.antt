@@ -27,4 +27,7 @@ loop-l-preserved c = (
 pub returns : goal.returns
 returns c =
     let e : c.loop-l.l ≡ c.args.n = omega arith in
-    record { value = c.loop-l.invariant.1.place ∙ ap (λ (k : ℕ). c.args.at + (c.args.n + (c.args.n + c.args.n)) * k) e; bytes_after = c.loop-l.invariant.1.bytes ∙ ap (λ (k : ℕ). stored c.args.bytes.now c.args.at (levels_bits c.args.n c.args.levels c.args.depth k)) e }
+    record {
+      value = c.loop-l.invariant.1.place ∙ ap (λ (k : ℕ). c.args.at + (c.args.n + (c.args.n + c.args.n)) * k) e;
+      bytes_after = c.loop-l.invariant.1.bytes ∙ ap (λ (k : ℕ). stored c.args.bytes.now c.args.at (levels_bits c.args.n c.args.levels c.args.depth k)) e;
+    }

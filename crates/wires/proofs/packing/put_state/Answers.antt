@@ -23,5 +23,6 @@ returns c =
     upto-then c.args.bytes.now c.args.at _ (bit run.t) n _ c.put_set-behind_t.ensures.bytes_after c.put_set-behind_t.ensures.value
     (upto-then _ _ _ (bit run.f) n _ c.put_set-behind_f.ensures.bytes_after c.put_set-behind_f.ensures.value
     (upto-then _ _ _ (λ k. eqb k run.depth) (n + 1) _ c.put_one-behind_depth.ensures.bytes_after c.put_one-behind_depth.ensures.value
-    (stored-then _ _ _ (levels_bits n run.levels run.depth n) _ c.put_levels-behind_levels.ensures.bytes_after (c.put_levels-behind_levels.ensures.value ∙ ap (λ (k : ℕ). r.result + k) (sym e)) c.put_standing.ensures)))
+    (stored-then _ _ _ (levels_bits n run.levels run.depth n) _ c.put_levels-behind_levels.ensures.bytes_after
+    (c.put_levels-behind_levels.ensures.value ∙ ap (λ (k : ℕ). r.result + k) (sym e)) c.put_standing.ensures)))
     ∙ ap (stored c.args.bytes.now c.args.at) (state_parts n run)
