@@ -3,7 +3,8 @@
 
 ghost use Rattle.std.specs.Prelude.{◌≡◌, ◌+◌, ◌≤◌, ◌<◌, length, take, drop, [], IfSome, None, Some};
 ghost use Rattle.std.specs.Io.KnownBytes.{Consumes};
-ghost use Rattle.input.specs.Line.{line_of, IsPrefixLen};
+ghost use Rattle.io.specs.Counts.{IsPrefixLen};
+ghost use Rattle.input.specs.Line.{line_of};
 ghost use Rattle.input.specs.Files.{FilesWithin, files_within, Gives, IsWhole};
 
 use std::io::Read;

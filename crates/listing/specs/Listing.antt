@@ -1,6 +1,6 @@
 -- What the circuit program prints for a line of standard input: document 01, "Programs", refusals 8, then 1, 2, 7.
 -- Ask: Does the circuit program answer 8, then 1, 2, 7?
-use Rattle.std.specs.Prelude.{◌≡◌, ℕ, ◌≤◌, List, [], ◌∷◌, ◌++◌, length, take, ltb}
+use Rattle.std.specs.Prelude.{ℕ, List, [], ◌∷◌, ◌++◌, ltb}
 use Rattle.refusals.specs.Checks.{Check, check, outcome, given}
 use Rattle.refusals.specs.declared.Refusal.TheVariants.{GateBuffer}
 use Rattle.lines.specs.declared.DimensionLine.{DimensionLine}
@@ -28,7 +28,3 @@ size_text (dimension.Refused r) = refused_line r
 -- what is printed for a line
 abbrev pub listed : List ℕ → List ℕ
 listed line = size_text (dimension_line_of line)
-
--- `&xs[..n]` is in bounds and has n bytes. The second part follows from the first, and spares a caller's `&buf[..n]` a proof file.
-abbrev pub IsFrontLen : ℕ → List ℕ → Type 0
-IsFrontLen n xs = (n ≤ length xs) × (n ≡ length (take n xs))

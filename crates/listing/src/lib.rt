@@ -8,7 +8,8 @@ ghost use Rattle.gates.specs.Memory.{gates_of, over};
 ghost use Rattle.bristol.specs.Text.{circuit_text};
 ghost use Rattle.bristol.specs.Writing.{circuit_checks};
 ghost use Rattle.text.specs.Refused.{refused_line};
-ghost use Rattle.listing.specs.Listing.{text_for, listed, IsFrontLen};
+ghost use Rattle.io.specs.Counts.{IsPrefixLen};
+ghost use Rattle.listing.specs.Listing.{text_for, listed};
 
 use bristol::WrittenLines;
 use dimensions::{CheckedDimensions, Dimensions};
@@ -64,7 +65,7 @@ fn put_circuit(d: Dimensions, bytes: &mut [u8; ROOM]) -> usize
 pub fn list(line: &[u8], bytes: &mut [u8; ROOM]) -> usize
     ensures value { result ≡ length (listed line.now) }
     ensures bytes_after { bytes.new ≡ over (listed line.now) bytes.old }
-    ensures prefix_len { IsFrontLen result bytes.new }
+    ensures prefix_len { IsPrefixLen result bytes.new }
 {
     match lines::read_dimensions(line) {
         DimensionLine::Of(n, left, right, public) => match Dimensions::new(n, left, right, public) {
