@@ -17,8 +17,7 @@ use refusals::{Outcome, Refusal};
 
 // The station, start and length of the clause of a row, from 1; 5 for an overlong text, the tables' 1, 2, 4 or 3, the left text's 1, 2 or
 // 5, the right text's, 6 or 17 where it is refused.
-#[unsafe(no_mangle)]
-pub extern "C" fn forkhemit_clause(
+pub fn forkhemit_clause(
     n: u64,
     left_rows: u64,
     right_rows: u64,
@@ -68,8 +67,7 @@ fn give(part: &[u8], bytes: &mut [u8], length: &mut [u64; 1]) -> u8
 
 // The own bytes of the clause of a row, from 1, as a part of its station's text, over the front of the lent bytes; their number is 0 where
 // the row has other words now. What `forkhemit_clause` is refused with, then 11 where they are more than the lent bytes.
-#[unsafe(no_mangle)]
-pub extern "C" fn forkhemit_excerpt<'a>(
+pub fn forkhemit_excerpt<'a>(
     n: u64,
     left_rows: u64,
     right_rows: u64,

@@ -20,8 +20,7 @@ use refusals::Outcome;
 use solver::Answer;
 
 // The budget of a line, digits and LF, at most 100 bytes; 8 where it is refused, and then no number is written.
-#[unsafe(no_mangle)]
-pub extern "C" fn forkhemit_read_budget(line: &[u8], budget: &mut [u64; 1]) -> u8
+pub fn forkhemit_read_budget(line: &[u8], budget: &mut [u64; 1]) -> u8
     ensures value { result ≡ budget_code (budget_of line.now) }
     ensures budget_after { budget.new ≡ numbers_or (budget_numbers (budget_of line.now)) budget.old }
 {
@@ -36,8 +35,7 @@ pub extern "C" fn forkhemit_read_budget(line: &[u8], budget: &mut [u64; 1]) -> u
 
 // Writes the line of a number, from 0, over the front of the bytes, and its length, 0 past the last line; 1, 2, 9 or 11 where it is
 // refused.
-#[unsafe(no_mangle)]
-pub extern "C" fn forkhemit_write_line(
+pub fn forkhemit_write_line(
     n: u64,
     left_rows: u64,
     right_rows: u64,
@@ -70,8 +68,7 @@ pub extern "C" fn forkhemit_write_line(
 
 // Writes the lines from a number on, as many as fit, over the front of the bytes, and how many lines and bytes they are; 1, 2, 9 or 11
 // where it is refused.
-#[unsafe(no_mangle)]
-pub extern "C" fn forkhemit_write_lines(
+pub fn forkhemit_write_lines(
     n: u64,
     left_rows: u64,
     right_rows: u64,
@@ -101,8 +98,7 @@ pub extern "C" fn forkhemit_write_lines(
 
 // Writes the answer as the pair program prints it over the front of the text, and its length; 1 where it is refused, and then nothing is
 // written.
-#[unsafe(no_mangle)]
-pub extern "C" fn forkhemit_answer(
+pub fn forkhemit_answer(
     n: u64,
     count: u64,
     verdict: u64,

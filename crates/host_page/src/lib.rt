@@ -15,8 +15,7 @@ use verdicts::Modelled;
 
 // Writes the page of the model of the run in the lent words, 80 bytes a pilot, over the front of the lent bytes; 12, 14, 25 or 26 where it
 // is refused, and then no byte changes.
-#[unsafe(no_mangle)]
-pub extern "C" fn forkhemit_page(run: &[u32; 101], pilots: u64, watches: u64, page: &mut [u8]) -> u8
+pub fn forkhemit_page(run: &[u32; 101], pilots: u64, watches: u64, page: &mut [u8]) -> u8
     ensures value { result ≡ code_of (outcome (page_checks (run_in run.now) pilots watches (length page.old))) }
     ensures page_after { page.new ≡ page_after (run_in run.now) pilots watches page.old }
 {
@@ -26,8 +25,7 @@ pub extern "C" fn forkhemit_page(run: &[u32; 101], pilots: u64, watches: u64, pa
 
 // The model of n variables on a page, the variables that are true, as a word; 1, 25, 26 or 27 where it is refused, and then no number is
 // written.
-#[unsafe(no_mangle)]
-pub extern "C" fn forkhemit_read_page(
+pub fn forkhemit_read_page(
     n: u64,
     pilots: u64,
     watches: u64,

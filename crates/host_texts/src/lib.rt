@@ -50,8 +50,7 @@ fn check_texts(
 
 // Reads three texts into tables, with n and the row counts; the left text's 1, 2 or 5, the right text's, the public one's, then 4 or 6
 // where it is refused.
-#[unsafe(no_mangle)]
-pub extern "C" fn forkhemit_read_tables(
+pub fn forkhemit_read_tables(
     left_text: &[u8],
     right_text: &[u8],
     public_text: &[u8],

@@ -7,8 +7,7 @@ ghost use Rattle.std.specs.Prelude.{◌≡◌};
 const VERSION: u64 = 10000;
 
 // The version of this library.
-#[unsafe(no_mangle)]
-pub extern "C" fn forkhemit_version() -> u64
+pub fn forkhemit_version() -> u64
     ensures { result ≡ 10000 }
 {
     VERSION

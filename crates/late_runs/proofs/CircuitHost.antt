@@ -32,6 +32,7 @@ use Rattle.late_runs.specs.Host.{dated, Turn, Try, Call, Renew, repeats_by, coun
 use Rattle.late_runs.proofs.Schedule.{not-due, due-later, with-accepted, tables-accepted}
 use Rattle.late_runs.proofs.Demands.{history-late, end_late, secrecy_late}
 use Rattle.late_runs.proofs.Host.{open_replaces, at_once}
+use Rattle.late_runs.proofs.CircuitDates.{not_yet, shifted, first_date}
 use Rattle.late_runs.proofs.CircuitCalls.{call_taken, call_refused, further, taken-goes, refused-goes, counts-add-up}
 use Rattle.demand3.proofs.Histories.{closed_open}
 
@@ -43,29 +44,6 @@ turned-alike d t t' acc acc' s w (Lent bytes wires handed) e = short-turned d t 
 turned-alike d t t' acc acc' s w (Otherwise refusal) e = refl
 
 module _ (d : Dimensions) where
-  -- ---- the tables that a repeat reads
-
-  -- conditions after more repeats are not there yet
-  not_yet : (more : List Turn) (j k : ℕ) → j < k → (t : Tables) → tables_at d t (conditions_in d k more) j ≡ t
-  unfolding conditions_in tables_at
-  not_yet [] j k b t = refl
-  not_yet (Renew c ∷ more) j k b t = rw (not-due (dated k c) j b)
-  not_yet (Call times gates bytes wires ∷ more) j k b t =
-      on (room_for d gates bytes wires) (λ e. rw e (not_yet more j (k + times) (omega arith) t)) (λ e. rw e (not_yet more j k b t))
-  not_yet (Try a ∷ more) j k b t = on (long_enough d a) (λ e. rw e (not_yet more j (suc k) (omega arith) t)) (λ e. rw e (not_yet more j k b t))
-
-  -- one repeat more on both sides
-  shifted : (more : List Turn) (k j : ℕ) (t : Tables) → tables_at d t (conditions_in d (suc k) more) (suc j) ≡ tables_at d t (conditions_in d k more) j
-  unfolding conditions_in tables_at
-  shifted [] k j t = refl
-  shifted (Renew c ∷ more) k j t = ap₂ (λ (b : Bool) (x : Tables). cond b x t) (due-later c k j) (shifted more k j (tables_with d t c))
-  shifted (Call times gates bytes wires ∷ more) k j t =
-      let one : suc k + times ≡ suc (k + times) = omega arith in
-      on (room_for d gates bytes wires)
-      (λ e. rw e (ap (λ (i : ℕ). tables_at d t (conditions_in d i more) (suc j)) one ∙ shifted more (k + times) j t))
-      (λ e. rw e (shifted more k j t))
-  shifted (Try a ∷ more) k j t = on (long_enough d a) (λ e. rw e (shifted more (suc k) j t)) (λ e. rw e (shifted more k j t))
-
   -- ---- the turns
 
   -- demand 3's repeats over the tables as the conditions leave them
@@ -85,7 +63,7 @@ module _ (d : Dimensions) where
 
     -- demand 3's repeats where the later conditions are dated after the attempt, or not
     abbrev dating : Bool → List Repeat
-    dating long = repeats d (tables_at d t (conditions_in d (cond long 1 0) more)) (suc rest) run (a ∷ attempts_in d more)
+    dating long = repeats d (tables_at d t (conditions_in d (first_date long) more)) (suc rest) run (a ∷ attempts_in d more)
 
     -- the host's
     host-goes : repeats_by d t (suc rest) run (Try a ∷ more) ≡ goes (repeats_by d t (suc rest) run more)
@@ -98,11 +76,11 @@ module _ (d : Dimensions) where
     unfolding repeats attempts_in conditions_in
     mixed_long e =
         ap dating e
-        ∙ ap (λ (x : Tables). comes_of (attempted d x run a) again further) (not_yet more 0 1 (omega arith) t)
+        ∙ ap (λ (x : Tables). comes_of (attempted d x run a) again further) (not_yet d more 0 1 (omega arith) t)
         ∙ attempt_is d t acc s formed again further a
         ∙ ap₂ (λ (b : Bool) (at : ℕ → Tables). cond b
         (returned d.n next ∷ cond (closed next) [] (repeats d at rest (run_of d.n next) (attempts_in d more))) (again run))
-        e (fun_ext (λ k. shifted more 0 k t))
+        e (fun_ext (λ k. shifted d more 0 k t))
       where
         again : Run → List Repeat
         again r = repeats d (tables_at d t (conditions_in d 1 more)) (suc rest) r (attempts_in d more)

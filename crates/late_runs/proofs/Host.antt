@@ -173,14 +173,14 @@ module _ (d : Dimensions) where
     unfolding act
     after-step = ap (λ (r : Run). record { tables = t; run = r }) (step_leaves d t acc s formed)
 
-    after_open : closed s ≡ false → (c : Condition) → act d (host t s) (Replace c) ≡ host (tables_with d t c) s
-    unfolding act
-    after_open e c = ap (λ (x : Tables). record { tables = x; run = run_of d.n s }) (open_replaces d t acc s formed c e)
-
     after-closed : closed s ≡ true → (a : Action) → act d (host t s) a ≡ host t s
     unfolding act
     after-closed e Step = after-step ∙ ap (host t) (closed-step d.n (rows_of d t) s e)
     after-closed e (Replace c) = ap (λ (x : Tables). record { tables = x; run = run_of d.n s }) (closed_keeps d t acc s formed c e)
+
+    after_open : closed s ≡ false → (c : Condition) → act d (host t s) (Replace c) ≡ host (tables_with d t c) s
+    unfolding act
+    after_open e c = ap (λ (x : Tables). record { tables = x; run = run_of d.n s }) (open_replaces d t acc s formed c e)
 
     -- on a closed run no call changes anything
     pub host_stays : closed s ≡ true → (more : List Action) → play d (host t s) more ≡ host t s

@@ -54,9 +54,9 @@ module _ (d : Dimensions) where
   replaced-next : (tables : Tables) → Accepts d tables → (c : Condition) → legal d tables c ≡ true → Next tables (replaced_in d tables c)
   replaced-next tables acc c e =
       let own = owns d c.station c.replaced in
-      let both = and_l (own && padding_at d tables c.replaced) _ e in
+      let both = and_l _ _ e in
       record {
-        taken = accepted_still d tables c acc (and_r (own && padding_at d tables c.replaced) _ e);
+        taken = accepted_still d tables c acc (and_r _ _ e);
         same = ap (λ (words : List ℕ). rows_from words 0 d.public) (public_still d tables c);
         grown = subst (Grows d.n (rows_of d tables)) (sym (rows_replaced d tables c acc (and_l own _ both)))
             (set_grows d.n (accepted d tables acc).size.n-most (rows_of d tables) (c.replaced - 1) c.row (and_r own _ both));
