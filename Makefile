@@ -123,7 +123,8 @@ uninstall: absolute
 NAME := forkhemit-$(VERSION)
 DIST := target/dist/$(NAME)
 
-# What `make install` copies, in a folder of its own that works wherever it is. One tree and one `make` give the same bytes each time.
+# What `make install` copies, in a folder of its own that works wherever it is. One tree and one `make` give the same bytes each time. The
+# folder goes once it is packed: it has links, and `rt ci` refuses a checkout with links.
 dist: all
 	rm -rf target/dist
 	$(MAKE) --silent install DESTDIR=target/dist PREFIX=/$(NAME) LIBDIR=/$(NAME)/lib >/dev/null
@@ -133,6 +134,7 @@ dist: all
 	cd $(DIST) && find . -type f ! -name SHA256SUMS | LC_ALL=C sort | xargs sha256sum >SHA256SUMS
 	tar --sort=name --mtime=@0 --owner=0 --group=0 --numeric-owner --format=ustar -C target/dist -c $(NAME) | gzip -n >$(DIST)-x86_64-linux.tar.gz
 	cd target/dist && sha256sum $(NAME)-x86_64-linux.tar.gz >$(NAME)-x86_64-linux.tar.gz.sha256
+	rm -r $(DIST)
 	@cat $(DIST)-x86_64-linux.tar.gz.sha256
 
 # ---- make examples, make drill

@@ -2,9 +2,9 @@
  * Forkhemit for hosts in C and C++: two stations' clause tables and the public one, the giant step, its circuit and the texts. Every
  * function is proved to meet its contract. The contracts are in the crates whose names begin with host_.
  *
- * `make lib` writes the archive to link, target/lib/libforkhemit.a, for x86-64 Linux. It needs C's memcpy, memmove and memset and nothing
- * else. docs/HOSTS.md has the calls in the order in which a host makes them. examples/host has hosts in C, in Rust and in Python. For
- * Python there is a module over the shared library, python/forkhemit.py.
+ * `make lib` writes the archive to link, target/lib/libforkhemit.a, for x86-64-v2 Linux. It needs C's memcpy, memmove and memset and
+ * nothing else. docs/HOSTS.md has the calls in the order in which a host makes them. examples/host has hosts in C, in Rust and in Python.
+ * For Python there is a module over the shared library, python/forkhemit.py.
  *
  * `make install PREFIX=/DIR` puts this header, the archive and the shared library there. `pkg-config --cflags --libs forkhemit` then says
  * how to compile and link, and the guide and the examples are in share/doc/forkhemit. These flags link the shared library, which the loader

@@ -78,7 +78,7 @@ const RESULT: &str = "result";
 /// Whether a token is of the result, or of what is left in a buffer.
 fn is_of_after(token: &String) -> bool {
     let mut parts = token.split('.');
-    parts.next() == Some(RESULT) || parts.any(|part| part == "new")
+    parts.next() == Some(RESULT) || parts.any(|part| ["new", "exit"].contains(&part))
 }
 
 /// Whether a statement equates a token with others that mention neither the result nor what is left in a buffer.
@@ -170,6 +170,8 @@ const SAMPLES: &[(&str, &[(&str, &str)])] = &[
     ("pub fn f(b: &mut [u8])\n    ensures { b.new ≡ cleared b.old }\n{ }", &[("f", "")]),
     ("pub fn f(b: &mut [u8]) -> u8\n    ensures { result ≡ 0 }\n{ 0 }", &[("f", "does not equate what it leaves in b")]),
     ("pub fn f(b: &mut [u8])\n    ensures { b.new ≡ drop 0 b.new }\n{ }", &[("f", "does not equate what it leaves in b")]),
+    ("pub fn f(b: &'a mut [u8])\n    ensures { b.new ≡ b.exit.now }\n{ }", &[("f", "does not equate what it leaves in b")]),
+    ("pub fn f(b: &'a mut [u8]) -> u8\n    ensures value { result ≡ length b.exit.now }\n    ensures after { b.new ≡ b.old }\n{ 0 }", &[("f", "does not equate its result")]),
     ("pub fn f(a: &mut [u8; 4], c: u8, b: &'a mut [u8])\n    ensures { a.new ≡ a.old }\n{ }", &[("f", "does not equate what it leaves in b")]),
     ("pub fn f()\n    ghost { ℕ }\n    ensures kept { length m ≡ 0 }\n{ }\nfn g() { }\npub(crate) fn h() requires { ⊥ } { }", &[("f", "")]),
     ("#[unsafe(no_mangle)]\npub extern \"C\" fn f(x: u8) -> u8 { x }", &[("f", "has no ensures")]),
@@ -179,14 +181,15 @@ const SAMPLES: &[(&str, &[(&str, &str)])] = &[
     ("pub fn main() { }\nfn f() { }", &[]),
 ];
 
-/// The files below a folder with this ending, in the order of their paths. What `rt` makes, `out`, is none of it.
+/// The files below a folder with this ending, in the order of their paths. What `rt` makes, `out` beside a crate's `src`, is none of it.
 pub fn files(folder: &Path, ending: &str) -> std::io::Result<Vec<PathBuf>> {
     let (mut folders, mut found) = (vec![folder.to_owned()], vec![]);
     while let Some(folder) = folders.pop() {
         for entry in fs::read_dir(folder)? {
             let path = entry?.path();
             if path.is_dir() {
-                folders.extend(Some(path).filter(|path| !path.ends_with("out")));
+                let made = path.ends_with("out") && path.with_file_name("src").is_dir();
+                folders.extend(Some(path).filter(|_| !made));
             } else if path.extension().map_or(false, |extension| extension == ending) {
                 found.push(path);
             }

@@ -144,6 +144,8 @@ pub struct Function {
     /// Names, and which of them are lent to be written.
     pub parameters: Vec<(String, bool)>,
     pub result: bool,
+    /// What is between its name and its contract, token by token: the parameters with their types, and the result's type.
+    pub signature: Vec<String>,
     /// The word that begins each clause, and what is in its brackets.
     pub clauses: Vec<(String, String)>,
     /// What is in the brackets of its body, token by token.
@@ -204,6 +206,7 @@ fn function(reader: &mut Reader, lead: &[String]) -> Function {
     let public = lead.iter().position(|token| token == "pub");
     let exported = public.map_or(false, |at| lead.get(at + 1).map_or(true, |next| next != "("));
     let mut function = Function { name: reader.token().unwrap_or_default(), exported, ..Function::default() };
+    function.signature = signature(reader);
     // parameters of types come first, in brackets that may have others within
     let (mut last, mut depth) = (String::new(), 0);
     while let Some(token) = reader.token() {
@@ -243,6 +246,25 @@ fn function(reader: &mut Reader, lead: &[String]) -> Function {
         last = token;
     }
     function
+}
+
+/// The tokens up to a contract, a body or the end of a declaration, without the comma that a layout in lines has behind the last parameter. The
+/// reader stays where it is.
+fn signature(reader: &mut Reader) -> Vec<String> {
+    let (start, mut arrays, mut tokens) = (reader.at, 0, Vec::<String>::new());
+    while let Some(token) = reader.token() {
+        match token.as_str() {
+            "[" => arrays += 1,
+            "]" => arrays -= 1,
+            ";" if arrays == 0 => break,
+            "{" | "requires" | "ensures" | "ghost" => break,
+            ")" if tokens.last().map_or(false, |last| last == ",") => drop(tokens.pop()),
+            _ => (),
+        }
+        tokens.push(token);
+    }
+    reader.at = start;
+    tokens
 }
 
 /// The tokens up to the bracket that closes the one that was read. The reader stays where it is: a body may have functions in it.

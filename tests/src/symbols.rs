@@ -1,5 +1,5 @@
 //! What symbols mean: every operator, and every name of the library that contracts and definitions use, has the library's
-//! meaning. With an own `_≡_` that is always true a function that gives 1 would ensure that it gives 7.
+//! meaning. With an own `◌≡◌` that is always true a function that gives 1 would ensure that it gives 7.
 
 use crate::antt;
 use crate::contracts;
