@@ -82,7 +82,7 @@ front_stays {o} {q} x y r l m e w v = go o ∙ ap (λ (z : Outcome). given z y (
 
 -- the words judged are the front's
 pub front-high : (n rows : ℕ) (words : List ℕ) → high n rows (named_rows rows words) ≡ high n rows words
-front-high n rows words = ap (λ (l : List ℕ). not (all_below n l)) (take-take (2 * rows) (2 * rows) words (omega arith))
+front-high n rows words = ap (λ (l : List ℕ). not (all_below n l)) (take-take (2 * rows) _ words (omega arith))
 
 module _ (d : Dimensions) (tables : Tables) where
   -- the rows of the words named
