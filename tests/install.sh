@@ -152,6 +152,11 @@ trial 'the circuit program prints' prints $'3 2 2 9\n2 9 1' smallest
 trial 'the whole program answers with its budget for the count' prints $'c steps 9\ns SATISFIABLE\nv -1 2 0' through 0009
 trial 'and takes no larger one' prints $'c refused 23\ns UNKNOWN' through 65536
 trial 'nor the example, which is too large' prints $'c refused 7\ns UNKNOWN' harbour
+# as the man pages promise
+full() { echo "$2" | "$prefix/bin/forkhemit-$1" >/dev/full; }
+for program in pair circuit whole; do
+    trial "$program ends with status 0 where its output cannot be written" full "$program" '1 1 1 0'
+done
 
 planner=(env -u LD_LIBRARY_PATH "$prefix/bin/forkhemit-plan")
 roster='2 Ahlgren late, 5 Brandt late, 7 Costa early, 12 Duarte night'
