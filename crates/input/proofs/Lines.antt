@@ -14,6 +14,10 @@ use Rattle.input.specs.Line.{line_of}
 abbrev pub Unended : List ℕ → Type 0
 Unended xs = (ys : List ℕ) → line_of (xs ++ ys) ≡ xs ++ line_of ys
 
+pub unended_none : Unended []
+unfolding line_of
+unended_none ys = refl
+
 pub line_so_far : (xs : List ℕ) → Unended xs → line_of xs ≡ xs
 unfolding line_of
 line_so_far xs u = ap line_of (sym (append-nil xs)) ∙ u [] ∙ append-nil xs

@@ -92,7 +92,7 @@ pub struct Files {
     pub public: usize,
 }
 
-// Opens a file by its number from 0. One that does not open is none, of which every read fails, as a fourth file is.
+// Opens a file by its number from 0. It gives none for a file that does not open and for a fourth file: every read then fails.
 fn open<R: rt::Files>(rt: &R, number: usize) -> Option<R::File> {
     if number == 0 {
         return fs::open(rt, "left.cnf").ok();

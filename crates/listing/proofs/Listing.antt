@@ -1,5 +1,5 @@
--- What the definition comes to where the generator takes the dimensions. The words lent to the generator are three for each gate of the greatest
--- ceiling that is served, so that its 7 is the program's.
+-- What the definition comes to, case by case: whether the generator takes the dimensions and whether four numbers are dimensions decide. The words
+-- lent to the generator are three for each gate of the greatest ceiling that is served, so that its 7 is the program's.
 use mathlib.Core.Path.{◌≡◌, refl, sym, ap, ◌∙◌, subst}
 use mathlib.Core.Bool.{Bool, not}
 use mathlib.Core.List.{List, [], ◌∷◌, ◌++◌}
@@ -8,20 +8,24 @@ use native.Mathlib.Omega.{arith}
 use borrow.Author.Tests.{lt-ltb, le-ltb, ltb-true, ltb-false}
 use lib.Dec.{ltb}
 use lib.ListN.{length, take, drop, length-append}
-use lib.Seq.{take_at}
+use lib.Seq.{take_at, take-length, length-take-le}
+use Rattle.io.specs.Counts.{IsPrefixLen}
 use Rattle.words.proofs.Truth.{on}
 use Rattle.refusals.specs.declared.Refusal.{Refusal}
 use Rattle.refusals.specs.declared.Refusal.TheVariants.{GateBuffer}
 use Rattle.refusals.specs.declared.Outcome.{Outcome}
 use Rattle.refusals.specs.declared.Outcome.TheVariants.{Taken, Refused}
 use Rattle.refusals.specs.Checks.{check, outcome, given}
-use Rattle.refusals.proofs.Outcomes.{outcome_parts, check_passed}
+use Rattle.refusals.specs.Numbers.{number_of}
+use Rattle.refusals.proofs.Outcomes.{outcome-refused, outcome_parts, check_passed}
 use Rattle.text.specs.declared.Text.{Text}
 use Rattle.text.specs.Texts.{text_of}
 use Rattle.text.specs.Refused.{refused_line}
 use Rattle.text.proofs.Appending.{text_back}
+use Rattle.text.proofs.Decimals.{decimal-length}
 use Rattle.dimensions.specs.declared.Dimensions.{Dimensions}
-use Rattle.dimensions.specs.Sizes.{row_count, size_checks, ceiling, input_wires}
+use Rattle.dimensions.specs.declared.CheckedDimensions.TheVariants as sized'
+use Rattle.dimensions.specs.Sizes.{dimensions, row_count, size_checks, sized, ceiling, input_wires}
 use Rattle.dimensions.proofs.Limits.{within}
 use Rattle.gates.specs.Memory.{gates_of, words_of, over}
 use Rattle.gates.proofs.InMemory.{words-length, gates_words, accepted-words}
@@ -45,6 +49,9 @@ Put text lent k out = (k ≡ length text) × (out ≡ over text lent)
 
 -- ---- a refusal's line
 
+pub line-short : (r : Refusal) → length (refused_line r) ≤ 256
+line-short r = simp length-append (omega (arith, decimal-length (number_of r)))
+
 -- a text by value and the bytes that it holds
 pub text_held : (t : Text) (xs : List ℕ) → t ≡ text_of xs → take t.length t.bytes ≡ xs
 text_held t xs e = ap (λ (x : Text). take x.length x.bytes) e ∙ text_back xs
@@ -53,6 +60,14 @@ text_held t xs e = ap (λ (x : Text). take x.length x.bytes) e ∙ text_back xs
 pub line_put : (t : Text) (text front lent : List ℕ) → t ≡ text_of text → front ≡ take t.length t.bytes → front ++ drop t.length lent ≡ over text lent
 line_put t text front lent e f =
     ap (λ (l : List ℕ). l ++ drop t.length lent) (f ∙ text_held t text e) ∙ ap (λ (x : Text). text ++ drop x.length lent) e
+
+pub line_copied : (text front lent out : List ℕ) (k : ℕ) → front ≡ text → k ≡ length front → out ≡ take (length front) front
+    ++ drop (length front) lent → Put text lent k out
+line_copied text front lent out k e h o = (
+  h ∙ ap length e,
+  o ∙ ap (λ (l : List ℕ). take (length l) l ++ drop (length l) lent) e
+      ∙ ap (λ (l : List ℕ). l ++ drop (length text) lent) (take-length text),
+)
 
 -- ---- a circuit's text
 
@@ -86,6 +101,18 @@ limit k c h =
 module _ (d : Dimensions) (words : List ℕ) (h : length words ≡ 16383) where
   same-checks : outcome (generator_checks d words) ≡ outcome (list_checks d)
   same-checks = ap (λ (b : Bool). outcome (size_checks d ++ (check b GateBuffer ∷ []))) (limit (length words) (ceiling d) h)
+
+  -- ---- dimensions that are refused
+
+  pub circuit-refused : (r : Refusal) → generated d words ≡ generated'.Refused r → refused_line r ≡ text_for d
+  circuit-refused r g = go (outcome (generator_checks d words)) refl g
+    where
+      go : (o : Outcome) → outcome (generator_checks d words) ≡ o → given o (generated'.Of (length (gates_on d))) generated'.Refused
+          ≡ generated'.Refused r → refused_line r ≡ text_for d
+      go Taken e f = absurd (let z : ◌≡◌ {A = ℕ} 0 1 = cc in omega arith)
+      go (Refused q) e f =
+          let same : r ≡ q = cc in
+          ap refused_line same ∙ ap (λ (o : Outcome). given o (circuit_text d (gates_on d)) refused_line) (sym e ∙ same-checks)
 
   -- ---- dimensions that are served
 
@@ -139,6 +166,40 @@ served d words left k h g l = go (outcome (generator_checks d words)) refl g l
               (circuit-short d words h t);
         }
 
--- what was put for a text is put for the same text
+-- ---- four numbers
+
+module _ (n left right public : ℕ) where
+  abbrev named : Dimensions
+  named = dimensions n left right public
+
+  -- numbers that are dimensions
+  pub sized_of : (d : Dimensions) → sized n left right public ≡ sized'.Of d → text_for d ≡ text_for named
+  sized_of d e = go (outcome (size_checks named)) e
+    where
+      go : (o : Outcome) → given o (sized'.Of named) sized'.Refused ≡ sized'.Of d → text_for d ≡ text_for named
+      go Taken f = let same : d ≡ named = cc in ap text_for same
+      go (Refused q) f = absurd (let z : ◌≡◌ {A = ℕ} 0 1 = cc in omega arith)
+
+  -- and numbers that are not
+  pub sized-refused : (r : Refusal) → sized n left right public ≡ sized'.Refused r → refused_line r ≡ text_for named
+  sized-refused r e = go (outcome (size_checks named)) refl e
+    where
+      go : (o : Outcome) → outcome (size_checks named) ≡ o → given o (sized'.Of named) sized'.Refused ≡ sized'.Refused r → refused_line r ≡ text_for named
+      go Taken t f = absurd (let z : ◌≡◌ {A = ℕ} 0 1 = cc in omega arith)
+      go (Refused q) t f =
+          let same : r ≡ q = cc in
+          ap refused_line same
+          ∙ ap (λ (o : Outcome). given o (circuit_text named (gates_on named)) refused_line)
+          (sym (outcome-refused (size_checks named) (check (ltb 5461 (ceiling named)) GateBuffer ∷ []) q t))
+
+-- ---- what was put for a text is put for the same text, and lies within the bytes
+
 pub put_same : (text same lent : List ℕ) (k : ℕ) (out : List ℕ) → text ≡ same → Put text lent k out → Put same lent k out
 put_same text same lent k out e p = subst (λ (x : List ℕ). Put x lent k out) e p
+
+pub put-within : (text same lent : List ℕ) (k : ℕ) (out : List ℕ) → text ≡ same → Put text lent k out → (k ≡ length same)
+    × ((out ≡ over same lent) × IsPrefixLen k out)
+put-within text same lent k out e p =
+    let q = put_same text same lent k out e p in
+    let within : k ≤ length out = omega (arith, p.0, ap length p.1, length-append text (drop (length text) lent)) in
+    (q.0, (q.1, (within, sym (length-take-le k out within))))
