@@ -9,6 +9,9 @@ use std::path::{Path, PathBuf};
 /// The crate of the functions that cannot say what they give, which bytes come from outside, and these functions.
 const UNKNOWN_INPUT: (&str, [&str; 3]) = ("input", ["read_line", "begin", "read_on"]);
 
+/// The fields of the one struct of references, `Tables`: a function that returns it equates what each of them refers to.
+const SLICES: [&str; 3] = ["left", "right", "public"];
+
 /// Words that make several statements of one.
 const CONNECTIVES: [&str; 9] = ["→", "↔", "×", "⊎", "∨₁", "≡", "≢", "∀", "¬"];
 /// Statements that say nothing.
@@ -111,7 +114,8 @@ fn fault(function: &Function) -> Option<String> {
         return Some("has an ensures that says nothing".into());
     }
     let equated = |token: &str| statements.iter().any(|statement| equates(statement, token));
-    if function.result && !equated(RESULT) && !equated(&format!("{RESULT}.now")) {
+    let each = |fields: &[&str]| fields.iter().all(|field| equated(&format!("{RESULT}.{field}.now")));
+    if function.result && !equated(RESULT) && !equated(&format!("{RESULT}.now")) && !each(&SLICES) {
         return Some("does not equate its result".into());
     }
     let mut lent = function.parameters.iter().filter(|parameter| parameter.1);
@@ -131,6 +135,8 @@ fn exported(source: &str) -> Vec<(String, Option<String>)> {
 const SAMPLES: &[(&str, &[(&str, &str)])] = &[
     ("pub fn f(x: u8) -> u8\n    ensures { result ≡ x }\n{\n    x\n}", &[("f", "")]),
     ("pub fn f(x: u8) -> u8 { x }", &[("f", "has no ensures")]),
+    ("pub fn f(x: T<'_>) -> T<'_>\n    ensures l { result.left.now ≡ x.entry.left.now }\n    ensures r { result.right.now ≡ [] }\n    ensures p { result.public.now ≡ [] }\n{ x }", &[("f", "")]),
+    ("pub fn f(x: T<'_>) -> T<'_>\n    ensures l { result.left.now ≡ x.entry.left.now }\n    ensures r { result.right.now ≡ [] }\n{ x }", &[("f", "does not equate its result")]),
     ("pub fn f(x: u8) -> [u8; 4]\n    ensures { result ≡ replicate 4 x }\n{ [x; 4] }", &[("f", "")]),
     ("pub fn f(x: u8) -> [u8; 4]\n{ [x; 4] }", &[("f", "has no ensures")]),
     ("pub fn f(x: u8) -> u8\n    requires { x < 9 }\n    ensures { result ≡ x }\n{ x }", &[("f", "has a requires")]),

@@ -1,6 +1,7 @@
 //! What is said does not change unseen. tests/statements.txt holds the type of every theorem that docs/PROOFS.md names, with the
 //! parameters of the modules around it and the statements and values that it is about, all statements of files of definitions, all cases
-//! of the files of pins, and the contract of every exported function. A statement changes in a commit that changes that file, or the gate fails.
+//! of the files of pins, the contract of every exported function and the ghost members of impls. A statement changes in a commit that
+//! changes that file, or the gate fails.
 
 use crate::antt::{self, Item};
 use crate::believed;
@@ -33,6 +34,8 @@ pub struct Tree {
     pub index: Index,
     files: BTreeMap<String, File>,
     functions: Vec<(String, Function)>,
+    /// The ghost members of impls.
+    members: Vec<(String, String)>,
     /// All functions, those that a crate keeps to itself too.
     pub all: Vec<(String, Function)>,
 }
@@ -69,6 +72,7 @@ impl Tree {
             let uses = source::ghost_uses(text);
             let imports = uses.iter().flat_map(|item| source::imports(&format!("use {item}"))).collect();
             self.files.insert(path.into(), File { items: vec![], imports });
+            self.members.extend(members(text).into_iter().map(|member| (path.into(), member)));
             self.all.extend(source::functions(text).into_iter().map(|function| (path.into(), function)));
             let exported = source::functions(text).into_iter().filter(|function| function.exported);
             self.functions.extend(exported.filter(|function| function.name != "main").map(|f| (path.into(), f)));
@@ -210,6 +214,7 @@ impl Tree {
     fn lines(&self, page: &str) -> Vec<String> {
         let mut open: Vec<(&str, String)> =
             self.functions.iter().map(|(path, f)| (path.as_str(), contract(f))).collect();
+        open.extend(self.members.iter().map(|(path, member)| (path.as_str(), member.clone())));
         open.extend(self.named(page).into_iter().map(|(path, item)| (path, self.said(path, item))));
         let (mut lines, mut words) = (BTreeSet::new(), BTreeMap::<String, BTreeSet<String>>::new());
         while let Some((path, said)) = open.pop() {
@@ -296,6 +301,22 @@ fn contract(function: &Function) -> String {
     format!("{}({}) : {}", function.name, parameters.join(", "), clauses.join(" "))
 }
 
+/// The ghost members of a source's impls, which say what the trait's methods give.
+fn members(text: &str) -> Vec<String> {
+    let mut head = "";
+    let mut found = vec![];
+    for line in text.lines() {
+        if line.starts_with("impl") {
+            head = line.trim_end_matches('{').trim_end();
+        }
+        if let Some((name, said)) = line.trim_start().strip_prefix("ghost ").and_then(|member| member.split_once(" = "))
+        {
+            found.push(format!("{head}, {name} : {}", said.trim_end_matches(';')));
+        }
+    }
+    found
+}
+
 /// What a line is about: its file and name.
 fn about(line: &str) -> &str {
     line.split(" : ").next().unwrap_or(line).split('(').next().unwrap_or(line)
@@ -327,7 +348,7 @@ const FILES: &[(&str, &str, &str)] = &[
     ("a/proofs/Laws", "antt", "use Rattle.a.specs.Said.{Holds, sum}\nmodule _ (n : ℕ) where\n  abbrev total : ℕ\n  total = sum n n\n\n  module _ (few : n ≤ 9) where\n    -- why\n    pub law : (m : ℕ)\n        → Holds n m → total ≡ m\n    law m h = h.even\n"),
     ("a/proofs/Pins", "antt", "two : ℕ\ntwo = 2\nfirst-case : two + two ≡ 4\nfirst-case = refl\n"),
     ("a/specs/Said", "antt", "pub sum : ℕ → ℕ → ℕ\nsum a b = a + b\npub record Holds (n m : ℕ) : Type 0 where\n  -- both\n  pub even : sum n n ≡ m\n  pub low : n ≤ m\n"),
-    ("a/src/lib", "rt", "pub fn f(x: u8) -> u8\n    ensures value { result ≡ x }\n    ensures low { result\n        ≤ 9 }\n{ x }\nfn g() { }"),
+    ("a/src/lib", "rt", "pub fn f(x: u8) -> u8\n    ensures value { result ≡ x }\n    ensures low { result\n        ≤ 9 }\n{ x }\nfn g() { }\nimpl From<u8> for u16 {\n    ghost from_gives = { λ x y. y ≡ x };\n}"),
 ];
 #[rustfmt::skip]
 const LINES: &[&str] = &[
@@ -338,6 +359,7 @@ const LINES: &[&str] = &[
     "crates/a/specs/Said: Holds : record Holds (n m : ℕ) : Type 0 where pub even : sum n n ≡ m pub low : n ≤ m",
     "crates/a/specs/Said: words brought : Holds, sum",
     "crates/a/src/lib: f(x) : ensures { result ≡ x } ensures { result ≤ 9 }",
+    "crates/a/src/lib: impl From<u8> for u16, from_gives : { λ x y. y ≡ x }",
 ];
 /// A text of the samples' files, what takes its place, and what then differs: nothing where it says the same.
 #[rustfmt::skip]
@@ -355,6 +377,7 @@ const SAMPLES: &[(&str, &str, &[&str])] = &[
     ("    ensures value { result ≡ x }\n", "", &["crates/a/src/lib: f"]),
     ("f(x: u8)", "f(y: u8, x: u8)", &["crates/a/src/lib: f"]),
     ("pub fn f", "fn f", &["crates/a/src/lib: f"]),
+    ("λ x y. y ≡ x", "λ x y. y ≡ 0", &["crates/a/src/lib: impl From<u8> for u16, from_gives"]),
     ("(m : ℕ)\n        → Holds", "(m : ℕ) → Holds", &[]),
     ("    -- why\n", "", &[]),
     ("law m h = h.even", "law m h = sym (sym h.even)", &[]),

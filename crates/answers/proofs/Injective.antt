@@ -9,6 +9,7 @@ use native.Mathlib.Omega.{arith}
 use lib.Dec.{leb}
 use lib.ListN.{length, get_or}
 use borrow.Author.Tests.{le-leb}
+use Rattle.std.specs.Prelude.{Result, Ok, Err}
 use Rattle.words.specs.declared.Row.{Row}
 use Rattle.words.specs.Sets.{bit}
 use Rattle.words.proofs.Operations.{bit_ext}
@@ -26,8 +27,6 @@ use Rattle.solver.specs.Entries.{Ran, run_from, answer_of}
 use Rattle.solver.proofs.RunLaws.{RunOf, run_is_of}
 use Rattle.solver.proofs.StepLaws.{fresh_formed, after_formed}
 use Rattle.solver.specs.declared.Answer.{Answer}
-use Rattle.solver.specs.declared.Solved.{Solved}
-use Rattle.solver.specs.declared.Solved.TheVariants as solved
 use Rattle.state.specs.declared.Standing.{Standing}
 use Rattle.state.specs.declared.Standing.TheVariants.{Open, Satisfied, Refuted}
 use Rattle.verdicts.specs.declared.Verdict.{Verdict}
@@ -164,13 +163,13 @@ answer_no_refusal n a r e =
 -- ---- whatever is printed
 
 -- an answer's bounds; a refusal has none
-abbrev pub IsSolvedWithin : ℕ → Solved → Type 0
-IsSolvedWithin n (solved.Of a) = Within n a
-IsSolvedWithin n (solved.Refused r) = Unit
+abbrev pub IsSolvedWithin : ℕ → Result Answer Refusal → Type 0
+IsSolvedWithin n (Ok a) = Within n a
+IsSolvedWithin n (Err r) = Unit
 
 -- two answers or refusals, each answer with a 64-bit count and its model below n, that print the same text for n variables are equal
-pub printed_injective : (n : ℕ) (x y : Solved) → IsSolvedWithin n x → IsSolvedWithin n y → solved_text n x ≡ solved_text n y → x ≡ y
-printed_injective n (solved.Of a) (solved.Of b) wa wb e = ap solved.Of (answer_injective n a b wa wb e)
-printed_injective n (solved.Refused q) (solved.Refused r) wa wb e = ap solved.Refused (refusal_injective q r e)
-printed_injective n (solved.Of a) (solved.Refused r) wa wb e = absurd (answer_no_refusal n a r e)
-printed_injective n (solved.Refused q) (solved.Of b) wa wb e = absurd (answer_no_refusal n b q (sym e))
+pub printed_injective : (n : ℕ) (x y : Result Answer Refusal) → IsSolvedWithin n x → IsSolvedWithin n y → solved_text n x ≡ solved_text n y → x ≡ y
+printed_injective n (Ok a) (Ok b) wa wb e = ap Ok (answer_injective n a b wa wb e)
+printed_injective n (Err q) (Err r) wa wb e = ap Err (refusal_injective q r e)
+printed_injective n (Ok a) (Err r) wa wb e = absurd (answer_no_refusal n a r e)
+printed_injective n (Err q) (Ok b) wa wb e = absurd (answer_no_refusal n b q (sym e))

@@ -1,14 +1,12 @@
 -- The printed answer: document 01, "Programs".
 -- Ask: Are these the bytes that the pair program prints?
-use Rattle.std.specs.Prelude.{ℕ, zero, suc, ◌+◌, Bool, true, false, List, [], ◌++◌}
+use Rattle.std.specs.Prelude.{ℕ, zero, suc, ◌+◌, Bool, true, false, List, [], ◌++◌, Result, Ok, Err}
 use Rattle.words.specs.Sets.{bit}
 use Rattle.refusals.specs.declared.Refusal.{Refusal}
 use Rattle.lexer.specs.Spelling.{bytes}
 use Rattle.text.specs.Decimal.{decimal}
 use Rattle.text.specs.Refused.{with_line_feed, refused_line}
 use Rattle.solver.specs.declared.Answer.{Answer}
-use Rattle.solver.specs.declared.Solved.{Solved}
-use Rattle.solver.specs.declared.Solved.TheVariants as solved
 use Rattle.verdicts.specs.declared.Verdict.{Verdict}
 use Rattle.verdicts.specs.declared.Verdict.TheVariants.{Satisfiable, Unsatisfiable, Unknown}
 
@@ -39,6 +37,6 @@ unfoldable pub refusal_text : Refusal → List ℕ
 refusal_text r = refused_line r ++ with_line_feed (bytes "s UNKNOWN")
 
 -- what is printed for tables of n variables
-abbrev pub solved_text : ℕ → Solved → List ℕ
-solved_text n (solved.Of answer) = answer_text n answer
-solved_text n (solved.Refused r) = refusal_text r
+abbrev pub solved_text : ℕ → Result Answer Refusal → List ℕ
+solved_text n (Ok answer) = answer_text n answer
+solved_text n (Err r) = refusal_text r

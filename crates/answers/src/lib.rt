@@ -28,10 +28,8 @@ fn literals(text: Text, n: u32, model: u32) -> Text
     ensures { result ≡ appended text (Printed.literals n 0 model) }
 {
     let mut out = text;
-    let mut i = 0;
-    while i < n {
+    for i in 0..n {
         out = literal(out, i + 1, words::bit(model, i));
-        i += 1;
     }
     out
 }
@@ -58,12 +56,7 @@ pub fn answer_text(n: u8, given: Answer) -> Text
         .append(b"c steps ")
         .decimal(given.count)
         .append(b"\n");
-    let outcome = given.verdict;
-    if n < 32 {
-        verdict(steps, n as u32, outcome)
-    } else {
-        verdict(steps, 32, outcome)
-    }
+    verdict(steps, (n as u32).min(32), given.verdict)
 }
 
 // A refusal as the pair program prints it.

@@ -5,9 +5,9 @@ use Prim.Native.Nat.{ℕ, zero, suc, ◌^◌, ◌≤◌}
 use native.Mathlib.Omega.{arith}
 use lib.Pow.{pow_mono}
 use lib.ListN.{length}
+use Rattle.std.specs.Prelude.{Ok, Err}
+use Rattle.refusals.specs.Numbers.{Outcome}
 use Rattle.refusals.specs.Checks.{outcome, given}
-use Rattle.refusals.specs.declared.Outcome.{Outcome}
-use Rattle.refusals.specs.declared.Outcome.TheVariants.{Taken, Refused}
 use Rattle.words.specs.declared.Row.{Row}
 use Rattle.dimensions.specs.declared.Dimensions.{Dimensions}
 use Rattle.tables.specs.Tables.{Tables}
@@ -21,7 +21,6 @@ use Rattle.verdicts.specs.declared.Verdict.TheVariants.{Unknown}
 use Rattle.verdicts.specs.Verdicts.{verdict_of}
 use Rattle.scan.specs.Rules.{rule}
 use Rattle.solver.specs.declared.Answer.{Answer}
-use Rattle.solver.specs.declared.Solved.TheVariants as solved'
 use Rattle.solver.specs.Step.{Ruling, always, after_with, after}
 use Rattle.solver.specs.Entries.{answer_with, solved_with, solved}
 use Rattle.truth.specs.Truth.{occurs, occurring}
@@ -67,11 +66,11 @@ bounded n rows states budget answer holds begins = record {
 
 module _ (d : Dimensions) (tables : Tables) (budget : ℕ) where
   -- an entry that gives an answer has passed its checks, and gives this one
-  given_of : (checks : Outcome) (a answer : Answer) → given checks (solved'.Of a) solved'.Refused ≡ solved'.Of answer → (checks ≡ Taken) × (a ≡ answer)
-  given_of Taken a answer e = (refl, cc)
-  given_of (Refused r) a answer e = let z : ◌≡◌ {A = ℕ} 0 1 = cc in absurd (omega arith)
+  given_of : (checks : Outcome) (a answer : Answer) → given checks (Ok a) Err ≡ Ok answer → (checks ≡ Ok tt) × (a ≡ answer)
+  given_of (Ok _) a answer e = (refl, cc)
+  given_of (Err r) a answer e = let z : ◌≡◌ {A = ℕ} 0 1 = cc in absurd (omega arith)
 
-  entry_bounded : (ruling : Ruling) → Applies ruling → (answer : Answer) → solved_with ruling d tables budget ≡ solved'.Of answer
+  entry_bounded : (ruling : Ruling) → Applies ruling → (answer : Answer) → solved_with ruling d tables budget ≡ Ok answer
       → Bounded d.n (rows_of d tables) budget answer
   unfolding solved_with after_with
   entry_bounded ruling applies answer e =
@@ -92,7 +91,7 @@ module _ (d : Dimensions) (tables : Tables) (budget : ℕ) where
       after-closes rule ruled d.n (rows_of d tables) budget (always (rows_of d tables)) (λ i b v o. o) h
       (open_still s.standing s.t (ap (λ (r : Run). verdict_of r.standing r.t) (sym (enough-last d tables acc budget)) ∙ e))
 
-  whole-bounded : (gates bytes wires : List ℕ) (answer : Answer) → solved_whole d tables budget gates bytes wires ≡ solved'.Of answer
+  whole-bounded : (gates bytes wires : List ℕ) (answer : Answer) → solved_whole d tables budget gates bytes wires ≡ Ok answer
       → (answer.count ≡ budget) × (most_steps d.n (rows_of d tables) ≤ budget → answer.verdict ≡ Unknown → ⊥)
   unfolding solved_whole whole_allowed whole_answer
   whole-bounded gates bytes wires answer e =

@@ -3,9 +3,9 @@ use mathlib.Core.Path.{◌≡◌, refl, sym, ap, ◌∙◌}
 use mathlib.Core.List.{List, [], ◌∷◌, ◌++◌}
 use Prim.Native.Nat.{ℕ, zero, suc}
 use lib.ListN.{replicate}
+use Rattle.std.specs.Prelude.{Ok, Err}
+use Rattle.refusals.specs.Numbers.{Outcome}
 use Rattle.refusals.specs.Checks.{outcome, given}
-use Rattle.refusals.specs.declared.Outcome.{Outcome}
-use Rattle.refusals.specs.declared.Outcome.TheVariants.{Taken, Refused}
 use Rattle.words.specs.declared.Row.{Row}
 use Rattle.dimensions.specs.declared.Dimensions.{Dimensions}
 use Rattle.tables.specs.Tables.{Tables}
@@ -17,9 +17,8 @@ use Rattle.state.specs.declared.Standing.TheVariants.{Open, Satisfied, Refuted}
 use Rattle.state.specs.State.{State, run_of, state_of, if_open}
 use Rattle.state.specs.WellFormed.{state_checks}
 use Rattle.scan.specs.Rules.{rule}
-use Rattle.solver.specs.declared.Stepped.{Stepped}
 use Rattle.solver.specs.Step.{follow, Ruling, always, step_with}
-use Rattle.solver.specs.Entries.{Ran, run_with, stepped_with, stepped}
+use Rattle.solver.specs.Entries.{Stepped, Ran, run_with, stepped_with, stepped}
 use Rattle.indexed.specs.Continuing.{continued_by, not_continued, continued_with, continued}
 use Rattle.weighted.specs.Weights.{weighted_rule}
 use Rattle.late.specs.declared.Condition.{Condition}
@@ -68,9 +67,9 @@ module _ (d : Dimensions) where
         next : Run
         next = run_of d.n (step_with ruling d.n (rows_of d t) (state_of run))
 
-        go : (o : Outcome) → Closed (given {A = Stepped} o (record { outcome = Taken; run = next }) (λ r. record { outcome = Refused r; run = run })).run
-        go Taken h = e (ap (λ (s : State). s.standing) (sym (shut_step ruling d.n (rows_of d t) (state_of run) e)) ∙ h)
-        go (Refused r) h = e h
+        go : (o : Outcome) → Closed (given {A = Stepped} o (record { outcome = Ok tt; run = next }) (λ r. record { outcome = Err r; run = run })).run
+        go (Ok _) h = e (ap (λ (s : State). s.standing) (sym (shut_step ruling d.n (rows_of d t) (state_of run) e)) ∙ h)
+        go (Err r) h = e h
 
     continue-closed : (ruling : Ruling) (times : ℕ) → Closed (continued_with ruling d t times run).run
     unfolding continued_with run_of
@@ -80,8 +79,8 @@ module _ (d : Dimensions) where
         r = run_with ruling d.n (always (rows_of d t)) times (state_of run)
 
         go : (o : Outcome) → Closed (given o (continued_by d.n r) (not_continued run)).run
-        go Taken h = e (ap (λ (s : State). s.standing) (sym (shut_run ruling d.n (rows_of d t) times (state_of run) e)) ∙ h)
-        go (Refused q) h = e h
+        go (Ok _) h = e (ap (λ (s : State). s.standing) (sym (shut_run ruling d.n (rows_of d t) times (state_of run) e)) ∙ h)
+        go (Err q) h = e h
 
     repeat-closed : (times : ℕ) (gates bytes wires : List ℕ) → Closed (repeated d t times gates bytes wires run).run
     unfolding repeated made last_run
@@ -91,17 +90,17 @@ module _ (d : Dimensions) where
         asked = repeats d (λ i. t) times run (replicate times (whole d bytes wires))
 
         go : (o : Outcome) (st : Standing) → run.standing ≡ st → Closed (given o (repeated_by run (if_open st asked [])) (refused_with run)).run
-        go Taken Open w h = e w
-        go Taken Satisfied w h = e h
-        go Taken Refuted w h = e h
-        go (Refused q) st w h = e h
+        go (Ok _) Open w h = e w
+        go (Ok _) Satisfied w h = e h
+        go (Ok _) Refuted w h = e h
+        go (Err q) st w h = e h
 
     replace-closed : (c : Condition) → tables_after d t run c ≡ t
     replace-closed c = go (outcome (late_checks d t run c)) refl
       where
         go : (o : Outcome) → outcome (late_checks d t run c) ≡ o → tables_after d t run c ≡ t
-        go (Refused r) w = after-refused d t run c r w
-        go Taken w = absurd (e (late_parts d t run c w).fitting.running)
+        go (Err r) w = after-refused d t run c r w
+        go (Ok _) w = absurd (e (late_parts d t run c w).fitting.running)
 
   act-closed : (h : CountingHost) → Closed h.run → (c : HostCall) → Closed (act_counting d h c).run × ((act_counting d h c).tables ≡ h.tables)
   unfolding act_counting stepped continued

@@ -4,13 +4,13 @@ use mathlib.Core.List.{List, [], ◌∷◌, map}
 use Prim.Native.Nat.{ℕ, suc, ◌+◌, ◌-◌, ◌^◌, ◌≤◌}
 use native.Mathlib.Omega.{arith}
 use lib.ListN.{length}
+use Rattle.std.specs.Prelude.{Ok}
 use Rattle.dimensions.specs.declared.Dimensions.{Dimensions}
 use Rattle.tables.specs.Tables.{Tables}
 use Rattle.tables.specs.Rows.{rows_of}
 use Rattle.state.specs.declared.Standing.TheVariants.{Open}
 use Rattle.verdicts.specs.declared.Verdict.TheVariants.{Unknown}
 use Rattle.solver.specs.declared.Answer.{Answer}
-use Rattle.solver.specs.declared.Solved.TheVariants.{Of}
 use Rattle.solver.specs.Entries.{solved_with, solved}
 use Rattle.truth.specs.Truth.{occurring}
 use Rattle.demand2.specs.Demand2.{most_steps}
@@ -35,7 +35,7 @@ module _ (d : Dimensions) (tables : Tables) (budget : ℕ) (holds : Bounds d tab
   abbrev k : ℕ
   k = occurring d.n (rows_of d tables)
 
-  module _ (answer : Answer) (e : solved d tables budget ≡ Of answer) where
+  module _ (answer : Answer) (e : solved d tables budget ≡ Ok answer) where
     -- the bound by n: no more steps, and a budget that reaches so far decides
     pub plain-by-n : (answer.count ≤ most_by_n) × (most_by_n ≤ budget → answer.verdict ≡ Unknown → ⊥)
     plain-by-n = (omega (arith, (holds.plain answer e).most, holds.by_n), λ h. (holds.plain answer e).enough (omega (arith, holds.by_n)))
@@ -44,7 +44,7 @@ module _ (d : Dimensions) (tables : Tables) (budget : ℕ) (holds : Bounds d tab
     pub plain-first : k ≡ 0 → 1 ≤ budget → answer.count ≡ 1
     plain-first none some = ((holds.plain answer e).one none some).0
 
-  module _ (answer : Answer) (e : solved_with weighted_rule d tables budget ≡ Of answer) where
+  module _ (answer : Answer) (e : solved_with weighted_rule d tables budget ≡ Ok answer) where
     pub weighted_by-n : (answer.count ≤ most_by_n) × (most_by_n ≤ budget → answer.verdict ≡ Unknown → ⊥)
     weighted_by-n = (omega (arith, (holds.weighted answer e).most, holds.by_n), λ h. (holds.weighted answer e).enough (omega (arith, holds.by_n)))
 
@@ -52,7 +52,7 @@ module _ (d : Dimensions) (tables : Tables) (budget : ℕ) (holds : Bounds d tab
     weighted_first none some = ((holds.weighted answer e).one none some).0
 
   -- through the whole budget: decided, and the count is the budget still
-  pub whole-by-n : (gates bytes wires : List ℕ) (answer : Answer) → solved_whole d tables budget gates bytes wires ≡ Of answer
+  pub whole-by-n : (gates bytes wires : List ℕ) (answer : Answer) → solved_whole d tables budget gates bytes wires ≡ Ok answer
       → most_by_n ≤ budget → (answer.count ≡ budget) × (answer.verdict ≡ Unknown → ⊥)
   whole-by-n gates bytes wires answer e h =
       let w = holds.whole gates bytes wires answer e in (w.0, w.1 (omega (arith, holds.by_n)))

@@ -7,9 +7,9 @@ use Prim.Native.Nat.{ℕ, ◌+◌, ◌-◌, ◌*◌}
 use native.Mathlib.Omega.{arith}
 use lib.Dec.{leb}
 use lib.ListN.{length, replicate}
+use Rattle.std.specs.Prelude.{Ok, Err}
+use Rattle.refusals.specs.Numbers.{Outcome}
 use Rattle.refusals.specs.Checks.{outcome, given}
-use Rattle.refusals.specs.declared.Outcome.{Outcome}
-use Rattle.refusals.specs.declared.Outcome.TheVariants.{Taken, Refused}
 use Rattle.refusals.proofs.Outcomes.{outcome-taken}
 use Rattle.words.proofs.Truth.{on, and_r}
 use Rattle.dimensions.specs.declared.Dimensions.{Dimensions}
@@ -26,14 +26,12 @@ use Rattle.state.specs.WellFormed.{well_formed_state, state_checks}
 use Rattle.state.proofs.WellFormedLaws.{formed_i}
 use Rattle.state.proofs.HeldRun.{state-back}
 use Rattle.scan.specs.Rules.{rule}
-use Rattle.solver.specs.declared.Stepped.{Stepped}
 use Rattle.solver.specs.Step.{Ruling, always, step_with}
-use Rattle.solver.specs.Entries.{Ran, run_with, run_from, stepped_with, stepped}
+use Rattle.solver.specs.Entries.{Stepped, Ran, run_with, run_from, stepped_with, stepped}
 use Rattle.solver.proofs.RunLaws.{run_is_of}
 use Rattle.truth.specs.Truth.{occurs}
 use Rattle.truth.proofs.RuleLaws.{Applies, ruled}
-use Rattle.indexed.specs.declared.Continued.{Continued}
-use Rattle.indexed.specs.Continuing.{continued_by, not_continued, continued_with, continued}
+use Rattle.indexed.specs.Continuing.{Continued, continued_by, not_continued, continued_with, continued}
 use Rattle.weighted.specs.Weights.{weighted_rule}
 use Rattle.weighted.proofs.Applying.{weighted_applies}
 use Rattle.late.specs.declared.Condition.{Condition}
@@ -66,8 +64,8 @@ module _ (d : Dimensions) where
   replaced-further t acc run c = go (outcome (late_checks d t run c)) refl
     where
       go : (o : Outcome) → outcome (late_checks d t run c) ≡ o → Further t (tables_after d t run c)
-      go (Refused r) e = subst (Further t) (sym (after-refused d t run c r e)) (same_tables t acc)
-      go Taken e =
+      go (Err r) e = subst (Further t) (sym (after-refused d t run c r e)) (same_tables t acc)
+      go (Ok _) e =
           let w = (late_parts d t run c e).fitting in
           subst (Further t) (sym (after-taken d t run c e)) (
             accepted_still d t c acc w.low,
@@ -108,7 +106,7 @@ module _ (d : Dimensions) (p : ℕ → Bool) (t : Tables) (acc : Accepts d t) (s
   formed : well_formed_state d.n s ≡ true
   formed = formed_i d.n s o.0
 
-  passes : outcome (table_checks d t ++ state_checks d run) ≡ Taken
+  passes : outcome (table_checks d t ++ state_checks d run) ≡ Ok tt
   passes = outcome-taken (table_checks d t) (state_checks d run) acc ∙ fine d t acc s formed
 
   module _ (ruling : Ruling) (applies : Applies ruling) where
@@ -117,13 +115,13 @@ module _ (d : Dimensions) (p : ℕ → Bool) (t : Tables) (acc : Accepts d t) (s
     step_leaves = record {
       state = step_with ruling d.n (rows_of d t) s;
       is =
-          ap (λ (x : Outcome). (given x (next (state_of run)) (λ r. record { outcome = Refused r; run = run })).run) passes
+          ap (λ (x : Outcome). (given x (next (state_of run)) (λ r. record { outcome = Err r; run = run })).run) passes
           ∙ ap (λ (x : State). (next x).run) (state-back d.n s);
       lowers = lowers_step d.n p (rows_of d t) may ruling applies s o;
     }
       where
         next : State → Stepped
-        next x = record { outcome = Taken; run = run_of d.n (step_with ruling d.n (rows_of d t) x) }
+        next x = record { outcome = Ok tt; run = run_of d.n (step_with ruling d.n (rows_of d t) x) }
 
     abbrev ran : ℕ → State → Ran
     ran times x = run_with ruling d.n (always (rows_of d t)) times x

@@ -2,6 +2,9 @@
 use mathlib.Core.Path.{◌≡◌, refl}
 use mathlib.Core.List.{List, [], ◌∷◌, map}
 use Prim.Native.Nat.{ℕ, zero, suc, ◌-◌, ◌^◌}
+use Rattle.std.specs.Prelude.{Result, Ok}
+use Rattle.refusals.specs.declared.Refusal.{Refusal}
+use Rattle.solver.specs.declared.Answer.{Answer}
 use Rattle.words.specs.Sets.{bit, put, any, all, count, lowest}
 use Rattle.tables.specs.Acceptance.{all_below}
 use Rattle.state.specs.WellFormed.{well_formed}
@@ -10,8 +13,6 @@ use Rattle.dimensions.specs.Sizes.{dimensions}
 use Rattle.tables.specs.Tables.{Tables, all_tables}
 use Rattle.tables.specs.Rows.{padding, satisfied, free_literals, rows_of}
 use Rattle.verdicts.specs.declared.Verdict.TheVariants.{Unsatisfiable}
-use Rattle.solver.specs.declared.Solved.{Solved}
-use Rattle.solver.specs.declared.Solved.TheVariants.{Of}
 use Rattle.solver.specs.Entries.{solved_with, solved}
 use Rattle.truth.specs.Truth.{occurring}
 use Rattle.demand2.specs.Demand2.{most_steps}
@@ -74,8 +75,8 @@ abbrev full : ℕ → Tables
 full k = all_tables (clauses (2 ^ k - 1) (2 ^ k)) (15 ∷ 15 ∷ []) []
 
 -- the counts of unsatisfiable
-abbrev refuted : List ℕ → List Solved
-refuted counts = map (λ (c : ℕ). Of (record { count = c; verdict = Unsatisfiable })) counts
+abbrev refuted : List ℕ → List (Result Answer Refusal)
+refuted counts = map (λ (c : ℕ). Ok (record { count = c; verdict = Unsatisfiable })) counts
 
 abbrev sizes : List ℕ
 sizes = 0 ∷ 1 ∷ 2 ∷ 3 ∷ 4 ∷ []

@@ -7,9 +7,9 @@ use Prim.Native.Nat.{ℕ, suc, ◌+◌}
 use native.Mathlib.Omega.{arith}
 use lib.Dec.{eqb}
 use borrow.Author.Tests.{eq-eqb}
+use Rattle.std.specs.Prelude.{Ok, Err}
+use Rattle.refusals.specs.Numbers.{Outcome}
 use Rattle.refusals.specs.Checks.{Check, outcome, given}
-use Rattle.refusals.specs.declared.Outcome.{Outcome}
-use Rattle.refusals.specs.declared.Outcome.TheVariants.{Taken, Refused}
 use Rattle.refusals.proofs.Outcomes.{outcome-taken, outcome_parts, refused-taken}
 use Rattle.words.specs.declared.Row.{Row}
 use Rattle.words.proofs.Sameness.{same_self}
@@ -26,8 +26,7 @@ use Rattle.state.proofs.HeldRun.{run_of_formed}
 use Rattle.solver.proofs.StepLaws.{fresh-well_formed}
 use Rattle.occurrences.specs.Index.{index_of}
 use Rattle.tally.specs.Tallies.{unsatisfied_rows}
-use Rattle.indexed.specs.declared.SteppedIndexed.{SteppedIndexed}
-use Rattle.indexed.specs.Entries.{indexed_checks, stepped_by, stepped_indexed}
+use Rattle.indexed.specs.Entries.{SteppedIndexed, indexed_checks, stepped_by, stepped_indexed}
 use Rattle.indexed.specs.SameState.{SameState}
 use Rattle.indexed.proofs.Checks.{Kept, kept, take-kept}
 use Rattle.indexed.proofs.SameState.{same-state}
@@ -65,7 +64,7 @@ steps_asked_lem d (Replace c ∷ more) = let e : 0 + steps_asked d (calls_of mor
 
 -- accepted tables, their index, a well-formed run of their n and its number: no call is refused for them
 abbrev Right : Dimensions → IndexedHost → Type 0
-Right d h = outcome (table_checks d h.tables ++ indexed_checks d.n (rows_of d h.tables) h.index h.run h.number) ≡ Taken
+Right d h = outcome (table_checks d h.tables ++ indexed_checks d.n (rows_of d h.tables) h.index h.run h.number) ≡ Ok tt
 
 module _ (d : Dimensions) where
   -- the parts of it
@@ -84,7 +83,7 @@ module _ (d : Dimensions) where
     abbrev checks : List Check
     checks = indexed_checks d.n rows h.index h.run h.number
 
-    parts : Accepts d h.tables × (outcome checks ≡ Taken)
+    parts : Accepts d h.tables × (outcome checks ≡ Ok tt)
     parts = outcome_parts (table_checks d h.tables) checks right
 
     keeps : Kept d.n h.run (same h.index (index_of rows)) (eqb h.number (unsatisfied_rows d.n rows h.run.t h.run.f))
@@ -95,7 +94,7 @@ module _ (d : Dimensions) where
     next : SteppedIndexed
     next = stepped_indexed d h.tables h.index h.run h.number
 
-    step-taken : next.outcome ≡ Taken
+    step-taken : next.outcome ≡ Ok tt
     unfolding next stepped_indexed
     step-taken = ap (λ (o : Outcome). (stepped_by o d.n rows h.run h.number).outcome) right
 
@@ -103,9 +102,9 @@ module _ (d : Dimensions) where
     unfolding next
     step_same = same-state d h.tables h.index h.run h.number step-taken
 
-    checks_pass : (run : Run) (number : ℕ) (o : Outcome) → (stepped_by o d.n rows run number).outcome ≡ Taken → o ≡ Taken
-    checks_pass run number Taken e = refl
-    checks_pass run number (Refused r) e = absurd (refused-taken e)
+    checks_pass : (run : Run) (number : ℕ) (o : Outcome) → (stepped_by o d.n rows run number).outcome ≡ Ok tt → o ≡ Ok tt
+    checks_pass run number (Ok _) e = refl
+    checks_pass run number (Err r) e = absurd (refused-taken e)
 
     step_right : Right d (record { tables = h.tables; index = h.index; run = next.run; number = next.number; count = h.count + step_count h.run })
     unfolding stepped_indexed
@@ -127,11 +126,11 @@ module _ (d : Dimensions) where
       }
 
       left_right : (o : Outcome) → judged ≡ o → Right d (left o)
-      left_right (Refused r) e = right
-      left_right Taken e =
+      left_right (Err r) e = right
+      left_right (Ok _) e =
           let behind = (outcome_parts (table_checks d h.tables) (checks ++ condition_checks d h.tables h.run c) e).1 in
           let fitting = condition_parts d h.tables h.run c (outcome_parts checks (condition_checks d h.tables h.run c) behind).1 in
-          right_i (left Taken) (accepted_still d h.tables c parts.0 fitting.low) keeps.formed keeps.same-n refl refl
+          right_i (left (Ok tt)) (accepted_still d h.tables c parts.0 fitting.low) keeps.formed keeps.same-n refl refl
 
     -- ---- a call
 

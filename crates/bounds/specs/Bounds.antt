@@ -1,7 +1,7 @@
 -- How many steps each run takes at most: document 02, "Fewer variables, fewer steps". `most_steps` is 2 ^ (k + 1) - 1, where k counts the
 -- variables that occur in some row that is no padding, in the tables as they are at the close.
 -- Ask: Which rows count for k, and the tables of which time?
-use Rattle.std.specs.Prelude.{ℕ, suc, ◌-◌, ◌^◌, ◌≤◌, ◌≡◌, true, List, length}
+use Rattle.std.specs.Prelude.{ℕ, suc, ◌-◌, ◌^◌, ◌≤◌, ◌≡◌, true, List, length, Ok}
 use Rattle.words.specs.declared.Row.{Row}
 use Rattle.dimensions.specs.declared.Dimensions.{Dimensions}
 use Rattle.tables.specs.Tables.{Tables}
@@ -10,7 +10,6 @@ use Rattle.state.specs.declared.Run.{Run}
 use Rattle.state.specs.declared.Standing.TheVariants.{Open}
 use Rattle.verdicts.specs.declared.Verdict.TheVariants.{Unknown}
 use Rattle.solver.specs.declared.Answer.{Answer}
-use Rattle.solver.specs.declared.Solved.TheVariants.{Of}
 use Rattle.solver.specs.Entries.{solved_with, solved}
 use Rattle.truth.specs.Truth.{occurring}
 use Rattle.demand2.specs.Demand2.{at_end, most_steps}
@@ -37,11 +36,11 @@ pub record Bounded (n : ℕ) (rows : List Row) (budget : ℕ) (answer : Answer) 
 -- what each entry answers over tables that stay as they are
 pub record Bounds (d : Dimensions) (tables : Tables) (budget : ℕ) : Type 0 where
   -- `solve` and `solve_indexed`, whose contracts are the same
-  pub plain : (answer : Answer) → solved d tables budget ≡ Of answer → Bounded d.n (rows_of d tables) budget answer
+  pub plain : (answer : Answer) → solved d tables budget ≡ Ok answer → Bounded d.n (rows_of d tables) budget answer
   -- `solve_weighted`
-  pub weighted : (answer : Answer) → solved_with weighted_rule d tables budget ≡ Of answer → Bounded d.n (rows_of d tables) budget answer
+  pub weighted : (answer : Answer) → solved_with weighted_rule d tables budget ≡ Ok answer → Bounded d.n (rows_of d tables) budget answer
   -- `solve_whole` goes on through its budget, and is closed by then if that is large enough
-  pub whole : (gates bytes wires : List ℕ) (answer : Answer) → solved_whole d tables budget gates bytes wires ≡ Of answer
+  pub whole : (gates bytes wires : List ℕ) (answer : Answer) → solved_whole d tables budget gates bytes wires ≡ Ok answer
       → (answer.count ≡ budget) × (most_steps d.n (rows_of d tables) ≤ budget → answer.verdict ≡ Unknown → ⊥)
   -- k is at most n, so that the bound by n follows
   pub by_n : most_steps d.n (rows_of d tables) ≤ 2 ^ suc d.n - 1

@@ -11,19 +11,17 @@ use lib.Dec.{ltb}
 use borrow.Rule.Slice.PartMut.{mid_of, put_mid}
 use lib.ListN.{length, get_or, take, drop, length-append, length-drop, take-append-drop, get_or-eq_default}
 use lib.Seq.{length-take-le, take_at, drop_at, drop-drop}
+use Rattle.std.specs.Prelude.{Result, Ok, Err}
+use Rattle.refusals.specs.declared.Refusal.{Refusal}
 use Rattle.refusals.specs.declared.Refusal.TheVariants.{LineBuffer}
-use Rattle.refusals.specs.declared.Outcome.TheVariants.{Taken}
 use Rattle.refusals.specs.Checks.{outcome}
 use Rattle.dimensions.specs.declared.Dimensions.{Dimensions}
 use Rattle.gates.specs.Memory.{gates_of, over}
-use Rattle.bristol.specs.declared.WrittenLine.{WrittenLine}
-use Rattle.bristol.specs.declared.WrittenLine.TheVariants as W
-use Rattle.bristol.specs.declared.WrittenLines.TheVariants as lines
 use Rattle.bristol.specs.Text.{circuit_lines}
-use Rattle.bristol.specs.Writing.{circuit_checks, line_at, written_line, filled_line, fitting, lines_written_from, written_lines, filled_lines}
+use Rattle.bristol.specs.Writing.{circuit_checks, line_at, fitting, lines_written_from, written_lines, filled_lines}
 use Rattle.bristol.proofs.Parts.{lent_part, put_back}
 use Rattle.bristol.proofs.Fitting.{fitting-next, fitting-none}
-use Rattle.bristol.proofs.Requests.{was-put, not-put, lines_by-room}
+use Rattle.bristol.proofs.Requests.{Fits, was-put, not-put, lines_by-room}
 
 -- the lent bytes after some turns, with the number of the line to come and of the bytes put
 pub record Put (ls : List (List ℕ)) (lent : List ℕ) (line : ℕ) (bytes : List ℕ) (next at : ℕ) : Type 0 where
@@ -109,30 +107,33 @@ module _ (ls : List (List ℕ)) (lent : List ℕ) (line : ℕ) where
 
 -- ---- a turn: the next line is put to the bytes after those that are put, or it is too long
 
-module _ (d : Dimensions) (ws : List ℕ) (e : outcome (circuit_checks d ws) ≡ Taken) (line : ℕ) (lent bytes : List ℕ) (next at : ℕ)
-    (p : Put (circuit_lines d (gates_of ws)) lent line bytes next at) (h : next < length (circuit_lines d (gates_of ws))) (r : WrittenLine) (out : List ℕ)
-    (hr : r ≡ written_line d ws next (mid_of at (length bytes - at) bytes)) (ho : out ≡ filled_line d ws next (mid_of at (length bytes - at) bytes)) where
-  pub line-more : (k : ℕ) → r ≡ W.Line k → Put (circuit_lines d (gates_of ws)) lent line (put_mid at (length bytes - at) bytes out) (next + 1) (at + k)
+module _ (d : Dimensions) (ws : List ℕ) (e : outcome (circuit_checks d ws) ≡ Ok tt) (line : ℕ) (lent bytes : List ℕ) (next at : ℕ)
+    (p : Put (circuit_lines d (gates_of ws)) lent line bytes next at) (h : next < length (circuit_lines d (gates_of ws))) (r : Result ℕ Refusal) (out : List ℕ)
+    (f : Fits (line_at d ws next) (mid_of at (length bytes - at) bytes) r out) where
+  part : Fits (line_at d ws next) (drop at bytes) r out
+  part = rw (lent_part bytes at) at f
+
+  pub line-more : (k : ℕ) → r ≡ Ok k → Put (circuit_lines d (gates_of ws)) lent line (put_mid at (length bytes - at) bytes out) (next + 1) (at + k)
   line-more k w =
-      let q = was-put d ws next (drop at bytes) e h k (ap (written_line d ws next) (sym (lent_part bytes at)) ∙ sym hr ∙ w) in
+      let q = was-put (line_at d ws next) (drop at bytes) r out k part w in
       let more = one_more (circuit_lines d (gates_of ws)) lent line bytes next at p (line_at d ws next) (put_mid at (length bytes - at) bytes out) h refl q.1
-      (put_back bytes at out ∙ ap (λ (x : List ℕ). take at bytes ++ x) (ho ∙ ap (filled_line d ws next) (lent_part bytes at) ∙ q.2)) in
+      (put_back bytes at out ∙ ap (λ (x : List ℕ). take at bytes ++ x) q.2) in
       let step : suc next ≡ next + 1 = omega arith in
       rw (step, q.0) at more
 
-  pub line-last : ((k : ℕ) → r ≡ W.Line k → ⊥)
-      → (put_mid at (length bytes - at) bytes out ≡ bytes) × (fitting (length lent - at) (drop next (circuit_lines d (gates_of ws))) ≡ [])
-  line-last t =
-      let q = not-put d ws next (drop at bytes) e h
-      (λ k w. t k (hr ∙ ap (written_line d ws next) (lent_part bytes at) ∙ w)) in (
-        put_back bytes at out ∙ ap (λ (x : List ℕ). take at bytes ++ x) (ho ∙ ap (filled_line d ws next) (lent_part bytes at) ∙ q.1)
-            ∙ take-append-drop at bytes,
-        fitting-none (circuit_lines d (gates_of ws)) next (length lent - at) h (omega (arith, length-drop at bytes, p.same, q.0)),
+  pub line-last : (q : Refusal) → r ≡ Err q
+      → (q ≡ LineBuffer) × (put_mid at (length bytes - at) bytes out ≡ bytes)
+      × (fitting (length lent - at) (drop next (circuit_lines d (gates_of ws))) ≡ [])
+  line-last z w =
+      let q = not-put (line_at d ws next) (drop at bytes) r out z part w in (
+        q.0,
+        put_back bytes at out ∙ ap (λ (x : List ℕ). take at bytes ++ x) q.2 ∙ take-append-drop at bytes,
+        fitting-none (circuit_lines d (gates_of ws)) next (length lent - at) h (omega (arith, length-drop at bytes, p.same, q.1)),
       )
 
 -- ---- what is answered where the turns stop
 
-module _ (d : Dimensions) (ws : List ℕ) (e : outcome (circuit_checks d ws) ≡ Taken) (line : ℕ) (lent bytes : List ℕ) (next at : ℕ)
+module _ (d : Dimensions) (ws : List ℕ) (e : outcome (circuit_checks d ws) ≡ Ok tt) (line : ℕ) (lent bytes : List ℕ) (next at : ℕ)
     (p : Put (circuit_lines d (gates_of ws)) lent line bytes next at) (z : fitting (length lent - at) (drop next (circuit_lines d (gates_of ws))) ≡ []) where
   -- a first line that there is and that has no room: none is put
   long_first : line < length (circuit_lines d (gates_of ws)) → ltb (length lent) (length (line_at d ws line)) ≡ true → next ≡ line
@@ -143,12 +144,12 @@ module _ (d : Dimensions) (ws : List ℕ) (e : outcome (circuit_checks d ws) ≡
     ap length (fitting-none (circuit_lines d (gates_of ws)) line (length lent) h (ltb-true _ _ q)),
   )
 
-  pub lines_put : (next ≡ line → length (circuit_lines d (gates_of ws)) ≤ line) → (lines.Lines (next - line) at ≡ written_lines d ws line lent)
+  pub lines_put : (next ≡ line → length (circuit_lines d (gates_of ws)) ≤ line) → (Ok ((next - line), at) ≡ written_lines d ws line lent)
       × (bytes ≡ filled_lines d ws line lent)
   lines_put some =
       let q = lines_by-room d ws line lent e false
       (fits (ltb (length lent) (length (line_at d ws line))) refl (ltb line (length (circuit_lines d (gates_of ws)))) refl) in (
-        ap₂ lines.Lines (put_count (circuit_lines d (gates_of ws)) lent line bytes next at p z)
+        ap₂ (λ (a : ℕ) (b : ℕ). Ok (a, b)) (put_count (circuit_lines d (gates_of ws)) lent line bytes next at p z)
             (put-length (circuit_lines d (gates_of ws)) lent line bytes next at p z)
             ∙ sym q.0,
         put-bytes (circuit_lines d (gates_of ws)) lent line bytes next at p z ∙ sym q.1,
@@ -162,7 +163,7 @@ module _ (d : Dimensions) (ws : List ℕ) (e : outcome (circuit_checks d ws) ≡
           let none : line_at d ws line ≡ [] = get_or-eq_default (circuit_lines d (gates_of ws)) [] (ltb-false _ _ r) in
           absurd (omega (arith, ltb-true (length lent) (length (line_at d ws line)) q, ap length none))
 
-  pub lines_refused : line < length (circuit_lines d (gates_of ws)) → next ≡ line → (lines.Refused LineBuffer ≡ written_lines d ws line lent)
+  pub lines_refused : line < length (circuit_lines d (gates_of ws)) → next ≡ line → (Err LineBuffer ≡ written_lines d ws line lent)
       × (bytes ≡ filled_lines d ws line lent)
   unfolding flatten
   lines_refused h none =

@@ -10,15 +10,12 @@ use borrow.Author.Tests.{le-ltb, ltb-true, ltb-false}
 use lib.Dec.{ltb}
 use lib.ListN.{length, take, drop, drop_of_length-le, length-append}
 use lib.Seq.{take-append_seam, drop-cons, drop-drop}
+use Rattle.std.specs.Prelude.{Option, Some, None, Result, Ok, Err}
+use Rattle.refusals.specs.declared.Refusal.{Refusal}
 use Rattle.refusals.specs.declared.Refusal.TheVariants.{LineBuffer}
-use Rattle.refusals.specs.declared.Outcome.TheVariants.{Taken}
 use Rattle.refusals.specs.Checks.{outcome}
 use Rattle.dimensions.specs.declared.Dimensions.{Dimensions}
 use Rattle.gates.specs.Memory.{gates_of, over}
-use Rattle.bristol.specs.declared.WrittenLine.{WrittenLine}
-use Rattle.bristol.specs.declared.WrittenLine.TheVariants as W
-use Rattle.bristol.specs.declared.WrittenLines.{WrittenLines}
-use Rattle.bristol.specs.declared.WrittenLines.TheVariants as lines
 use Rattle.bristol.specs.Text.{circuit_lines, circuit_text}
 use Rattle.bristol.specs.Writing.{circuit_checks, line_at, written_line, filled_line, front_put, requested, lines_written_from, written_lines, filled_lines}
 use Rattle.bristol.proofs.Fitting.{fitting_past, fitting-next, fitting-front, fitting-all}
@@ -57,7 +54,7 @@ module _ (ls : List (List ℕ)) (put : ℕ → List ℕ) (count : ℕ → ℕ)
 -- ---- a line a request
 
 -- the lent bytes have room for the line that is asked
-module _ (d : Dimensions) (ws : List ℕ) (e : outcome (circuit_checks d ws) ≡ Taken) (lent : ℕ → List ℕ)
+module _ (d : Dimensions) (ws : List ℕ) (e : outcome (circuit_checks d ws) ≡ Ok tt) (lent : ℕ → List ℕ)
     (room : (i : ℕ) → length (line_at d ws i) ≤ length (lent i)) where
   fits : (i : ℕ) → ltb (length (lent i)) (length (line_at d ws i)) ≡ false
   fits i = le-ltb (length (lent i)) (length (line_at d ws i)) (room i)
@@ -71,12 +68,12 @@ module _ (d : Dimensions) (ws : List ℕ) (e : outcome (circuit_checks d ws) ≡
       go true q =
           let p = line-put d ws i (lent i) e (ltb-true _ _ q) in
           ap₂ front_put
-          (sym p.0 ∙ ap (λ b. cond b (W.Refused LineBuffer) (W.Line (length (line_at d ws i)))) (fits i))
+          (sym p.0 ∙ ap (λ b. cond b (Err LineBuffer) (Ok (Some (length (line_at d ws i))))) (fits i))
           (sym p.1 ∙ ap (λ b. cond b (lent i) (over (line_at d ws i) (lent i))) (fits i))
           ∙ take-append_seam (line_at d ws i) (drop (length (line_at d ws i)) (lent i)) ∙ sym (append-nil (line_at d ws i))
           ∙ ap (λ (x : List (List ℕ)). flatten (take 1 x)) (sym (drop-cons (circuit_lines d (gates_of ws)) i [] (ltb-true _ _ q)))
       go false q =
-          ap (λ (x : WrittenLine). front_put x (filled_line d ws i (lent i))) (sym (past_last d ws i (lent i) e (ltb-false _ _ q)).0)
+          ap (λ (x : Result (Option ℕ) Refusal). front_put x (filled_line d ws i (lent i))) (sym (past_last d ws i (lent i) e (ltb-false _ _ q)).0)
           ∙ ap (λ (x : List (List ℕ)). flatten (take 1 x)) (sym (drop_of_length-le (circuit_lines d (gates_of ws)) (ltb-false _ _ q)))
 
   abbrev put : ℕ → List ℕ
@@ -95,7 +92,7 @@ module _ (d : Dimensions) (ws : List ℕ) (e : outcome (circuit_checks d ws) ≡
       (omega (arith, taken_lines d ws e))
 
   -- and there is no further line
-  pub requests_end : (i : ℕ) → 4 + length ws / 3 ≤ i → (written_line d ws i (lent i) ≡ W.Past) × (filled_line d ws i (lent i) ≡ lent i)
+  pub requests_end : (i : ℕ) → 4 + length ws / 3 ≤ i → (written_line d ws i (lent i) ≡ (Ok None)) × (filled_line d ws i (lent i) ≡ lent i)
   requests_end i h =
       let p = past_last d ws i (lent i) e (omega (arith, taken_lines d ws e)) in
       (sym p.0, sym p.1)
@@ -103,14 +100,14 @@ module _ (d : Dimensions) (ws : List ℕ) (e : outcome (circuit_checks d ws) ≡
 -- ---- as many lines a request as fit
 
 -- how many lines a request put
-abbrev pub counted : WrittenLines → ℕ
-counted (lines.Lines k n) = k
-counted (lines.Refused r) = 0
+abbrev pub counted : Result (ℕ × ℕ) Refusal → ℕ
+counted (Ok (k, n)) = k
+counted (Err r) = 0
 
 -- and their bytes
-abbrev pub fronts : WrittenLines → List ℕ → List ℕ
-fronts (lines.Lines k n) bytes = take n bytes
-fronts (lines.Refused r) bytes = []
+abbrev pub fronts : Result (ℕ × ℕ) Refusal → List ℕ → List ℕ
+fronts (Ok (k, n)) bytes = take n bytes
+fronts (Err r) bytes = []
 
 -- the fronts of k requests, each from the line after those that the last one put, each with lent bytes of its own
 abbrev pub requested_lines : Dimensions → List ℕ → (ℕ → List ℕ) → ℕ → ℕ → List ℕ
@@ -118,10 +115,10 @@ requested_lines d ws lent i k = asked (λ j. fronts (written_lines d ws j (lent 
     (λ j. counted (written_lines d ws j (lent j))) i k
 
 -- lent bytes that take the line from which they are asked
-module _ (d : Dimensions) (ws : List ℕ) (e : outcome (circuit_checks d ws) ≡ Taken) (lent : ℕ → List ℕ)
+module _ (d : Dimensions) (ws : List ℕ) (e : outcome (circuit_checks d ws) ≡ Ok tt) (lent : ℕ → List ℕ)
     (room : (i : ℕ) → length (line_at d ws i) ≤ length (lent i)) where
   given_lines : (i : ℕ) → (written_lines d ws i (lent i)
-      ≡ lines.Lines (length (lines_written_from d ws i (lent i))) (length (flatten (lines_written_from d ws i (lent i)))))
+      ≡ Ok ((length (lines_written_from d ws i (lent i))), (length (flatten (lines_written_from d ws i (lent i))))))
       × (filled_lines d ws i (lent i) ≡ over (flatten (lines_written_from d ws i (lent i))) (lent i))
   given_lines i = lines_by-room d ws i (lent i) e false (le-ltb (length (lent i)) (length (line_at d ws i)) (room i))
 
@@ -132,7 +129,7 @@ module _ (d : Dimensions) (ws : List ℕ) (e : outcome (circuit_checks d ws) ≡
       ap₂ fronts p.0 p.1 ∙ take-append_seam (flatten (lines_written_from d ws i (lent i)))
       (drop (length (flatten (lines_written_from d ws i (lent i)))) (lent i))
       ∙ ap flatten (fitting-front (length (lent i)) (drop i (circuit_lines d (gates_of ws))))
-      ∙ ap (λ (x : WrittenLines). flatten (take (counted x) (drop i (circuit_lines d (gates_of ws))))) (sym p.0)
+      ∙ ap (λ (x : Result (ℕ × ℕ) Refusal). flatten (take (counted x) (drop i (circuit_lines d (gates_of ws))))) (sym p.0)
 
   one-at_least : (i : ℕ) → i < length (circuit_lines d (gates_of ws)) → 1 ≤ counted (written_lines d ws i (lent i))
   one-at_least i h = omega (arith, ap counted (given_lines i).0, ap length (fitting-next (circuit_lines d (gates_of ws)) i (length (lent i)) h (room i)))
@@ -146,18 +143,18 @@ module _ (d : Dimensions) (ws : List ℕ) (e : outcome (circuit_checks d ws) ≡
       some_lines one-at_least 0 k (omega (arith, taken_lines d ws e))
 
   -- and past the last line none is put
-  pub lines_end : (i : ℕ) → 4 + length ws / 3 ≤ i → (written_lines d ws i (lent i) ≡ lines.Lines 0 0) × (filled_lines d ws i (lent i) ≡ lent i)
+  pub lines_end : (i : ℕ) → 4 + length ws / 3 ≤ i → (written_lines d ws i (lent i) ≡ Ok (0, 0)) × (filled_lines d ws i (lent i) ≡ lent i)
   unfolding flatten
   lines_end i h =
       let none : lines_written_from d ws i (lent i) ≡ [] = fitting_past (circuit_lines d (gates_of ws)) i (length (lent i))
       (omega (arith, taken_lines d ws e)) in (
-        (given_lines i).0 ∙ ap (λ (x : List (List ℕ)). lines.Lines (length x) (length (flatten x))) none,
+        (given_lines i).0 ∙ ap (λ (x : List (List ℕ)). Ok ((length x), (length (flatten x)))) none,
         (given_lines i).1 ∙ ap (λ (x : List (List ℕ)). over (flatten x) (lent i)) none,
       )
 
 -- ---- lent bytes that take the whole text: one request puts it
 
-module _ (d : Dimensions) (ws : List ℕ) (e : outcome (circuit_checks d ws) ≡ Taken) (lent : List ℕ)
+module _ (d : Dimensions) (ws : List ℕ) (e : outcome (circuit_checks d ws) ≡ Ok tt) (lent : List ℕ)
     (room : length (circuit_text d (gates_of ws)) ≤ length lent) where
   first_fits : length (line_at d ws 0) ≤ length lent
   unfolding circuit_text circuit_lines flatten
@@ -168,11 +165,11 @@ module _ (d : Dimensions) (ws : List ℕ) (e : outcome (circuit_checks d ws) ≡
   all_lines = fitting-all (length lent) (circuit_lines d (gates_of ws)) room
 
   -- with room for the text of a taken circuit, a request from line 0 on says its lines and bytes, and leaves it in front of the lent bytes
-  pub lines_whole : (written_lines d ws 0 lent ≡ lines.Lines (length (circuit_lines d (gates_of ws))) (length (circuit_text d (gates_of ws))))
+  pub lines_whole : (written_lines d ws 0 lent ≡ Ok ((length (circuit_lines d (gates_of ws))), (length (circuit_text d (gates_of ws)))))
       × (filled_lines d ws 0 lent ≡ over (circuit_text d (gates_of ws)) lent)
   unfolding circuit_text
   lines_whole =
       let p = lines_by-room d ws 0 lent e false (le-ltb (length lent) (length (line_at d ws 0)) first_fits) in (
-        p.0 ∙ ap (λ (x : List (List ℕ)). lines.Lines (length x) (length (flatten x))) all_lines,
+        p.0 ∙ ap (λ (x : List (List ℕ)). Ok ((length x), (length (flatten x)))) all_lines,
         p.1 ∙ ap (λ (x : List (List ℕ)). over (flatten x) lent) all_lines,
       )

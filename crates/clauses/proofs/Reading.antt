@@ -7,6 +7,7 @@ use native.Mathlib.Omega.{arith}
 use lib.Dec.{ltb}
 use lib.ListN.{length}
 use borrow.Author.Tests.{lt-ltb, le-ltb}
+use Rattle.std.specs.Prelude.{Some, None}
 use Rattle.words.specs.declared.Row.{Row}
 use Rattle.words.proofs.Truth.{on, and_l, and_r, and_i}
 use Rattle.lexer.specs.Pieces.{Piece, behind}
@@ -16,7 +17,6 @@ use Rattle.lexer.proofs.Cuts.{FoundBy}
 use Rattle.lexer.proofs.Tokens.{found}
 use Rattle.numbers.specs.Numbers.{Number, number, malformed, number_read}
 use Rattle.numbers.specs.CappedNumbers.{number_held}
-use Rattle.numbers.specs.declared.Number.TheVariants as L
 use Rattle.numbers.proofs.Decimals.{held-value, held_none}
 use Rattle.clauses.specs.Rows.{Literal, row_of}
 use Rattle.clauses.specs.Clauses.{Reading, clause, ended, unreadable, joined_literal, before, clauses}
@@ -95,10 +95,10 @@ module _ {n : ℕ} {text : List ℕ} {at start : ℕ} {row : Row} {from to : ℕ
   by_number x e = sym B.whole
       ∙ ap (λ (y : Number). carried row start (before n (record { at = from; bytes = part from to text }) y (clauses_from n text to))) e
 
-  pub not-a-number : number_held (number_read (part from to text)) ≡ L.Malformed → first (clauses_from n text at) ≡ Unreadable
+  pub not-a-number : number_held (number_read (part from to text)) ≡ None → first (clauses_from n text at) ≡ Unreadable
   not-a-number e = by_number malformed (held_none (number_read (part from to text)) e)
 
-  module _ (minus : Bool) (v : ℕ) (e : number_held (number_read (part from to text)) ≡ L.Value minus v) where
+  module _ (minus : Bool) (v : ℕ) (e : number_held (number_read (part from to text)) ≡ Some (minus, v)) where
     pub closes : v ≡ 0 → first (clauses_from n text at) ≡ Read row start to
     closes z =
         let x = held-value (number_read (part from to text)) minus v e in

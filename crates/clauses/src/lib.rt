@@ -4,8 +4,6 @@
 ghost use Rattle.std.specs.Prelude.{◌≡◌, ◌∷◌};
 ghost use Rattle.clauses.specs.First.{clauses_from, row_with, first, clause_code, clause_numbers, first_said};
 
-use lexer::pieces::Piece;
-use numbers::Number;
 use words::Row;
 
 // A clause's row, the place of its first token and the place past its 0.
@@ -38,7 +36,7 @@ pub fn read_clause(text: &[u8], at: usize, n: u8) -> Clause
     ensures value { result ≡ first (clauses_from n text.now at) }
     ensures result_value { clause_code result ∷ clause_numbers result ≡ first_said (clauses_from n text.now at) }
 {
-    let Piece::At(start, start_end) = lexer::pieces::next_token(text, at) else {
+    let Some((start, start_end)) = lexer::pieces::next_token(text, at) else {
         return Clause::End;
     };
     let mut row = Row {
@@ -47,8 +45,9 @@ pub fn read_clause(text: &[u8], at: usize, n: u8) -> Clause
     };
     let mut from = start;
     let mut to = start_end;
+    // A loop: each token begins where the one before it ended; its `let .. else` is a form that document 01 requires.
     loop {
-        let Number::Value(minus, v) = numbers::read_number(&text[from..to]) else {
+        let Some((minus, v)) = numbers::read_number(&text[from..to]) else {
             return Clause::Unreadable;
         };
         if v == 0 {
@@ -58,7 +57,7 @@ pub fn read_clause(text: &[u8], at: usize, n: u8) -> Clause
             return Clause::Unreadable;
         }
         row = with_literal(row, minus, v - 1);
-        let Piece::At(next, next_end) = lexer::pieces::next_token(text, to) else {
+        let Some((next, next_end)) = lexer::pieces::next_token(text, to) else {
             break;
         };
         from = next;

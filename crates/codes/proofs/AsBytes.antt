@@ -5,10 +5,10 @@ use Prim.Native.Nat.{ℕ, ◌≤◌, ◌<◌}
 use native.Mathlib.Omega.{arith}
 use lib.Dec.{ltb}
 use borrow.Author.Tests.{ltb-true, ltb-false, lt-ltb}
+use Rattle.std.specs.Prelude.{Ok, Err}
 use Rattle.words.proofs.Truth.{on}
 use Rattle.refusals.specs.Checks.{outcome}
 use Rattle.refusals.specs.declared.Refusal.TheVariants.{Variables}
-use Rattle.refusals.specs.declared.Outcome.TheVariants.{Taken, Refused}
 use Rattle.refusals.proofs.Outcomes.{check_passed}
 use Rattle.dimensions.specs.Sizes.{outside, dimensions, size_checks}
 use Rattle.dimensions.proofs.Limits.{most, within}
@@ -16,15 +16,15 @@ use Rattle.codes.specs.Codes.{as_byte, host_dimensions, variable_checks}
 
 -- ---- the check on n
 
-pub variables_refused : (n : ℕ) → outside 32 n ≡ true → Refused Variables ≡ outcome (variable_checks n)
+pub variables_refused : (n : ℕ) → outside 32 n ≡ true → Err Variables ≡ outcome (variable_checks n)
 variables_refused n h = rw h
 
-pub variables_taken : (n : ℕ) → outside 32 n ≡ false → Taken ≡ outcome (variable_checks n)
+pub variables_taken : (n : ℕ) → outside 32 n ≡ false → Ok tt ≡ outcome (variable_checks n)
 variables_taken n h = rw h
 
 -- an n that its check takes is at most 32
-pub taken-low : (n : ℕ) → outcome (variable_checks n) ≡ Taken → n ≤ 32
-taken-low n e = most 32 n (check_passed (outside 32 n) Variables Taken e)
+pub taken-low : (n : ℕ) → outcome (variable_checks n) ≡ Ok tt → n ≤ 32
+taken-low n e = most 32 n (check_passed (outside 32 n) Variables (Ok tt) e)
 
 -- ---- a number as a byte
 
@@ -51,7 +51,7 @@ pub variables_alike : (n : ℕ) → outcome (variable_checks (as_byte n)) ≡ ou
 variables_alike n = rw (outside-alike 32 n (omega arith))
 
 -- an n that its check takes is its byte
-pub variables_same : (n : ℕ) → outcome (variable_checks n) ≡ Taken → as_byte n ≡ n
+pub variables_same : (n : ℕ) → outcome (variable_checks n) ≡ Ok tt → as_byte n ≡ n
 variables_same n e = low_byte n (omega (arith, taken-low n e))
 
 -- ---- four numbers
@@ -68,7 +68,7 @@ module _ (n left right public : ℕ) where
       )
 
   -- numbers that these checks take are their bytes
-  pub sizes-same : outcome (size_checks (dimensions n left right public)) ≡ Taken → host_dimensions n left right public ≡ dimensions n left right public
+  pub sizes-same : outcome (size_checks (dimensions n left right public)) ≡ Ok tt → host_dimensions n left right public ≡ dimensions n left right public
   sizes-same e =
       let w = within (dimensions n left right public) e in
       λ i. record {

@@ -8,7 +8,7 @@ ghost use Rattle.verdicts.specs.Verdicts.{verdict_number, model_word};
 ghost use Rattle.codes.specs.Codes.{as_byte, host_dimensions, variable_checks, verdict_from};
 
 use dimensions::Dimensions;
-use refusals::{Outcome, Refusal};
+use refusals::Refusal;
 use verdicts::Verdict;
 
 // A number as a byte; 255, which no limit allows, for what no byte holds.
@@ -22,14 +22,14 @@ pub fn byte(x: u64) -> u8
 }
 
 // Whether there may be n variables: 1 if not.
-pub fn check_variables(n: u8) -> Outcome
+pub fn check_variables(n: u8) -> Result<(), Refusal>
     ensures value { result ≡ outcome (variable_checks n) }
     ensures result_value { code_of result ∷ [] ≡ said (outcome (variable_checks n)) [] }
 {
     if Dimensions::variables_outside(n as u64) {
-        return Outcome::Refused(Refusal::Variables);
+        return Err(Refusal::Variables);
     }
-    Outcome::Taken
+    Ok(())
 }
 
 // Four numbers as dimensions, each as a byte: every entry judges them.
@@ -45,12 +45,12 @@ pub fn dimensions(n: u64, left: u64, right: u64, public: u64) -> Dimensions
 }
 
 // 0 where the call was taken, else the refusal's number.
-pub fn code(outcome: Outcome) -> u8
+pub fn code(outcome: Result<(), Refusal>) -> u8
     ensures { result ≡ code_of outcome }
 {
     match outcome {
-        Outcome::Taken => 0,
-        Outcome::Refused(refusal) => refusals::number(refusal),
+        Ok(()) => 0,
+        Err(refusal) => u8::from(refusal),
     }
 }
 

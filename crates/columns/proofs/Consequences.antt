@@ -6,9 +6,9 @@ use Prim.Native.Nat.{ℕ, ◌*◌, ◌≤◌}
 use native.Mathlib.Omega.{arith}
 use lib.ListN.{length, get_or, take, replicate}
 use lib.Seq.{length-take-le}
+use Rattle.std.specs.Prelude.{Ok}
 use Rattle.refusals.specs.Checks.{outcome}
 use Rattle.refusals.specs.declared.Refusal.TheVariants.{RowBit, PlaneBits}
-use Rattle.refusals.specs.declared.Outcome.TheVariants.{Taken}
 use Rattle.words.specs.Sets.{bit}
 use Rattle.words.proofs.Stores.{stored-take}
 use Rattle.tables.specs.Acceptance.{all_below, high}
@@ -20,8 +20,8 @@ use Rattle.columns.proofs.Places.{literal-place, missing_row, place-literal}
 use Rattle.columns.proofs.Trips.{planes_taken, rows_back, table_taken, columns-back}
 
 -- nothing of a table is lost: accepted tables with the same planes have the same rows
-pub same_planes : (n rows : ℕ) (a b planes : List ℕ) → outcome (column_checks n rows a (length planes)) ≡ Taken
-    → outcome (column_checks n rows b (length planes)) ≡ Taken → columns_after n rows a planes ≡ columns_after n rows b planes
+pub same_planes : (n rows : ℕ) (a b planes : List ℕ) → outcome (column_checks n rows a (length planes)) ≡ Ok tt
+    → outcome (column_checks n rows b (length planes)) ≡ Ok tt → columns_after n rows a planes ≡ columns_after n rows b planes
     → take (2 * rows) a ≡ take (2 * rows) b
 same_planes n rows a b planes ha hb e =
     sym (front a ha)
@@ -29,20 +29,20 @@ same_planes n rows a b planes ha hb e =
     ∙ rows_back n rows b planes a hb (long a ha))
     ∙ stored-take a (take (2 * rows) b) (subst (λ (k : ℕ). k ≤ length a) (sym (size b hb)) (long a ha)) (2 * rows) (size b hb)
   where
-    long : (x : List ℕ) → outcome (column_checks n rows x (length planes)) ≡ Taken → 2 * rows ≤ length x
+    long : (x : List ℕ) → outcome (column_checks n rows x (length planes)) ≡ Ok tt → 2 * rows ≤ length x
     long x h = (within n rows (length x) (length planes) (all-taken n rows (length x) (length planes) (high n rows x) RowBit h).0).row_words
 
-    size : (x : List ℕ) → outcome (column_checks n rows x (length planes)) ≡ Taken → length (take (2 * rows) x) ≡ 2 * rows
+    size : (x : List ℕ) → outcome (column_checks n rows x (length planes)) ≡ Ok tt → length (take (2 * rows) x) ≡ 2 * rows
     size x h = length-take-le (2 * rows) x (long x h)
 
-    front : (x : List ℕ) (h : outcome (column_checks n rows x (length planes)) ≡ Taken)
+    front : (x : List ℕ) (h : outcome (column_checks n rows x (length planes)) ≡ Ok tt)
         → take (2 * rows) (rows_after n rows (columns_after n rows x planes) x) ≡ take (2 * rows) x
     front x h = ap (take (2 * rows)) (rows_back n rows x planes x h (long x h))
         ∙ stored-take x (take (2 * rows) x) (subst (λ (k : ℕ). k ≤ length x) (sym (size x h)) (long x h)) (2 * rows) (size x h)
 
 -- and nothing of planes: accepted ones with the same rows have the same squares
-pub same_rows : (n rows : ℕ) (a b words : List ℕ) → outcome (row_checks n rows a (length words)) ≡ Taken
-    → outcome (row_checks n rows b (length words)) ≡ Taken → rows_after n rows a words ≡ rows_after n rows b words
+pub same_rows : (n rows : ℕ) (a b words : List ℕ) → outcome (row_checks n rows a (length words)) ≡ Ok tt
+    → outcome (row_checks n rows b (length words)) ≡ Ok tt → rows_after n rows a words ≡ rows_after n rows b words
     → take (64 * square_count rows) a ≡ take (64 * square_count rows) b
 same_rows n rows a b words ha hb e =
     sym (front a ha)
@@ -50,13 +50,13 @@ same_rows n rows a b words ha hb e =
     ∙ columns-back n rows b words a hb (long a ha))
     ∙ stored-take a (take (64 * square_count rows) b) (subst (λ (k : ℕ). k ≤ length a) (sym (size b hb)) (long a ha)) (64 * square_count rows) (size b hb)
   where
-    long : (x : List ℕ) → outcome (row_checks n rows x (length words)) ≡ Taken → 64 * square_count rows ≤ length x
+    long : (x : List ℕ) → outcome (row_checks n rows x (length words)) ≡ Ok tt → 64 * square_count rows ≤ length x
     long x h = (within n rows (length words) (length x) (all-taken n rows (length words) (length x) (stray n rows x) PlaneBits h).0).plane_words_lem
 
-    size : (x : List ℕ) → outcome (row_checks n rows x (length words)) ≡ Taken → length (take (64 * square_count rows) x) ≡ 64 * square_count rows
+    size : (x : List ℕ) → outcome (row_checks n rows x (length words)) ≡ Ok tt → length (take (64 * square_count rows) x) ≡ 64 * square_count rows
     size x h = length-take-le (64 * square_count rows) x (long x h)
 
-    front : (x : List ℕ) (h : outcome (row_checks n rows x (length words)) ≡ Taken)
+    front : (x : List ℕ) (h : outcome (row_checks n rows x (length words)) ≡ Ok tt)
         → take (64 * square_count rows) (columns_after n rows (rows_after n rows x words) x) ≡ take (64 * square_count rows) x
     front x h = ap (take (64 * square_count rows)) (columns-back n rows x words x h (long x h))
         ∙ stored-take x (take (64 * square_count rows) x) (subst (λ (k : ℕ). k ≤ length x) (sym (size x h)) (long x h)) (64 * square_count rows) (size x h)
@@ -69,7 +69,7 @@ lent = replicate 130 7
 others : List ℕ
 others = replicate 68 9
 
-accepted : outcome (column_checks 2 33 table (length lent)) ≡ Taken
+accepted : outcome (column_checks 2 33 table (length lent)) ≡ Ok tt
 unfolding table lent all_below
 accepted = refl
 
@@ -83,7 +83,7 @@ row_34 : bit (get_or (columns_after 2 33 table lent) 65 0) 1 ≡ false
 row_34 = missing_row 2 33 table lent accepted 33 0 1 (omega arith) (omega arith) (omega arith) (omega arith)
 
 -- read back into longer words, whose others stay
-back-taken : outcome (row_checks 2 33 (columns_after 2 33 table lent) (length others)) ≡ Taken
+back-taken : outcome (row_checks 2 33 (columns_after 2 33 table lent) (length others)) ≡ Ok tt
 unfolding others
 back-taken = planes_taken 2 33 table lent others accepted (omega arith)
 
@@ -95,6 +95,6 @@ unfolding table others
 others_stay = ap (λ (l : List ℕ). get_or l 66 0) (rows_back 2 33 table lent others accepted (omega arith))
 
 -- and once more to planes
-again_taken : outcome (column_checks 2 33 (rows_after 2 33 (columns_after 2 33 table lent) others) (length lent)) ≡ Taken
+again_taken : outcome (column_checks 2 33 (rows_after 2 33 (columns_after 2 33 table lent) others) (length lent)) ≡ Ok tt
 unfolding lent
 again_taken = table_taken 2 33 (columns_after 2 33 table lent) others lent back-taken (omega arith)

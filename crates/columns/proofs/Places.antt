@@ -8,9 +8,9 @@ use native.Mathlib.Nat.{zero-add}
 use native.Mathlib.Omega.{arith}
 use lib.ListN.{length, get_or, take, get_or-eq_default}
 use lib.Seq.{get_or-take, length-take-le}
+use Rattle.std.specs.Prelude.{Ok}
 use Rattle.refusals.specs.Checks.{outcome}
 use Rattle.refusals.specs.declared.Refusal.TheVariants.{RowBit, PlaneBits}
-use Rattle.refusals.specs.declared.Outcome.TheVariants.{Taken}
 use Rattle.words.specs.Sets.{bit}
 use Rattle.words.proofs.Bits.{bit-zero}
 use Rattle.words.proofs.Stores.{stored_at}
@@ -25,7 +25,7 @@ use Rattle.columns.proofs.Round.{length_squares}
 
 -- ---- a table's planes
 
-module _ (n rows : ℕ) (table planes : List ℕ) (taken : outcome (column_checks n rows table (length planes)) ≡ Taken) where
+module _ (n rows : ℕ) (table planes : List ℕ) (taken : outcome (column_checks n rows table (length planes)) ≡ Ok tt) where
   w : Within n rows (length table) (length planes)
   w = within n rows (length table) (length planes) (all-taken n rows (length table) (length planes) (high n rows table) RowBit taken).0
 
@@ -68,7 +68,7 @@ module _ (n rows : ℕ) (table planes : List ℕ) (taken : outcome (column_check
 
 -- ---- the rows of planes
 
-module _ (n rows : ℕ) (planes table : List ℕ) (taken : outcome (row_checks n rows planes (length table)) ≡ Taken) where
+module _ (n rows : ℕ) (planes table : List ℕ) (taken : outcome (row_checks n rows planes (length table)) ≡ Ok tt) where
   fits : 2 * rows ≤ length table
   fits = (within n rows (length table) (length planes) (all-taken n rows (length table) (length planes) (stray n rows planes) PlaneBits taken).0
       ).row_words

@@ -1,11 +1,14 @@
 -- A table's squares stored, a square at a time: what is left to store gives what the whole run gives.
 use mathlib.Core.Path.{◌≡◌, refl, sym, ap, ap₂, ◌∙◌}
-use mathlib.Core.List.{List, [], ◌∷◌, ◌++◌, append-nil}
+use mathlib.Core.List.{List, [], ◌∷◌, ◌++◌, append-nil, append_assoc}
 use Prim.Native.Nat.{ℕ, suc, ◌+◌, ◌-◌, ◌*◌, ◌≤◌, ◌<◌}
 use native.Mathlib.Numerals.{add-one}
 use native.Mathlib.Omega.{arith}
-use lib.ListN.{length, get_or, length-append}
-use lib.Seq.{sets, length-sets}
+use lib.ListN.{length, get_or, take, drop, length-append}
+use lib.Seq.{sets, sets-eq, length-sets}
+use borrow.Rule.Slice.PartMut.{put_mid}
+use Rattle.std.proofs.lemmas.List.Edits.{paste_all}
+use Rattle.std.proofs.lemmas.Slice.{put_mid-paste}
 use Rattle.words.proofs.Stores.{sets_append}
 use Rattle.squares.specs.Squares.{column, transposed, sign_words, square_at}
 use Rattle.columns.specs.Planes.{flat, squares_from}
@@ -49,6 +52,15 @@ module _ (table before : List ℕ) (k : ℕ) where
     pub squaring_end : k ≤ s → now ≡ sets before 0 (squares_from table 0 k)
     unfolding squares_from
     squaring_end h = let e : k - s ≡ 0 = omega arith in ap (λ (x : ℕ). sets now (64 * s) (squares_from table s x)) (sym e) ∙ q.stored
+
+-- a part written in place is its words stored
+pub part_stored : (before part words : List ℕ) (at k : ℕ) → part ≡ words → length words ≡ k → at + k ≤ length before
+    → put_mid at k before part ≡ sets before at words
+part_stored before part words at k e size room =
+    put_mid-paste at k before part words k e refl (sym size)
+    ∙ paste_all before at words k (sym size)
+    ∙ ap (λ (n : ℕ). take at before ++ (words ++ drop (at + n) before)) (sym size)
+    ∙ sym (sets-eq words before at (omega arith) ∙ append_assoc (take at before) words _)
 
 -- two planes stored one after the other are a square stored
 pub two_planes : (before : List ℕ) (at : ℕ) (square : List (List ℕ)) → length square ≡ 2 → length (get_or square 0 []) ≡ 32

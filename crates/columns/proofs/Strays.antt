@@ -3,12 +3,15 @@ use mathlib.Core.Path.{◌≡◌, refl, sym, ap, ap₂, ◌∙◌}
 use mathlib.Core.Bool.{Bool, true, false, not, ◌&&◌, ◌||◌, cond}
 use mathlib.Core.List.{List}
 use Prim.Native.Nat.{ℕ, zero, suc, ◌+◌, ◌-◌, ◌*◌, ◌/◌, ◌%◌, ◌^◌, ◌≤◌, ◌<◌}
-use native.Mathlib.Nat.{add-zero, add-suc, suc-add}
+use native.Mathlib.Nat.{zero-add, add-zero, add-suc, suc-add}
 use native.Mathlib.Omega.{arith}
 use lib.Dec.{ltb}
 use lib.ListN.{length, get_or, take, drop}
 use lib.Seq.{drop-cons}
 use borrow.Author.Tests.{lt-ltb, le-ltb, ltb-true}
+use Rattle.std.specs.Bool.{MatchBool}
+use Rattle.std.specs.List.{range_with_len, AllWithin, HoldsAt}
+use Rattle.std.proofs.lemmas.List.FromFn.{length-range_with_len, get_or-range_with_len}
 use Rattle.words.specs.Sets.{any}
 use Rattle.words.proofs.Truth.{on}
 use Rattle.words.proofs.Upto.{any-i, any_e}
@@ -89,23 +92,41 @@ module _ (n rows : ℕ) (planes : List ℕ) where
 
   -- ---- all planes
 
-  pub none-start : any (stray_word n rows planes) (32 * 0) ≡ false
+  -- some word of plane p is stray
+  abbrev pub plane_has : ℕ → Bool
+  plane_has p = any (λ i. stray_word n rows planes (32 * p + i)) 32
+
+  none-below : (k : ℕ) → ((p : ℕ) → p < k → plane_has p ≡ false) → any (stray_word n rows planes) (32 * k) ≡ false
   unfolding any
-  none-start = refl
+  none-below zero h = refl
+  none-below (suc k) h =
+      let more : 32 * suc k ≡ 32 * k + 32 = omega arith in
+      ap (any (stray_word n rows planes)) more ∙ any-add (stray_word n rows planes) (32 * k) 32
+      ∙ rw (none-below k (λ p b. h p (omega arith)), h k (omega arith)) refl
 
-  pub none-next : (p : ℕ) → any (stray_word n rows planes) (32 * p) ≡ false → any (λ i. stray_word n rows planes (32 * p + i)) 32 ≡ false
-      → any (stray_word n rows planes) (32 * (p + 1)) ≡ false
-  none-next p e f =
-      let more : 32 * (p + 1) ≡ 32 * p + 32 = omega arith in
-      ap (any (stray_word n rows planes)) more ∙ any-add (stray_word n rows planes) (32 * p) 32 ∙ rw (e, f) refl
-
-  pub found : (p : ℕ) → p < 2 * square_count rows → any (λ i. stray_word n rows planes (32 * p + i)) 32 ≡ true → true ≡ stray n rows planes
+  found : (p : ℕ) → p < 2 * square_count rows → plane_has p ≡ true → true ≡ stray n rows planes
   unfolding stray
   found p h e =
       let hit = any_e (λ i. stray_word n rows planes (32 * p + i)) 32 e in
       let l = hit.1 in
       sym (any-i (stray_word n rows planes) (64 * square_count rows) (32 * p + hit.0) (omega arith) hit.2)
 
-  pub none : (p : ℕ) → p ≡ 2 * square_count rows → any (stray_word n rows planes) (32 * p) ≡ false → false ≡ stray n rows planes
+  none : ((p : ℕ) → p < 2 * square_count rows → plane_has p ≡ false) → false ≡ stray n rows planes
   unfolding stray
-  none p e h = let all : 64 * square_count rows ≡ 32 * p = omega arith in sym (ap (any (stray_word n rows planes)) all ∙ h)
+  none h =
+      let all : 64 * square_count rows ≡ 32 * (2 * square_count rows) = omega arith in
+      sym (ap (any (stray_word n rows planes)) all ∙ none-below (2 * square_count rows) h)
+
+  -- one of them has a stray word, or none
+  pub any-planes : (r : Bool) (k : ℕ) → k ≡ 2 * square_count rows → let ps = range_with_len 0 k in
+      MatchBool r ((i : ℕ) × (i < length ps) × HoldsAt (λ p. plane_has p ≡ true) ps i) (AllWithin (λ p. plane_has p ≡ false) ps 0 (length ps))
+      → r ≡ stray n rows planes
+  any-planes true k e (i, b, h) =
+      let size : length (range_with_len 0 k) ≡ k = length-range_with_len 0 k in
+      let at : get_or (range_with_len 0 k) i 0 ≡ i = get_or-range_with_len 0 k i 0 (omega arith) ∙ zero-add i in
+      found i (omega arith) (rw at at (h 0))
+  any-planes false k e h =
+      let size : length (range_with_len 0 k) ≡ k = length-range_with_len 0 k in
+      none (λ p b.
+      let at : get_or (range_with_len 0 k) p 0 ≡ p = get_or-range_with_len 0 k p 0 (omega arith) ∙ zero-add p in
+      rw at at (h p 0 (omega arith) (omega arith)))

@@ -11,9 +11,9 @@ use lib.Pow.{pow_pos, pow_mono}
 use lib.ListN.{length, get_or, take, get_or-eq_default}
 use lib.Seq.{sets, length-sets, take_all}
 use borrow.Author.Tests.{lt-ltb, le-ltb, ltb-true, ltb-false, not-false}
+use Rattle.std.specs.Prelude.{Ok}
 use Rattle.refusals.specs.Checks.{outcome}
 use Rattle.refusals.specs.declared.Refusal.TheVariants.{RowBit, PlaneBits}
-use Rattle.refusals.specs.declared.Outcome.TheVariants.{Taken}
 use Rattle.words.specs.Sets.{bit}
 use Rattle.words.proofs.Truth.{on, and_i}
 use Rattle.words.proofs.Upto.{any_none}
@@ -91,9 +91,9 @@ module _ (n rows : ℕ) (planes : List ℕ) (clean : stray n rows planes ≡ fal
 
 -- ---- a table there and back
 
-module _ (n rows : ℕ) (table planes lent : List ℕ) (taken : outcome (column_checks n rows table (length planes)) ≡ Taken)
+module _ (n rows : ℕ) (table planes lent : List ℕ) (taken : outcome (column_checks n rows table (length planes)) ≡ Ok tt)
     (fits : 2 * rows ≤ length lent) where
-  parts : (outcome (buffer_checks n rows (length table) (length planes)) ≡ Taken) × (high n rows table ≡ false)
+  parts : (outcome (buffer_checks n rows (length table) (length planes)) ≡ Ok tt) × (high n rows table ≡ false)
   parts = all-taken n rows (length table) (length planes) (high n rows table) RowBit taken
 
   w : Within n rows (length table) (length planes)
@@ -125,7 +125,7 @@ module _ (n rows : ℕ) (table planes lent : List ℕ) (taken : outcome (column_
       ∙ stored_at planes written (subst (λ (k : ℕ). k ≤ length planes) (sym size) w.plane_words_lem) q (subst (λ (k : ℕ). q < k) (sym size) h)
 
   -- the planes of an accepted table are accepted
-  pub planes_taken : outcome (row_checks n rows (columns_after n rows table planes) (length lent)) ≡ Taken
+  pub planes_taken : outcome (row_checks n rows (columns_after n rows table planes) (length lent)) ≡ Ok tt
   unfolding written
   planes_taken =
       let long : length (columns_after n rows table planes) ≡ length planes = ap length now_there ∙ length-sets planes 0 written in
@@ -145,9 +145,9 @@ module _ (n rows : ℕ) (table planes lent : List ℕ) (taken : outcome (column_
 
 -- ---- planes there and back
 
-module _ (n rows : ℕ) (planes table lent : List ℕ) (taken : outcome (row_checks n rows planes (length table)) ≡ Taken)
+module _ (n rows : ℕ) (planes table lent : List ℕ) (taken : outcome (row_checks n rows planes (length table)) ≡ Ok tt)
     (fits : 64 * square_count rows ≤ length lent) where
-  passed : (outcome (buffer_checks n rows (length table) (length planes)) ≡ Taken) × (stray n rows planes ≡ false)
+  passed : (outcome (buffer_checks n rows (length table) (length planes)) ≡ Ok tt) × (stray n rows planes ≡ false)
   passed = all-taken n rows (length table) (length planes) (stray n rows planes) PlaneBits taken
 
   in_limits : Within n rows (length table) (length planes)
@@ -166,7 +166,7 @@ module _ (n rows : ℕ) (planes table lent : List ℕ) (taken : outcome (row_che
       ∙ stored-take table (table_from rows planes) (subst (λ (k : ℕ). k ≤ length table) (sym row_words) in_limits.row_words) (2 * rows) row_words
 
   -- the rows of accepted planes are accepted
-  pub table_taken : outcome (column_checks n rows (rows_after n rows planes table) (length lent)) ≡ Taken
+  pub table_taken : outcome (column_checks n rows (rows_after n rows planes table) (length lent)) ≡ Ok tt
   table_taken =
       let long : length (rows_after n rows planes table) ≡ length table = ap length restored ∙ length-sets table 0 (table_from rows planes) in
       sym (take_last n rows (length (rows_after n rows planes table)) (length lent) (high n rows (rows_after n rows planes table)) RowBit

@@ -1,6 +1,6 @@
 -- A table by columns and back: document 02, "Columns before rows", refusals 1, 2, 4, and then 3 for rows and 24 for planes.
 -- Ask: Is 24 judged in the squares alone, beyond the count and beyond n, and after 4?
-use Rattle.std.specs.Prelude.{ℕ, ◌+◌, ◌-◌, ◌*◌, ◌/◌, ◌%◌, ◌^◌, Bool, not, ◌||◌, cond, List, [], ◌∷◌, ◌++◌, ltb, length, get_or}
+use Rattle.std.specs.Prelude.{ℕ, ◌-◌, ◌*◌, ◌/◌, ◌%◌, ◌^◌, Bool, not, ◌||◌, cond, List, [], ◌∷◌, ◌++◌, ltb, length, get_or}
 use Rattle.std.proofs.lemmas.List.Edits.{sets}
 use Rattle.refusals.specs.Checks.{Check, check, outcome, given}
 use Rattle.refusals.specs.declared.Refusal.TheVariants.{Variables, RowCount, RowBit, RowBuffer, PlaneBits}

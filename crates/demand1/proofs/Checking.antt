@@ -1,8 +1,8 @@
 -- Demand 1 for the budget line, proofs and games: each definition's own order of refusals, gone through case by case.
+use Rattle.std.specs.Prelude.{Option, Some, None, Result, Ok, Err}
 use mathlib.Core.Path.{◌≡◌, refl, sym, ap, ap₂, ◌∙◌}
 use mathlib.Core.Bool.{Bool, true, false, not, ◌&&◌, cond}
 use mathlib.Core.List.{List, [], ◌∷◌, ◌++◌, map}
-use mathlib.Core.Option.{Option, none, some}
 use Prim.Native.Nat.{ℕ, zero, suc, ◌-◌, ◌^◌}
 use native.Mathlib.Omega.{arith}
 use lib.Dec.{eqb, ltb, leb}
@@ -10,9 +10,7 @@ use lib.ListN.{length, take, drop, length-take, length-drop}
 use lib.Seq.{take-take}
 use Rattle.refusals.specs.declared.Refusal.{Refusal}
 use Rattle.refusals.specs.declared.Refusal.TheVariants.{Variables, RowCount, Text, NumberLine, GameVariables, LineVariables}
-use Rattle.refusals.specs.declared.Outcome.{Outcome}
-use Rattle.refusals.specs.declared.Outcome.TheVariants.{Taken, Refused}
-use Rattle.refusals.specs.Numbers.{code_of}
+use Rattle.refusals.specs.Numbers.{Outcome, code_of}
 use Rattle.refusals.specs.Checks.{Check, check, outcome}
 use Rattle.refusals.proofs.Outcomes.{refused-taken}
 use Rattle.words.proofs.Truth.{on}
@@ -30,13 +28,11 @@ use Rattle.clauses.specs.Clauses.{Reading, clauses, clause_rows, complete}
 use Rattle.scan.specs.Rules.{any_row, unsatisfied_with, forced_variable, forced_true}
 use Rattle.propagation.specs.Propagation.{reaches, follows}
 use Rattle.lexer.specs.Remarks.{lines_of, kept, without_remarks}
-use Rattle.header.specs.declared.HeaderNumbers.{HeaderNumbers}
 use Rattle.header.specs.Header.{past_remarks, header_of}
 use Rattle.qdimacs.specs.Lines.{Bound, lines_behind, bound_on, prefix_of, behind_prefix, tokens_on}
 use Rattle.qdimacs.specs.Text.{most_game_variables, proper, GameTurn, game_turns, GameText, game as game', no_game, game_on, game_behind, game_text}
+use Rattle.qdimacs.specs.TurnsInWords.{game_outcome}
 use Rattle.game.specs.Game.{game_answer, game_code, game_numbers}
-use Rattle.lines.specs.declared.Budget.{Budget}
-use Rattle.lines.specs.declared.Budget.TheVariants as budget
 use Rattle.lines.specs.Numbers.{Field, field, no_field, bounded, closed_field, field_of, on_field, budget_of, budget_code, budget_numbers}
 use Rattle.lent.specs.Lent.{numbers_or}
 use Rattle.drat_line.specs.Lines.{has_break, clause_in, line_said}
@@ -57,7 +53,7 @@ use Rattle.demand1.proofs.OneText.{Fair, sized, of_variables, of_rows, of_text, 
 -- the tables' checks, then others that come to the same
 pub same-behind : (cs xs ys : List Check) → outcome xs ≡ outcome ys → outcome (cs ++ xs) ≡ outcome (cs ++ ys)
 same-behind [] xs ys e = e
-same-behind (c ∷ cs) xs ys e = ap (λ (o : Outcome). cond c.fails (Refused c.refusal) o) (same-behind cs xs ys e)
+same-behind (c ∷ cs) xs ys e = ap (λ (o : Outcome). cond c.fails (Err c.refusal) o) (same-behind cs xs ys e)
 
 proof_exact : (d : Dimensions) (tables : Tables) (text : List ℕ) → outcome (proof_checks d tables text) ≡ outcome (proof_judged d tables text)
 proof_exact d tables text =
@@ -65,8 +61,8 @@ proof_exact d tables text =
     (go (proof_of d.n text))
   where
     go : (p : Option (List ProofLine)) → outcome (proof_text_checks (rows_of d tables) p) ≡ outcome (lines_judged (rows_of d tables) p)
-    go none = refl
-    go (some ls) = refl
+    go None = refl
+    go (Some ls) = refl
 
 proof_named : (n : ℕ) (text : List ℕ) → proof_of n text ≡ proof_of n (named_text text)
 unfolding proof_of
@@ -98,26 +94,21 @@ of_check_proof =
 
 -- ---- a game
 
--- what a text is read as, as an outcome
-abbrev game_outcome : GameText → Outcome
-game_outcome (game' rows turns) = Taken
-game_outcome (no_game r) = Refused r
-
 game_number : (g : GameText) → game_code (game_answer g) ≡ code_of (game_outcome g)
 game_number (game' rows turns) = refl
 game_number (no_game r) = refl
 
-game_left : (g : GameText) (answer : List ℕ) (r : Refusal) → game_outcome g ≡ Refused r → numbers_or (game_numbers (game_answer g)) answer ∷ [] ≡ answer ∷ []
+game_left : (g : GameText) (answer : List ℕ) (r : Refusal) → game_outcome g ≡ Err r → numbers_or (game_numbers (game_answer g)) answer ∷ [] ≡ answer ∷ []
 game_left (game' rows turns) answer r e = absurd (refused-taken (sym e))
 game_left (no_game q) answer r e = refl
 
 -- the checks after the first
-abbrev by_head : HeaderNumbers → GameText → Outcome
+abbrev by_head : Result (ℕ × ℕ) Refusal → GameText → Outcome
 by_head z g =
     outcome (check (eqb (header_number z) 1) Variables ∷ check (eqb (header_number z) 2) RowCount ∷ check (has_too_many z) GameVariables
     ∷ check (eqb (game_code (game_answer g)) 5) Text ∷ check (not (eqb (game_code (game_answer g)) 0)) LineVariables ∷ [])
 
-head_decides : (z : HeaderNumbers) → Fair z → (text : List ℕ) (end : ℕ) → by_head z (game_behind text end z) ≡ game_outcome (game_behind text end z)
+head_decides : (z : Result (ℕ × ℕ) Refusal) → Fair z → (text : List ℕ) (end : ℕ) → by_head z (game_behind text end z) ≡ game_outcome (game_behind text end z)
 head_decides z of_variables text end = refl
 head_decides z of_rows text end = refl
 head_decides z of_text text end = refl
@@ -131,11 +122,11 @@ head_decides z (sized n m) text end =
     last false b rows turns = refl
 
     go : (b : Bool) (bs : Option (List Bound)) (reading : Reading) → let g = cond b (no_game GameVariables) (game_on n m bs reading) in
-        cond b (Refused GameVariables)
+        cond b (Err GameVariables)
         (outcome (check (eqb (game_code (game_answer g)) 5) Text ∷ check (not (eqb (game_code (game_answer g)) 0)) LineVariables ∷ [])) ≡ game_outcome g
     go true bs reading = refl
-    go false none reading = refl
-    go false (some bs) reading = last (complete reading && eqb (length (clause_rows reading)) m) (proper n bs) (clause_rows reading) (game_turns n bs)
+    go false None reading = refl
+    go false (Some bs) reading = last (complete reading && eqb (length (clause_rows reading)) m) (proper n bs) (clause_rows reading) (game_turns n bs)
 
 game_exact : (text : List ℕ) → game_outcome (game_text text) ≡ outcome (game_judged text)
 unfolding game_text
@@ -190,8 +181,8 @@ drop-cut (suc k) [] = refl
 drop-cut (suc k) (x ∷ xs) = drop-cut k xs
 
 -- what a field leads to, by how many bytes there are up to its rest
-abbrev by_length : (List ℕ → ℕ) → Field → Budget
-by_length size f = on_field f (budget.Refused NumberLine) (λ v rest. cond (leb (size rest) 100) (budget.Of v) (budget.Refused NumberLine))
+abbrev by_length : (List ℕ → ℕ) → Field → Result ℕ Refusal
+by_length size f = on_field f (Err NumberLine) (λ v rest. cond (leb (size rest) 100) (Ok v) (Err NumberLine))
 
 closed-cut : (size size' : List ℕ → ℕ) (ds rest : List ℕ) → ((b : ℕ) (r : List ℕ) → rest ≡ b ∷ r → size r ≡ size' [])
     → by_length size (closed_field 10 ds rest) ≡ by_length size' (closed_field 10 ds (take 1 rest))
@@ -200,12 +191,12 @@ closed-cut size size' (d ∷ ds) [] h = refl
 closed-cut size size' (d ∷ ds) (b ∷ r) h = go (eqb b 10) (digits_after 0 (d ∷ ds))
   where
     on_bound : (c : Bool) (v : ℕ) → by_length size (cond c (field v r) no_field) ≡ by_length size' (cond c (field v []) no_field)
-    on_bound true v = ap (λ (j : ℕ). cond (leb j 100) (budget.Of v) (budget.Refused NumberLine)) (h b r refl)
+    on_bound true v = ap (λ (j : ℕ). cond (leb j 100) (Ok v) (Err NumberLine)) (h b r refl)
     on_bound false v = refl
 
     go : (c : Bool) (o : Option ℕ) → by_length size (cond c (bounded o r) no_field) ≡ by_length size' (cond c (bounded o []) no_field)
-    go true none = refl
-    go true (some v) = on_bound (ltb v (2 ^ 64)) v
+    go true None = refl
+    go true (Some v) = on_bound (ltb v (2 ^ 64)) v
     go false o = refl
 
 -- the digits of a budget line and the byte after them are all that is read of it
@@ -221,15 +212,15 @@ budget_named line =
     ∙ ap (λ (j : ℕ). by_length (λ r. length cut - length r) (closed_field 10 (take j cut) (drop j cut))) (sym (run-cut is_digit line))
 
 -- a line is refused with 8 alone
-pub data Fair' : Budget → Type 0 where
-  budgeted : (v : ℕ) → Fair' (budget.Of v)
-  of_line : Fair' (budget.Refused NumberLine)
+pub data Fair' : Result ℕ Refusal → Type 0 where
+  budgeted : (v : ℕ) → Fair' (Ok v)
+  of_line : Fair' (Err NumberLine)
 
 -- every budget line is read or refused so
 pub budget_fair : (line : List ℕ) → Fair' (budget_of line)
 budget_fair line = go (field_of 10 line)
   where
-    short : (v : ℕ) (b : Bool) → Fair' (cond b (budget.Of v) (budget.Refused NumberLine))
+    short : (v : ℕ) (b : Bool) → Fair' (cond b (Ok v) (Err NumberLine))
     short v true = budgeted v
     short v false = of_line
 
@@ -237,7 +228,7 @@ budget_fair line = go (field_of 10 line)
     go no_field = of_line
     go (field v rest) = short v (leb (length line - length rest) 100)
 
-abbrev budget_call : List ℕ → Budget → Effect
+abbrev budget_call : List ℕ → Result ℕ Refusal → Effect
 budget_call lent b = record {
   returned = budget_code b;
   judged = check (not (eqb (budget_code b) 0)) NumberLine ∷ [];
@@ -245,7 +236,7 @@ budget_call lent b = record {
   left = numbers_or (budget_numbers b) lent ∷ [];
 }
 
-budget_judged : (lent : List ℕ) (b : Budget) → Fair' b → Judged (budget_call lent b)
+budget_judged : (lent : List ℕ) (b : Result ℕ Refusal) → Fair' b → Judged (budget_call lent b)
 budget_judged lent b (budgeted v) = record { numbered = refl; unchanged = λ r e. absurd (refused-taken (sym e)) }
 budget_judged lent b of_line = record { numbered = refl; unchanged = λ r e. refl }
 

@@ -7,10 +7,10 @@ use native.Mathlib.Omega.{arith}
 use lib.Dec.{ltb, eqb}
 use lib.ListN.{length, take, drop, take-append-drop, length-map}
 use borrow.Author.Tests.{not-false}
-use Rattle.refusals.specs.declared.Outcome.{Outcome}
-use Rattle.refusals.specs.declared.Outcome.TheVariants.{Taken}
+use Rattle.std.specs.Prelude.{Result, Ok, Err}
+use Rattle.refusals.specs.declared.Refusal.{Refusal}
 use Rattle.refusals.specs.declared.Refusal.TheVariants.{GateBuffer, Gates}
-use Rattle.refusals.specs.Numbers.{code_of}
+use Rattle.refusals.specs.Numbers.{Outcome, code_of}
 use Rattle.refusals.specs.Checks.{check, outcome, given}
 use Rattle.refusals.proofs.Outcomes.{outcome_parts, check_passed}
 use Rattle.words.specs.Booleans.{digit}
@@ -32,8 +32,6 @@ use Rattle.wires.specs.Packing.{input_bits, pack_checks, packed}
 use Rattle.wires.proofs.Lengths.{input_length}
 use Rattle.two_pass.specs.Evaluation.{evaluation_checks, filled_wires}
 use Rattle.netlist.specs.Netlist.{gates_for, gates_on}
-use Rattle.generator.specs.declared.Generated.{Generated}
-use Rattle.generator.specs.declared.Generated.TheVariants as generated'
 use Rattle.generator.specs.Generation.{generator_checks, generated_code, generated_numbers, written_words}
 use Rattle.stored.specs.Words.{run_in}
 use Rattle.lent.specs.Lent.{numbers_or}
@@ -52,11 +50,11 @@ module _ (d : Dimensions) (gates : List ℕ) where
   generator_checked = rw (← front-short (3 * ceiling d) gates)
 
   -- the circuit's words are no more than three for each gate of the ceiling
-  pub circuit_fits : outcome (size_checks d) ≡ Taken → length (words_of (gates_on d)) ≤ 3 * ceiling d
+  pub circuit_fits : outcome (size_checks d) ≡ Ok tt → length (words_of (gates_on d)) ≤ 3 * ceiling d
   unfolding gates_for
   circuit_fits h = let few : length (gates_on d) ≤ ceiling d = gates_few d (within d h) in omega (arith, words-length (gates_on d))
 
-  pub generator_written : outcome (generator_checks d gates) ≡ Taken
+  pub generator_written : outcome (generator_checks d gates) ≡ Ok tt
       → written_words d gates ≡ written_words d (take (3 * ceiling d) gates) ++ drop (3 * ceiling d) gates
   generator_written h =
       front_kept _ _ _ _ h (ap outcome generator_checked)
@@ -70,7 +68,7 @@ of_generate =
     (by-sizes generate (λ a. a.0) (λ (d, gates, count) h i. (h i, gates, count)) (λ a. refl) (λ a. refl) (λ a. refl))
     (record {
       judged = λ (d, gates, count).
-          let g : Outcome → Generated = λ o. given o (generated'.Of (length (gates_on d))) generated'.Refused in
+          let g : Outcome → Result ℕ Refusal = λ o. given o (Ok (length (gates_on d))) Err in
           by-outcome (generator_checks d gates) (gates ∷ count ∷ []) (λ o. generated_code (g o))
           (λ o. given o (over (words_of (gates_on d)) gates) (λ r. gates) ∷ numbers_or (generated_numbers (g o)) count ∷ []) refl (λ r. refl) (λ r. refl);
       order = λ a. refl;
@@ -78,7 +76,7 @@ of_generate =
       split = λ (d, gates, count). ap (λ (l : List ℕ). l ∷ count ∷ []) (sym (take-append-drop (3 * ceiling d) gates));
       checked = λ (d, gates, count). ap outcome (generator_checked d gates);
       written = λ (d, gates, count) h. ap₂ (λ (l m : List ℕ). l ∷ m ∷ []) (generator_written d gates h)
-          (ap (λ (o : Outcome). numbers_or (generated_numbers (given o (generated'.Of (length (gates_on d))) generated'.Refused)) count)
+          (ap (λ (o : Outcome). numbers_or (generated_numbers (given o (Ok (length (gates_on d))) Err)) count)
           (ap outcome (generator_checked d gates)));
     })
 
@@ -127,7 +125,7 @@ module _ (gates inputs wires : List ℕ) where
   evaluate-checked : evaluation_checks gates inputs wires ≡ evaluation_checks gates inputs (take room wires)
   evaluate-checked = rw (← front-short room wires)
 
-  evaluate_written : outcome (evaluation_checks gates inputs wires) ≡ Taken
+  evaluate_written : outcome (evaluation_checks gates inputs wires) ≡ Ok tt
       → filled_wires gates inputs wires ≡ filled_wires gates inputs (take room wires) ++ drop room wires
   evaluate_written h =
       front_kept _ _ _ _ h (ap outcome evaluate-checked)

@@ -7,9 +7,11 @@ use native.Mathlib.Omega.{arith}
 use lib.Dec.{eqb, ltb, leb}
 use lib.ListN.{length, take, drop, take-append-drop}
 use borrow.Author.Tests.{leb-true, leb-false}
+use Rattle.std.specs.Prelude.{Result, Ok, Err}
+use Rattle.refusals.specs.declared.Refusal.{Refusal}
+use Rattle.excerpts.specs.declared.Place.{Place}
+use Rattle.refusals.specs.Numbers.{Outcome}
 use Rattle.refusals.specs.declared.Refusal.TheVariants.{Text, TextsDiffer, NoClause, LineBuffer}
-use Rattle.refusals.specs.declared.Outcome.{Outcome}
-use Rattle.refusals.specs.declared.Outcome.TheVariants.{Taken, Refused}
 use Rattle.refusals.specs.Checks.{Check, check, outcome, given}
 use Rattle.refusals.proofs.Outcomes.{check_passed, checks-taken}
 use Rattle.words.proofs.Truth.{on, or_l, or_r}
@@ -27,10 +29,7 @@ use Rattle.dimensions.specs.Sizes.{size_checks}
 use Rattle.tables.specs.Tables.{Tables}
 use Rattle.tables.specs.Acceptance.{all_below, table_checks}
 use Rattle.words.specs.declared.Row.{Row}
-use Rattle.dimacs.specs.declared.Table.{Table}
-use Rattle.dimacs.specs.Text.{table_of}
-use Rattle.excerpts.specs.declared.Placed.{Placed}
-use Rattle.excerpts.specs.declared.Placed.TheVariants as placed'
+use Rattle.dimacs.specs.Text.{TextTable, table_of}
 use Rattle.excerpts.specs.Excerpts.{outcome_checks, has_clause, text_checks, overlong, excerpt_checks, skip, clause_of, place_in, clause_place}
 use Rattle.excerpts.specs.Excerpts.{placed, placed_code, placed_numbers, bytes_at, clause_bytes}
 use Rattle.excerpts.proofs.Checks.{asked}
@@ -49,12 +48,12 @@ use Rattle.demand1.proofs.OneText.{read-exact, text_whole, text_named, table-nam
 -- ---- the checks
 
 -- what reading a text is refused with
-outcome-checks : (t : Table) → outcome (outcome_checks t) ≡ t.outcome
+outcome-checks : (t : TextTable) → outcome (outcome_checks t) ≡ t.outcome
 outcome-checks t = go t.outcome
   where
     go : (o : Outcome) → outcome (given o [] (λ r. check true r ∷ [])) ≡ o
-    go Taken = refl
-    go (Refused r) = refl
+    go (Ok _) = refl
+    go (Err r) = refl
 
 module _ (d : Dimensions) (tables : Tables) (text_of_left text_of_right : List ℕ) (row : ℕ) where
   abbrev last : List Check
@@ -80,7 +79,7 @@ module _ (d : Dimensions) (tables : Tables) (text_of_left text_of_right : List �
   clause_exact =
       on (overlong text_of_left || overlong text_of_right)
       (λ e. rw e)
-      (λ e. ap (λ (o : Outcome). cond (overlong text_of_left || overlong text_of_right) (Refused Text) o)
+      (λ e. ap (λ (o : Outcome). cond (overlong text_of_left || overlong text_of_right) (Err Text) o)
       (outcome-then (table_checks d tables) (text_checks d (table_of 1 text_of_left) (table_of 1 text_of_right) row) (outcome (table_checks d tables)) _ refl
       (texts-exact e)
       ∙ sym (outcome_append (table_checks d tables) (read_judged 1 text_of_left ++ (read_judged 1 text_of_right ++ last)))))
@@ -101,7 +100,7 @@ module _ (d : Dimensions) (tables : Tables) (text_of_left text_of_right : List �
 
   -- ---- the place
 
-  module _ (h : outcome (excerpt_checks d tables text_of_left text_of_right row) ≡ Taken) where
+  module _ (h : outcome (excerpt_checks d tables text_of_left text_of_right row) ≡ Ok tt) where
     texts_fit : overlong text_of_left || overlong text_of_right ≡ false
     texts_fit = check_passed (overlong text_of_left || overlong text_of_right) Text _ h
 
@@ -135,8 +134,8 @@ module _ (d : Dimensions) (tables : Tables) (text_of_left text_of_right : List �
   placed-cut : placed d tables text_of_left text_of_right row ≡ placed d (named_tables d tables) (named_text text_of_left) (named_text text_of_right) row
   unfolding placed
   placed-cut =
-      given-same (outcome (excerpt_checks d tables text_of_left text_of_right row)) _ _ _ placed'.Refused (ap outcome excerpt-checked)
-      (λ h. ap placed'.Of (place-cut h))
+      given-same (outcome (excerpt_checks d tables text_of_left text_of_right row)) _ _ _ Err (ap outcome excerpt-checked)
+      (λ h. ap Ok (place-cut h))
 
   part_cut : clause_bytes d tables text_of_left text_of_right row
       ≡ clause_bytes d (named_tables d tables) (named_text text_of_left) (named_text text_of_right) row
@@ -152,9 +151,9 @@ first (d, tables, text_of_left, text_of_right, row) = check (overlong text_of_le
 
 first_alike : (c : ClauseAsked) → outcome (first (clause_in_bytes c)) ≡ outcome (first c)
 first_alike (d, tables, text_of_left, text_of_right, row) =
-    ap (λ (o : Outcome). cond (overlong text_of_left || overlong text_of_right) (Refused Text) o) (sizes-alike d.n d.left d.right d.public)
+    ap (λ (o : Outcome). cond (overlong text_of_left || overlong text_of_right) (Err Text) o) (sizes-alike d.n d.left d.right d.public)
 
-first-same : (c : ClauseAsked) → outcome (first c) ≡ Taken → clause_in_bytes c ≡ c
+first-same : (c : ClauseAsked) → outcome (first c) ≡ Ok tt → clause_in_bytes c ≡ c
 first-same (d, tables, text_of_left, text_of_right, row) h =
     let sized = checks-taken (overlong text_of_left || overlong text_of_right) Text (outcome (size_checks d)) h in
     λ i. (sizes-same d.n d.left d.right d.public sized i, tables, text_of_left, text_of_right, row)
@@ -173,7 +172,7 @@ of_clause =
     demand place_clause (leading place_clause (λ (c, place). first c) (λ a. drop 3 (place_clause.call a).judged)
     (λ (c, place). first_alike c) (λ (c, place) h i. (first-same c h i, place)) (λ a. refl) (λ a. refl)) (record {
       judged = λ ((d, tables, text_of_left, text_of_right, row), place).
-          let p : Outcome → Placed = λ o. given o (placed'.Of (clause_place d tables text_of_left text_of_right row)) placed'.Refused in
+          let p : Outcome → Result Place Refusal = λ o. given o (Ok (clause_place d tables text_of_left text_of_right row)) Err in
           rejudged (clause_judged d tables text_of_left text_of_right row) (clause_exact d tables text_of_left text_of_right row)
           (by-outcome (excerpt_checks d tables text_of_left text_of_right row) (place ∷ []) (λ o. placed_code (p o))
           (λ o. numbers_or (placed_numbers (p o)) place ∷ [])
@@ -185,7 +184,7 @@ of_clause =
           sym (clause_exact d tables text_of_left text_of_right row) ∙ ap outcome (excerpt-checked d tables text_of_left text_of_right row)
           ∙ clause_exact d (named_tables d tables) (named_text text_of_left) (named_text text_of_right) row;
       written = λ ((d, tables, text_of_left, text_of_right, row), place) h.
-          ap (λ (p : Placed). numbers_or (placed_numbers p) place ∷ []) (placed-cut d tables text_of_left text_of_right row);
+          ap (λ (p : Result Place Refusal). numbers_or (placed_numbers p) place ∷ []) (placed-cut d tables text_of_left text_of_right row);
     })
 
 -- ---- the bytes
@@ -198,7 +197,7 @@ module _ (d : Dimensions) (tables : Tables) (text_of_left text_of_right : List �
       ≡ outcome (clause_judged d tables text_of_left text_of_right row ++ check (ltb (length bytes) (length part)) LineBuffer ∷ [])
   excerpt-exact =
       outcome_append (excerpt_checks d tables text_of_left text_of_right row) (room_checks part bytes)
-      ∙ ap (λ (o : Outcome). given o (outcome (room_checks part bytes)) Refused) (clause_exact d tables text_of_left text_of_right row)
+      ∙ ap (λ (o : Outcome). given o (outcome (room_checks part bytes)) Err) (clause_exact d tables text_of_left text_of_right row)
       ∙ sym (outcome_append (clause_judged d tables text_of_left text_of_right row) (room_checks part bytes))
 
   abbrev cut_bytes : List ℕ

@@ -7,7 +7,7 @@ use native.Mathlib.Omega.{arith}
 use lib.Dec.{ltb}
 use lib.ListN.{length, get_or, take, drop, take-append-drop}
 use lib.Seq.{sets, take-take, get_or-take}
-use Rattle.refusals.specs.declared.Outcome.TheVariants.{Taken}
+use Rattle.std.specs.Prelude.{Ok}
 use Rattle.refusals.specs.Numbers.{code_of}
 use Rattle.refusals.specs.Checks.{check, outcome, given}
 use Rattle.refusals.specs.declared.Refusal.TheVariants.{PlaneBits}
@@ -40,7 +40,7 @@ module _ (n count : ℕ) (table planes : List ℕ) where
   unfolding planes_of
   planes_length = omega (arith, length_squares (take (2 * count) table) 0 (square_count count))
 
-  columns_written : outcome (column_checks n count table (length planes)) ≡ Taken
+  columns_written : outcome (column_checks n count table (length planes)) ≡ Ok tt
       → columns_after n count table planes ≡ columns_after n count (named_rows count table) (take (plane_words count) planes) ++ drop (plane_words count) planes
   unfolding columns_after
   columns_written h =
@@ -90,7 +90,7 @@ module _ (n count : ℕ) (planes table : List ℕ) where
       tabulate_cong (row_word planes) (row_word cut) 0 0 (2 * count)
       (λ q h. ap (λ (l : List ℕ). column l ((0 + q) % 64 / 2)) (plane_cut (0 + q) (omega arith)))
 
-  rows_written : outcome (row_checks n count planes (length table)) ≡ Taken
+  rows_written : outcome (row_checks n count planes (length table)) ≡ Ok tt
       → rows_after n count planes table ≡ rows_after n count cut (named_rows count table) ++ drop (2 * count) table
   unfolding rows_after table_from
   rows_written h =

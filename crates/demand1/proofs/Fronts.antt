@@ -8,13 +8,13 @@ use lib.Dec.{ltb}
 use lib.ListN.{length, take, drop, set, length-take, take-append-drop}
 use lib.Seq.{get_or-take, take-take, sets, take-set-lt, drop-set-lt}
 use borrow.Author.Tests.{ltb-true, ltb-false, lt-ltb, le-ltb}
+use Rattle.std.specs.Prelude.{Ok, Err}
+use Rattle.refusals.specs.Numbers.{Outcome}
 use Rattle.words.proofs.Truth.{on}
 use Rattle.words.specs.declared.Row.{Row}
 use Rattle.dimensions.specs.declared.Dimensions.{Dimensions}
 use Rattle.dimensions.specs.Sizes.{size_checks}
 use Rattle.refusals.specs.Checks.{check, given}
-use Rattle.refusals.specs.declared.Outcome.{Outcome}
-use Rattle.refusals.specs.declared.Outcome.TheVariants.{Taken, Refused}
 use Rattle.gates.specs.Memory.{over}
 use Rattle.refusals.specs.declared.Refusal.TheVariants.{RowBit, RowBuffer}
 use Rattle.tables.specs.Tables.{Tables}
@@ -66,7 +66,7 @@ pub sets-front : (values : List ℕ) (k : ℕ) (l : List ℕ) → length values 
 sets-front values k l h = sets-front-at values k 0 l (omega arith)
 
 -- a buffer that a taken call writes, the rest of it after the words named
-pub front_kept : {o q : Outcome} {x : List ℕ} (y r l m : List ℕ) → o ≡ Taken → o ≡ q → x ≡ y ++ r → given o x (λ z. l) ≡ given q y (λ z. m) ++ r
+pub front_kept : {o q : Outcome} {x : List ℕ} (y r l m : List ℕ) → o ≡ Ok tt → o ≡ q → x ≡ y ++ r → given o x (λ z. l) ≡ given q y (λ z. m) ++ r
 front_kept {o} {q} {x} y r l m h e w =
     ap (λ (z : Outcome). given z x (λ i. l)) h ∙ w ∙ ap (λ (z : Outcome). given z y (λ i. m) ++ r) (sym h ∙ e)
 
@@ -75,8 +75,8 @@ pub front_stays : {o q : Outcome} (x y r l m : List ℕ) → o ≡ q → x ≡ y
 front_stays {o} {q} x y r l m e w v = go o ∙ ap (λ (z : Outcome). given z y (λ i. m) ++ r) e
   where
     go : (z : Outcome) → given z x (λ i. l) ≡ given z y (λ i. m) ++ r
-    go Taken = w
-    go (Refused q) = v
+    go (Ok _) = w
+    go (Err q) = v
 
 -- ---- the tables
 

@@ -2,8 +2,9 @@
 use mathlib.Core.Path.{◌≡◌, refl, sym, ap₂}
 use mathlib.Core.List.{List, [], ◌∷◌, ◌++◌, map}
 use Prim.Native.Nat.{ℕ}
-use Rattle.refusals.specs.declared.Outcome.{Outcome}
-use Rattle.refusals.specs.Numbers.{code_of}
+use Rattle.std.specs.Prelude.{Result, Ok, Err}
+use Rattle.refusals.specs.declared.Refusal.{Refusal}
+use Rattle.refusals.specs.Numbers.{Outcome, code_of}
 use Rattle.refusals.specs.Checks.{Check, given}
 use mathlib.Core.Bool.{false}
 use Rattle.words.specs.Sets.{bit, any, all, word_of}
@@ -20,12 +21,9 @@ use Rattle.solver.specs.Step.{Ruling, always}
 use Rattle.solver.specs.Entries.{stepped_with, run_with, solved_with}
 use Rattle.occurrences.specs.Index.{at, index_of}
 use Rattle.tally.specs.Tallies.{count_rows, unsatisfied_rows}
-use Rattle.indexed.specs.declared.Counted.{Counted}
-use Rattle.indexed.specs.declared.Counted.TheVariants as counted'
-use Rattle.indexed.specs.declared.Continued.{Continued}
-use Rattle.indexed.specs.declared.SteppedIndexed.{SteppedIndexed}
 use Rattle.indexed.specs.Entries.{index_after, counted, counted_code, counted_numbers, indexed_checks, stepped_by, stepped_indexed}
-use Rattle.indexed.specs.Continuing.{continued_by, not_continued, continued_with, continued, continued_code, continued_numbers}
+use Rattle.indexed.specs.Entries.{SteppedIndexed}
+use Rattle.indexed.specs.Continuing.{Continued, continued_by, not_continued, continued_with, continued, continued_code, continued_numbers}
 use Rattle.weighted.specs.Weights.{weighted_rule}
 use Rattle.stored.specs.Words.{run_in}
 use Rattle.lent.specs.Lent.{numbers_or, stored_if}
@@ -54,7 +52,7 @@ of_unsatisfied =
     whole unsatisfied
     (by-sizes unsatisfied (λ a. a.0) (λ (d, tables, run, number) h i. (h i, tables, run, number)) (λ a. refl) (λ a. refl) (λ a. refl))
     (λ (d, tables, run, number).
-    let c : Outcome → Counted = λ o. given o (counted'.Of (unsatisfied_rows d.n (rows_of d tables) (run_in run).t (run_in run).f)) counted'.Refused in
+    let c : Outcome → Result ℕ Refusal = λ o. given o (Ok (unsatisfied_rows d.n (rows_of d tables) (run_in run).t (run_in run).f)) Err in
     by-outcome (table_checks d tables ++ state_checks d (run_in run)) (number ∷ []) (λ o. counted_code (c o))
     (λ o. numbers_or (counted_numbers (c o)) number ∷ [])
     refl (λ r. refl) (λ r. refl))

@@ -7,9 +7,8 @@ use native.Mathlib.Omega.{arith}
 use lib.Dec.{leb}
 use lib.ListN.{take, drop, set, take-append-drop}
 use lib.Seq.{take-set-lt, drop-set-lt}
-use Rattle.refusals.specs.declared.Outcome.{Outcome}
-use Rattle.refusals.specs.declared.Outcome.TheVariants.{Taken}
-use Rattle.refusals.specs.Numbers.{code_of}
+use Rattle.std.specs.Prelude.{Ok}
+use Rattle.refusals.specs.Numbers.{Outcome, code_of}
 use Rattle.refusals.specs.Checks.{Check, outcome, given}
 use Rattle.refusals.proofs.Outcomes.{outcome_parts}
 use Rattle.words.proofs.Truth.{on}
@@ -24,13 +23,11 @@ use Rattle.tables.specs.Acceptance.{all_below, table_checks}
 use Rattle.state.specs.declared.Run.{Run}
 use Rattle.state.specs.State.{state_of}
 use Rattle.state.specs.WellFormed.{well_formed, state_checks}
-use Rattle.solver.specs.declared.Stepped.{Stepped}
-use Rattle.solver.specs.Entries.{stepped}
+use Rattle.solver.specs.Entries.{Stepped, stepped}
 use Rattle.scan.specs.Rules.{rule}
-use Rattle.explained.specs.declared.Explained.{Explained}
 use Rattle.explained.specs.declared.Told.TheVariants.{Nothing}
 use Rattle.explained.specs.Explanation as Explanation
-use Rattle.explained.specs.Explanation.{explained, told_numbers}
+use Rattle.explained.specs.Explanation.{Explained, explained, told_numbers}
 use Rattle.occurrences.specs.Index.{at, index_of}
 use Rattle.tally.specs.Tallies.{count_rows, unsatisfied_rows}
 use Rattle.indexed.specs.Entries.{indexed_checks}
@@ -105,7 +102,7 @@ module _ (d : Dimensions) (tables : Tables) (run : Run) (c : Condition) where
   late-checked : late_checks d tables run c ≡ late_checks d (named_tables d tables) run c
   late-checked = rw (← named-short d tables, ← named-high d tables, ← named-rows d tables)
 
-  late_written : outcome (late_checks d tables run c) ≡ Taken
+  late_written : outcome (late_checks d tables run c) ≡ Ok tt
       → stations (tables_after d tables run c) ≡ beside (stations (tables_after d (named_tables d tables) run c)) (past_rows d tables)
   late_written h =
       ap stations (after-taken d tables run c h)
@@ -142,7 +139,7 @@ module _ (d : Dimensions) (tables : Tables) (index : List ℕ) (run : Run) (numb
       ++ given o (index_of (rows_of d (replaced_in d t c))) (λ r. index)
       ∷ (given o (unsatisfied_rows d.n (rows_of d (replaced_in d t c)) run.t run.f) (λ r. number) ∷ []) ∷ []
 
-  replace_written : outcome (replace_checks d tables index run number c) ≡ Taken
+  replace_written : outcome (replace_checks d tables index run number c) ≡ Ok tt
       → replaced_by tables (outcome (replace_checks d tables index run number c))
       ≡ beside (replaced_by (named_tables d tables) (outcome (replace_checks d (named_tables d tables) index run number c))) (past_rows d tables)
   unfolding beside

@@ -9,10 +9,10 @@ use lib.Dec.{eqb}
 use lib.ListN.{length, length-take, length-replicate}
 use lib.Seq.{take_all}
 use borrow.Author.Tests.{ltb-true, ltb-false, lt-ltb}
+use Rattle.std.specs.Prelude.{Result, Ok, Err}
+use Rattle.refusals.specs.declared.Refusal.{Refusal}
+use Rattle.refusals.specs.Numbers.{Outcome}
 use Rattle.refusals.specs.declared.Refusal.TheVariants.{Variables, RowCount, Text}
-use Rattle.refusals.specs.declared.Outcome.{Outcome}
-use Rattle.refusals.specs.declared.Outcome.TheVariants as outcomes
-use Rattle.refusals.specs.declared.Outcome.TheVariants.{Taken}
 use Rattle.refusals.specs.Checks.{check, outcome, given}
 use Rattle.words.proofs.Truth.{on}
 use Rattle.words.specs.Sameness.{same}
@@ -22,8 +22,6 @@ use Rattle.lexer.specs.Remarks.{without_remarks}
 use Rattle.lexer.specs.Pieces.{Piece, lines_from, parts_from, tokens_from}
 use Rattle.numbers.specs.Numbers.{Number, number, malformed, number_read}
 use Rattle.dimensions.specs.Sizes.{most_variables, most_rows}
-use Rattle.header.specs.declared.HeaderNumbers.{HeaderNumbers}
-use Rattle.header.specs.declared.HeaderNumbers.TheVariants.{Of, Refused}
 use Rattle.header.specs.Header.{past_remarks, beyond, judged_sizes, two_numbers, header_parts, headed, header_of}
 use Rattle.clauses.specs.Clauses.{clauses, complete, clause_rows}
 use Rattle.dimacs.specs.Text.{refused, accepted_table, from_header, table_of}
@@ -32,13 +30,13 @@ use Rattle.demand1.specs.Texts.{named_text, overlong_text, header_number, head_o
 
 -- ---- a header meets 1, 2 or 5
 
-pub data Fair : HeaderNumbers → Type 0 where
-  sized : (n m : ℕ) → Fair (Of n m)
-  of_variables : Fair (Refused Variables)
-  of_rows : Fair (Refused RowCount)
-  of_text : Fair (Refused Text)
+pub data Fair : Result (ℕ × ℕ) Refusal → Type 0 where
+  sized : (n m : ℕ) → Fair (Ok (n, m))
+  of_variables : Fair (Err Variables)
+  of_rows : Fair (Err RowCount)
+  of_text : Fair (Err Text)
 
-limits_fair : (a b : Bool) (n m : ℕ) → Fair (given (outcome (check a Variables ∷ check b RowCount ∷ [])) (Of n m) Refused)
+limits_fair : (a b : Bool) (n m : ℕ) → Fair (given (outcome (check a Variables ∷ check b RowCount ∷ [])) (Ok (n, m)) Err)
 limits_fair true b n m = of_variables
 limits_fair false true n m = of_rows
 limits_fair false false n m = sized n m
@@ -59,7 +57,7 @@ parts_fair least [] = of_text
 parts_fair least (p ∷ []) = of_text
 parts_fair least (p ∷ (f ∷ ps)) = go (eqb p.at 0 && same p.bytes (bytes "p") && same f.bytes (bytes "cnf"))
   where
-    go : (b : Bool) → Fair (cond b (two_numbers least ps) (Refused Text))
+    go : (b : Bool) → Fair (cond b (two_numbers least ps) (Err Text))
     go true = numbers_fair least ps
     go false = of_text
 
@@ -75,17 +73,17 @@ head_fair least text = headed_fair least (without_remarks text) (past_remarks (l
 -- ---- the checks come to what reading gives
 
 -- the header's checks and one more, by what reading gives
-abbrev by_head : HeaderNumbers → Outcome → Outcome
+abbrev by_head : Result (ℕ × ℕ) Refusal → Outcome → Outcome
 by_head z o = outcome (check (eqb (header_number z) 1) Variables ∷ check (eqb (header_number z) 2) RowCount ∷ check (not (is_taken o)) Text ∷ [])
 
-head_decides : (z : HeaderNumbers) → Fair z → (text : List ℕ) (end : ℕ) → by_head z (from_header text end z).outcome ≡ (from_header text end z).outcome
+head_decides : (z : Result (ℕ × ℕ) Refusal) → Fair z → (text : List ℕ) (end : ℕ) → by_head z (from_header text end z).outcome ≡ (from_header text end z).outcome
 head_decides z of_variables text end = refl
 head_decides z of_rows text end = refl
 head_decides z of_text text end = refl
 head_decides z (sized n m) text end = let reading = clauses n (tokens_from text end) in go (complete reading && eqb (length (clause_rows reading)) m)
   where
     go : (b : Bool) → let o = (cond b (accepted_table n (clause_rows (clauses n (tokens_from text end)))) (refused Text)).outcome in
-        cond (not (is_taken o)) (outcomes.Refused Text) Taken ≡ o
+        cond (not (is_taken o)) (Err Text) (Ok tt) ≡ o
     go true = refl
     go false = refl
 

@@ -7,9 +7,9 @@ use native.Mathlib.Omega.{arith}
 use lib.Dec.{ltb}
 use lib.ListN.{length, take, drop, take-append-drop}
 use lib.Seq.{sets, take-take}
-use Rattle.refusals.specs.declared.Outcome.{Outcome}
-use Rattle.refusals.specs.declared.Outcome.TheVariants.{Taken, Refused}
-use Rattle.refusals.specs.Numbers.{code_of}
+use Rattle.std.specs.Prelude.{Option, Some, None, Result, Ok, Err}
+use Rattle.refusals.specs.declared.Refusal.{Refusal}
+use Rattle.refusals.specs.Numbers.{Outcome, code_of}
 use Rattle.refusals.specs.Checks.{outcome, given}
 use Rattle.refusals.proofs.Outcomes.{outcome_parts}
 use Rattle.words.proofs.Truth.{on}
@@ -18,8 +18,6 @@ use Rattle.dimensions.specs.declared.Dimensions.{Dimensions}
 use Rattle.dimensions.specs.Sizes.{outside}
 use Rattle.state.specs.declared.Run.{Run}
 use Rattle.state.specs.WellFormed.{well_formed}
-use Rattle.verdicts.specs.declared.Modelled.{Modelled}
-use Rattle.verdicts.specs.declared.Modelled.TheVariants as modelled
 use Rattle.verdicts.specs.Verdicts.{model_checks, model_code, model_numbers}
 use Rattle.page.specs.Page.{page_of}
 use Rattle.page.specs.Reading.{marked, is_page}
@@ -30,10 +28,6 @@ use Rattle.page.proofs.Answering.{shown, read_variables, read_shape, read_form, 
 use Rattle.page.proofs.RoundTrip.{page-read, read-page}
 use Rattle.gates.specs.Memory.{gates_of, accepted, over}
 use Rattle.bristol.specs.Text.{circuit_lines}
-use Rattle.bristol.specs.declared.WrittenLine.{WrittenLine}
-use Rattle.bristol.specs.declared.WrittenLine.TheVariants as written
-use Rattle.bristol.specs.declared.WrittenLines.{WrittenLines}
-use Rattle.bristol.specs.declared.WrittenLines.TheVariants as lines
 use Rattle.bristol.specs.Writing.{line_at, line_checks, line_code, line_numbers, filled_line, lines_written_from, lines_code, lines_numbers}
 use Rattle.text.specs.Decimal.{decimal}
 use Rattle.codes.specs.Codes.{variable_checks}
@@ -54,7 +48,7 @@ module _ (run : Run) (p s : ℕ) (lent : List ℕ) where
   page-checked : page_checks run p s (length lent) ≡ page_checks run p s (length (take (80 * p) lent))
   page-checked = rw (← front-short (80 * p) lent)
 
-  page_written : outcome (page_checks run p s (length lent)) ≡ Taken
+  page_written : outcome (page_checks run p s (length lent)) ≡ Ok tt
       → page_after run p s lent ≡ page_after run p s (take (80 * p) lent) ++ drop (80 * p) lent
   unfolding page_after
   page_written h =
@@ -81,22 +75,22 @@ of_page =
 -- ---- a page read
 
 -- what reading says, as an outcome
-abbrev read_outcome : Modelled → Outcome
-read_outcome (modelled.Model m) = Taken
-read_outcome (modelled.Refused r) = Refused r
+abbrev read_outcome : Result ℕ Refusal → Outcome
+read_outcome (Ok m) = Ok tt
+read_outcome (Err r) = Err r
 
 read-outcome : (n p s : ℕ) (lent : List ℕ) → read_outcome (model_on n p s lent) ≡ outcome (read_page_checks n p s lent)
 unfolding model_on
 read-outcome n p s lent = go (outcome (read_page_checks n p s lent))
   where
-    go : (o : Outcome) → read_outcome (given o (modelled.Model (marked n s lent)) modelled.Refused) ≡ o
-    go Taken = refl
-    go (Refused r) = refl
+    go : (o : Outcome) → read_outcome (given o (Ok (marked n s lent)) Err) ≡ o
+    go (Ok _) = refl
+    go (Err r) = refl
 
 module _ (n p s : ℕ) (x y : List ℕ) (fronts : take (80 * p) x ≡ take (80 * p) y) (inside : outside 32 n ≡ false)
-    (shaped : outcome (shape_checks n p s (length y)) ≡ Taken) where
+    (shaped : outcome (shape_checks n p s (length y)) ≡ Ok tt) where
   -- a page that is read, and another with the same front
-  front-model : (m : ℕ) → model_on n p s x ≡ modelled.Model m → model_on n p s x ≡ model_on n p s y
+  front-model : (m : ℕ) → model_on n p s x ≡ Ok m → model_on n p s x ≡ model_on n p s y
   front-model m e = let r = read-page n p s m x e in e ∙ sym (page-read n p s m y inside shaped r.1 (sym fronts ∙ r.0))
 
 module _ (n p s : ℕ) (lent : List ℕ) where
@@ -113,8 +107,8 @@ module _ (n p s : ℕ) (lent : List ℕ) where
       (λ e. go e (outcome (shape_checks n p s (length lent))) refl)
     where
       go : outside 32 n ≡ false → (o : Outcome) → outcome (shape_checks n p s (length lent)) ≡ o → model_on n p s lent ≡ model_on n p s cut
-      go e (Refused q) h = sym (read_shape n p s lent e q h) ∙ read_shape n p s cut e q (ap outcome shape_cut ∙ h)
-      go e Taken h =
+      go e (Err q) h = sym (read_shape n p s lent e q h) ∙ read_shape n p s cut e q (ap outcome shape_cut ∙ h)
+      go e (Ok _) h =
           let k = ap outcome shape_cut ∙ h in
           let f : take (80 * p) lent ≡ take (80 * p) cut = sym (take-take (80 * p) (80 * p) lent (omega arith)) in
           on (is_page n p s lent)
@@ -128,14 +122,14 @@ unfolding model_on beside decimal bit word_of
 of_read-page =
     demand read_page (as_given read_page (λ a. refl)) (record {
       judged = λ (n, p, s, lent, model).
-          let m : Outcome → Modelled = λ o. given o (modelled.Model (marked n s lent)) modelled.Refused in
+          let m : Outcome → Result ℕ Refusal = λ o. given o (Ok (marked n s lent)) Err in
           by-outcome (read_page_checks n p s lent) (model ∷ []) (λ o. model_code (m o)) (λ o. numbers_or (model_numbers (m o)) model ∷ []) refl (λ r. refl)
           (λ r. refl);
       order = λ a. refl;
       occurs = refl;
       split = λ a. refl;
       checked = λ (n, p, s, lent, model). sym (read-outcome n p s lent) ∙ ap read_outcome (model-cut n p s lent) ∙ read-outcome n p s (take (80 * p) lent);
-      written = λ (n, p, s, lent, model) h. ap (λ (m : Modelled). numbers_or (model_numbers m) model ∷ []) (model-cut n p s lent);
+      written = λ (n, p, s, lent, model) h. ap (λ (m : Result ℕ Refusal). numbers_or (model_numbers m) model ∷ []) (model-cut n p s lent);
     })
 
 -- ---- lines
@@ -147,17 +141,17 @@ module _ (d : Dimensions) (gates : List ℕ) (line : ℕ) (bytes : List ℕ) whe
   line-checked : line_checks d gates line bytes ≡ line_checks d gates line (take size bytes)
   line-checked = rw (← front-short size bytes)
 
-  line_written : outcome (line_checks d gates line bytes) ≡ Taken
+  line_written : outcome (line_checks d gates line bytes) ≡ Ok tt
       → filled_line d gates line bytes ≡ filled_line d gates line (take size bytes) ++ drop size bytes
   line_written h = front_kept _ _ _ _ h (ap outcome line-checked) (over-front (line_at d gates line) size bytes (omega arith))
 
-  abbrev line_by : Outcome → WrittenLine
-  line_by o = given o (cond (ltb line (length (circuit_lines d (gates_of gates)))) (written.Line size) written.Past) written.Refused
+  abbrev line_by : Outcome → Result (Option ℕ) Refusal
+  line_by o = given o (cond (ltb line (length (circuit_lines d (gates_of gates)))) (Ok (Some size)) (Ok None)) Err
 
-  line_taken : line_code (line_by Taken) ≡ 0
+  line_taken : line_code (line_by (Ok tt)) ≡ 0
   line_taken = go (ltb line (length (circuit_lines d (gates_of gates))))
     where
-      go : (b : Bool) → line_code (cond b (written.Line size) written.Past) ≡ 0
+      go : (b : Bool) → line_code (cond b (Ok (Some size)) (Ok None)) ≡ 0
       go true = refl
       go false = refl
 
@@ -186,7 +180,7 @@ of_write_lines =
     (by-sizes write_lines (λ a. a.0) (λ (d, gates, line, bytes, written) h i. (h i, gates, line, bytes, written)) (λ a. refl) (λ a. refl) (λ a. refl))
     (λ (d, gates, line, bytes, number).
     let l = lines_written_from d gates line bytes in
-    let w : Outcome → WrittenLines = λ o. given o (lines.Lines (length l) (length (flatten l))) lines.Refused in
+    let w : Outcome → Result (ℕ × ℕ) Refusal = λ o. given o (Ok ((length l), (length (flatten l)))) Err in
     by-outcome (line_checks d gates line bytes) (bytes ∷ number ∷ []) (λ o. lines_code (w o))
     (λ o. given o (over (flatten l) bytes) (λ r. bytes) ∷ numbers_or (lines_numbers (w o)) number ∷ []) refl (λ r. refl) (λ r. refl))
     (λ a. refl) refl (λ a. refl) (λ a. refl)

@@ -4,10 +4,10 @@ use mathlib.Core.Bool.{Bool, true, false, not, cond}
 use mathlib.Core.List.{List, [], ◌∷◌, ◌++◌, map}
 use Prim.Native.Nat.{ℕ}
 use lib.Dec.{eqb}
+use Rattle.std.specs.Prelude.{Result, Ok, Err}
+use Rattle.refusals.specs.Numbers.{Outcome}
 use Rattle.refusals.specs.declared.Refusal.{Refusal}
 use Rattle.refusals.specs.declared.Refusal.TheVariants.{NumberLine, TextsDiffer}
-use Rattle.refusals.specs.declared.Outcome.{Outcome}
-use Rattle.refusals.specs.declared.Outcome.TheVariants.{Taken, Refused}
 use Rattle.refusals.specs.Checks.{Check, check, outcome, given}
 use Rattle.words.specs.Sets.{put}
 use Rattle.words.specs.Sameness.{same}
@@ -19,18 +19,12 @@ use Rattle.header.specs.Header.{past_remarks, header_of}
 use Rattle.clauses.specs.Clauses.{clauses}
 use Rattle.tables.specs.Rows.{rows_of}
 use Rattle.tables.specs.Acceptance.{table_checks}
-use Rattle.dimacs.specs.declared.Table.{Table}
-use Rattle.dimacs.specs.declared.TextTables.{TextTables}
-use Rattle.dimacs.specs.Text.{table_of}
-use Rattle.dimacs.specs.ThreeTexts.{refused_texts, accepted_texts, texts_outcome, together, text_tables}
+use Rattle.dimacs.specs.Text.{TextTable, table_of}
+use Rattle.dimacs.specs.ThreeTexts.{ThreeTables, refused_texts, accepted_texts, texts_outcome, together, text_tables}
 use Rattle.solver.specs.declared.Answer.{Answer}
-use Rattle.solver.specs.declared.Solved.TheVariants as solved'
 use Rattle.solver.specs.Step.{always}
 use Rattle.solver.specs.Entries.{answer_of}
 use Rattle.solver.proofs.Entries.{solve-taken}
-use Rattle.lines.specs.declared.Budget.{Budget}
-use Rattle.lines.specs.declared.DimensionLine.{DimensionLine}
-use Rattle.lines.specs.declared.DimensionLine.TheVariants as dimension
 use Rattle.lines.specs.Numbers.{Field, field, no_field, field_of, on_field, short_line, budget_of, budget_code, dimension_line_of}
 use Rattle.answers.specs.Printed.{answer_text, refusal_text, solved_text}
 use Rattle.reply.specs.Reply.{dimensions_of, tables_in, answered, reply_text}
@@ -57,22 +51,22 @@ printed_by refusal [] answer = refl
 printed_by refusal (c ∷ cs) answer = go c.fails (outcome cs) (first_printed refusal cs answer) (printed_by refusal cs answer)
   where
     go : (b : Bool) (o : Outcome) (rest : List ℕ) → given o answer refusal ≡ rest
-        → given (cond b (Refused c.refusal) o) answer refusal ≡ cond b (refusal c.refusal) rest
+        → given (cond b (Err c.refusal) o) answer refusal ≡ cond b (refusal c.refusal) rest
     go true o rest e = refl
     go false o rest e = e
 
 -- ---- three texts
 
 module _ (left right public : List ℕ) where
-  abbrev read : TextTables
+  abbrev read : ThreeTables
   read = text_tables left right public
 
-  together-outcome : (l r p : Table) → (together l r p).outcome ≡ texts_outcome l r p
+  together-outcome : (l r p : TextTable) → (together l r p).outcome ≡ texts_outcome l r p
   together-outcome l r p = go (texts_outcome l r p)
     where
       go : (o : Outcome) → (given o (accepted_texts l r p) refused_texts).outcome ≡ o
-      go Taken = refl
-      go (Refused r) = refl
+      go (Ok _) = refl
+      go (Err r) = refl
 
   -- the three texts' checks come to what reading them gives
   three-exact : outcome (three_judged left right public) ≡ read.outcome
@@ -86,22 +80,22 @@ module _ (left right public : List ℕ) where
   -- and the bytes named are read alike
   texts-named : read ≡ text_tables (named_text left) (named_text right) (named_text public)
   texts-named =
-      ap₂ (λ (l r : Table). together l r (table_of 0 public)) (table-named 1 left) (table-named 1 right)
-      ∙ ap (λ (p : Table). together (table_of 1 (named_text left)) (table_of 1 (named_text right)) p) (table-named 0 public)
+      ap₂ (λ (l r : TextTable). together l r (table_of 0 public)) (table-named 1 left) (table-named 1 right)
+      ∙ ap (λ (p : TextTable). together (table_of 1 (named_text left)) (table_of 1 (named_text right)) p) (table-named 0 public)
 
 -- ---- the pair program
 
-module _ (t : TextTables) (readable : t.outcome ≡ Taken → outcome (table_checks (dimensions_of t) (tables_in t)) ≡ Taken) where
-  abbrev answer_for : Budget → List ℕ
+module _ (t : ThreeTables) (readable : t.outcome ≡ Ok tt → outcome (table_checks (dimensions_of t) (tables_in t)) ≡ Ok tt) where
+  abbrev answer_for : Result ℕ Refusal → List ℕ
   answer_for b = answer_text t.n (answer_of t.n (always (rows_of (dimensions_of t) (tables_in t))) (steps_in b))
 
-  pair-by : (b : Budget) → Fair' b → (o : Outcome) → t.outcome ≡ o
-      → solved_text t.n (given t.outcome (answered t b) solved'.Refused)
-      ≡ given (given o (outcome (check (not (eqb (budget_code b) 0)) NumberLine ∷ [])) Refused) (answer_for b) refusal_text
-  pair-by b f (Refused r) e = ap (λ (o : Outcome). solved_text t.n (given o (answered t b) solved'.Refused)) e
-  pair-by b of_line Taken e = ap (λ (o : Outcome). solved_text t.n (given o (answered t b) solved'.Refused)) e
-  pair-by b (budgeted steps) Taken e =
-      ap (λ (o : Outcome). solved_text t.n (given o (answered t b) solved'.Refused)) e
+  pair-by : (b : Result ℕ Refusal) → Fair' b → (o : Outcome) → t.outcome ≡ o
+      → solved_text t.n (given t.outcome (answered t b) Err)
+      ≡ given (given o (outcome (check (not (eqb (budget_code b) 0)) NumberLine ∷ [])) Err) (answer_for b) refusal_text
+  pair-by b f (Err r) e = ap (λ (o : Outcome). solved_text t.n (given o (answered t b) Err)) e
+  pair-by b of_line (Ok _) e = ap (λ (o : Outcome). solved_text t.n (given o (answered t b) Err)) e
+  pair-by b (budgeted steps) (Ok _) e =
+      ap (λ (o : Outcome). solved_text t.n (given o (answered t b) Err)) e
       ∙ ap (solved_text t.n) (sym (solve-taken (dimensions_of t) (tables_in t) steps (sym (readable e))
       (answer_of t.n (always (rows_of (dimensions_of t) (tables_in t))) steps) refl))
 
@@ -128,29 +122,29 @@ of_pair = record {
   order = λ a. refl;
   occurs = pair-occurs;
   alone = λ (left, right, public, line).
-      ap₂ (λ (t : TextTables) (b : Budget). solved_text t.n (given t.outcome (answered t b) solved'.Refused))
+      ap₂ (λ (t : ThreeTables) (b : Result ℕ Refusal). solved_text t.n (given t.outcome (answered t b) Err))
       (texts-named left right public) (budget_named line);
 }
 
 -- ---- the program that goes through the whole budget
 
-module _ (t : TextTables) where
-  abbrev whole_for : Budget → List ℕ
+module _ (t : ThreeTables) where
+  abbrev whole_for : Result ℕ Refusal → List ℕ
   whole_for b = answer_text t.n (whole_answer (dimensions_of t) (tables_in t) (steps_in b))
 
-  whole_by : (b : Budget) → Fair' b → (o : Outcome) → t.outcome ≡ o
-      → solved_text t.n (given t.outcome (whole_answered t b) solved'.Refused)
-      ≡ given (given o (outcome (check (not (eqb (budget_code b) 0)) NumberLine ∷ served_checks (dimensions_of t) (steps_in b))) Refused) (whole_for b)
+  whole_by : (b : Result ℕ Refusal) → Fair' b → (o : Outcome) → t.outcome ≡ o
+      → solved_text t.n (given t.outcome (whole_answered t b) Err)
+      ≡ given (given o (outcome (check (not (eqb (budget_code b) 0)) NumberLine ∷ served_checks (dimensions_of t) (steps_in b))) Err) (whole_for b)
       refusal_text
-  whole_by b f (Refused r) e = ap (λ (o : Outcome). solved_text t.n (given o (whole_answered t b) solved'.Refused)) e
-  whole_by b of_line Taken e = ap (λ (o : Outcome). solved_text t.n (given o (whole_answered t b) solved'.Refused)) e
-  whole_by b (budgeted steps) Taken e =
-      ap (λ (o : Outcome). solved_text t.n (given o (whole_answered t b) solved'.Refused)) e
+  whole_by b f (Err r) e = ap (λ (o : Outcome). solved_text t.n (given o (whole_answered t b) Err)) e
+  whole_by b of_line (Ok _) e = ap (λ (o : Outcome). solved_text t.n (given o (whole_answered t b) Err)) e
+  whole_by b (budgeted steps) (Ok _) e =
+      ap (λ (o : Outcome). solved_text t.n (given o (whole_answered t b) Err)) e
       ∙ go (whole_answer (dimensions_of t) (tables_in t) steps) (outcome (served_checks (dimensions_of t) steps))
     where
-      go : (a : Answer) (o : Outcome) → solved_text t.n (given o (solved'.Of a) solved'.Refused) ≡ given o (answer_text t.n a) refusal_text
-      go a Taken = refl
-      go a (Refused r) = refl
+      go : (a : Answer) (o : Outcome) → solved_text t.n (given o (Ok a) Err) ≡ given o (answer_text t.n a) refusal_text
+      go a (Ok _) = refl
+      go a (Err r) = refl
 
 module _ (left right public line : List ℕ) where
   abbrev last : List Check
@@ -179,23 +173,23 @@ of_whole = record {
   order = λ a. refl;
   occurs = whole-occurs;
   alone = λ (left, right, public, line).
-      ap₂ (λ (t : TextTables) (b : Budget). solved_text t.n (given t.outcome (whole_answered t b) solved'.Refused))
+      ap₂ (λ (t : ThreeTables) (b : Result ℕ Refusal). solved_text t.n (given t.outcome (whole_answered t b) Err))
       (texts-named left right public) (budget_named line);
 }
 
 -- ---- the circuit program
 
 -- a line is refused with 8 alone
-data FairSize : DimensionLine → Type 0 where
-  sized : (n left right public : ℕ) → FairSize (dimension.Of n left right public)
-  unsized : FairSize (dimension.Refused NumberLine)
+data FairSize : Result (ℕ × ℕ × ℕ × ℕ) Refusal → Type 0 where
+  sized : (n left right public : ℕ) → FairSize (Ok (n, left, right, public))
+  unsized : FairSize (Err NumberLine)
 
-field_fair : (f : Field) (k : ℕ → List ℕ → DimensionLine) → ((v : ℕ) (rest : List ℕ) → FairSize (k v rest)) → FairSize
-    (on_field f (dimension.Refused NumberLine) k)
+field_fair : (f : Field) (k : ℕ → List ℕ → Result (ℕ × ℕ × ℕ × ℕ) Refusal) → ((v : ℕ) (rest : List ℕ) → FairSize (k v rest)) → FairSize
+    (on_field f (Err NumberLine) k)
 field_fair no_field k h = unsized
 field_fair (field v rest) k h = h v rest
 
-short_fair : (b : Bool) (n left right public : ℕ) → FairSize (cond b (dimension.Of n left right public) (dimension.Refused NumberLine))
+short_fair : (b : Bool) (n left right public : ℕ) → FairSize (cond b (Ok (n, left, right, public)) (Err NumberLine))
 short_fair true n left right public = sized n left right public
 short_fair false n left right public = unsized
 
@@ -204,7 +198,7 @@ size_fair line =
     field_fair (field_of 32 line) _ (λ n second. field_fair (field_of 32 second) _ (λ left third. field_fair (field_of 32 third) _ (λ right fourth.
     field_fair (field_of 10 fourth) _ (λ public rest. short_fair (short_line line rest) n left right public))))
 
-circuit-by : (z : DimensionLine) → FairSize z
+circuit-by : (z : Result (ℕ × ℕ × ℕ × ℕ) Refusal) → FairSize z
     → size_text z ≡ given (outcome (check (unread z) NumberLine ∷ list_checks (sizes_in z))) (circuit_text (sizes_in z) (gates_on (sizes_in z))) refused_line
 circuit-by z (sized n left right public) = refl
 circuit-by z unsized = refl

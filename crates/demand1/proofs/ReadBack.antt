@@ -8,8 +8,8 @@ use lib.Dec.{ltb}
 use lib.ListN.{length, take, drop, length-take}
 use lib.Seq.{take-take}
 use borrow.Author.Tests.{ltb-true, ltb-false}
-use Rattle.refusals.specs.declared.Outcome.{Outcome}
-use Rattle.refusals.specs.declared.Outcome.TheVariants.{Taken, Refused}
+use Rattle.std.specs.Prelude.{Ok, Err}
+use Rattle.refusals.specs.Numbers.{Outcome}
 use Rattle.refusals.specs.Checks.{outcome, given}
 use Rattle.words.proofs.Truth.{on, and_l, and_r, or_l, or_r}
 use Rattle.words.specs.Sets.{bit, all, lowest, word_of}
@@ -18,8 +18,7 @@ use Rattle.dimensions.specs.Sizes.{outside, state_wire_count}
 use Rattle.state.specs.declared.Run.{Run}
 use Rattle.state.specs.State.{state_of, run_of, fresh}
 use Rattle.state.specs.WellFormed.{well_formed, well_formed_state, unused}
-use Rattle.readback.specs.declared.Read.{Read}
-use Rattle.readback.specs.Reading.{read_checks, read_back}
+use Rattle.readback.specs.Reading.{Read, read_checks, read_back}
 use Rattle.readback.specs.Unpacking as Unpacking
 use Rattle.readback.specs.Unpacking.{holds_state, last_first}
 use Rattle.readback.proofs.Checks.{no_variables, no_room, no_state, read_taken}
@@ -36,10 +35,10 @@ unfolding read_back
 read-outcome n bytes = go (outcome (read_checks n bytes))
   where
     go : (o : Outcome)
-        → (given {A = Read} o (record { outcome = Taken; run = Unpacking.run_in n bytes }) (λ r. record { outcome = Refused r; run = run_of n fresh })).outcome
+        → (given {A = Read} o (record { outcome = Ok tt; run = Unpacking.run_in n bytes }) (λ r. record { outcome = Err r; run = run_of n fresh })).outcome
         ≡ o
-    go Taken = refl
-    go (Refused r) = refl
+    go (Ok _) = refl
+    go (Err r) = refl
 
 -- a well-formed run's state
 state-part : (r : Run) → well_formed r ≡ true → well_formed_state r.n (state_of r) ≡ true
@@ -51,7 +50,7 @@ state-part r w =
 
 module _ (n : ℕ) (x y : List ℕ) (front : take (state_wire_count n) x ≡ take (state_wire_count n) y) (within : outside 32 n ≡ false) where
   -- bytes that are taken, and others with the same front
-  front-taken : (read_back n x).outcome ≡ Taken → read_back n x ≡ read_back n y
+  front-taken : (read_back n x).outcome ≡ Ok tt → read_back n x ≡ read_back n y
   front-taken e =
       let k = read_held n x e in
       let r = (read_back n x).run in

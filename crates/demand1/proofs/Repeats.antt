@@ -9,9 +9,8 @@ use lib.Dec.{ltb, eqb}
 use lib.ListN.{length, take, drop, take-append-drop, length-take, length-map}
 use lib.Seq.{take-take, take_at}
 use borrow.Author.Tests.{le-ltb}
-use Rattle.refusals.specs.declared.Outcome.{Outcome}
-use Rattle.refusals.specs.declared.Outcome.TheVariants.{Taken, Refused}
-use Rattle.refusals.specs.Numbers.{code_of}
+use Rattle.std.specs.Prelude.{Ok, Err}
+use Rattle.refusals.specs.Numbers.{Outcome, code_of}
 use Rattle.refusals.specs.Checks.{outcome, given}
 use Rattle.words.specs.Booleans.{digit}
 use Rattle.words.specs.Sets.{bit, all}
@@ -33,12 +32,10 @@ use Rattle.two_pass.specs.Evaluation.{evaluation_checks, filled_wires}
 use Rattle.netlist.specs.Netlist.{gates_for, gates_on}
 use Rattle.generator.specs.Generation.{written_words}
 use Rattle.generator.proofs.Room.{gates_few}
-use Rattle.repeats.specs.declared.Repeated.{Repeated}
-use Rattle.repeats.specs.declared.Applied.{Applied}
-use Rattle.repeats.specs.Application.{application_outcome, applied, inputs}
+use Rattle.repeats.specs.Application.{Applied, application_outcome, applied, inputs}
 use Rattle.repeats.specs.Application as Application
 use Rattle.repeats.specs.Repeats.{Attempt, Lent, Otherwise, Repeat, circuit_words, attempted, comes_of, repeats}
-use Rattle.repeats.specs.Repeating.{repeat_checks, made, run_before, bytes_left_by, wires_left, repeated_by, refused_with}
+use Rattle.repeats.specs.Repeating.{Repeated, repeat_checks, made, run_before, bytes_left_by, wires_left, repeated_by, refused_with}
 use Rattle.repeats.specs.Repeating.{allowed, repeated, gates_after, bytes_after, wires_after}
 use Rattle.repeats.proofs.Applying.{words_third}
 use Rattle.repeats.proofs.RepeatChecks.{passed, generates}
@@ -106,11 +103,11 @@ module _ (d : Dimensions) (tables : Tables) (bytes wires : List ℕ) where
     where
       go : (o : Outcome) → let values = bytes_of (input_bits d tables (state_of run)) in
           take (input_wires d) (given o (over values bytes) (λ r. bytes)) ≡ take (input_wires d) (given o (over values cut_bytes) (λ r. cut_bytes))
-      go Taken =
+      go (Ok _) =
           let values = bytes_of (input_bits d tables (state_of run)) in
           let e = length-map (input_bits d tables (state_of run)) digit ∙ input_length d tables (state_of run) in
           take_at values (drop (length values) bytes) (input_wires d) e ∙ sym (take_at values (drop (length values) cut_bytes) (input_wires d) e)
-      go (Refused r) = sym (take-take (input_wires d) (input_wires d) bytes (omega arith))
+      go (Err r) = sym (take-take (input_wires d) (input_wires d) bytes (omega arith))
 
   circuit-values : (input : List ℕ) → length (bytes_of (wires_of (bits_of input) (gates_of (circuit_words d)))) ≡ length input + length (gates_on d)
   unfolding circuit_words
@@ -167,7 +164,7 @@ module _ (d : Dimensions) (tables : Tables) (times : ℕ) (gates bytes wires : L
         ← front-short (input_wires d + length (gates_on d)) wires,
       )
 
-  module _ (h : outcome (repeat_checks d tables (length gates) (length bytes) (length wires) run) ≡ Taken) where
+  module _ (h : outcome (repeat_checks d tables (length gates) (length bytes) (length wires) run) ≡ Ok tt) where
     made-cut : made d tables times bytes wires run ≡ made d (named_tables d tables) times (cut_bytes d tables bytes wires) cut_wires run
     made-cut =
         let p = passed d tables (length gates) (length bytes) (length wires) run h in

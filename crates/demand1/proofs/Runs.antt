@@ -4,11 +4,12 @@ use mathlib.Core.List.{List, [], ◌∷◌, ◌++◌}
 use Prim.Native.Nat.{ℕ}
 use lib.ListN.{length, take, drop, take-append-drop, length-map}
 use native.Mathlib.Omega.{arith}
+use Rattle.std.specs.Prelude.{Result, Ok, Err}
+use Rattle.refusals.specs.declared.Refusal.{Refusal}
+use Rattle.solver.specs.declared.Answer.{Answer}
 use Rattle.tables.proofs.Numbering.{tables-length}
 use lib.Seq.{sets}
-use Rattle.refusals.specs.declared.Outcome.{Outcome}
-use Rattle.refusals.specs.declared.Outcome.TheVariants.{Taken, Refused}
-use Rattle.refusals.specs.Numbers.{code_of}
+use Rattle.refusals.specs.Numbers.{Outcome, code_of}
 use Rattle.refusals.proofs.Outcomes.{refused-taken}
 use Rattle.refusals.specs.Checks.{Check, outcome, given}
 use Rattle.words.specs.Sets.{bit, all}
@@ -21,14 +22,9 @@ use Rattle.state.specs.declared.Run.{Run}
 use Rattle.state.specs.State.{fresh, run_of}
 use Rattle.state.specs.WellFormed.{well_formed, state_checks}
 use Rattle.verdicts.specs.Verdicts.{model_checks, model_of, model_code, model_numbers}
-use Rattle.verdicts.specs.declared.Modelled.{Modelled}
-use Rattle.verdicts.specs.declared.Modelled.TheVariants as modelled
 use Rattle.scan.specs.Rules.{rule}
 use Rattle.solver.specs.Step.{Ruling, always}
-use Rattle.solver.specs.declared.Solved.{Solved}
-use Rattle.solver.specs.declared.Solved.TheVariants as solved'
-use Rattle.solver.specs.declared.Stepped.{Stepped}
-use Rattle.solver.specs.Entries.{stepped_with, stepped, answer_with, solved_with, solved, solved_code, solved_numbers}
+use Rattle.solver.specs.Entries.{Stepped, stepped_with, stepped, answer_with, solved_with, solved, solved_code, solved_numbers}
 use Rattle.free_counts.specs.Counts.{free_counts_of, count_checks, counts_after}
 use Rattle.codes.specs.Codes.{variable_checks}
 use Rattle.lent.specs.Lent.{numbers_or, stored_if}
@@ -78,9 +74,9 @@ module _ (ruling : Ruling) (d : Dimensions) (tables : Tables) (run : Run) where
   unfolding stepped_with
   stepped-outcome = go _ (outcome (table_checks d tables ++ state_checks d run))
     where
-      go : (x : Run) (o : Outcome) → (given {A = Stepped} o (record { outcome = Taken; run = x }) (λ r. record { outcome = Refused r; run = run })).outcome ≡ o
-      go x Taken = refl
-      go x (Refused r) = refl
+      go : (x : Run) (o : Outcome) → (given {A = Stepped} o (record { outcome = Ok tt; run = x }) (λ r. record { outcome = Err r; run = run })).outcome ≡ o
+      go x (Ok _) = refl
+      go x (Err r) = refl
 
   pub stepped-named : stepped_with ruling d tables run ≡ stepped_with ruling d (named_tables d tables) run
   unfolding stepped_with
@@ -113,13 +109,13 @@ of_step =
 -- ---- the answer of a whole run
 
 module _ (ruling : Ruling) (d : Dimensions) (tables : Tables) (budget : ℕ) (answer : List ℕ) where
-  abbrev solve_call : List Check → Solved → Effect
+  abbrev solve_call : List Check → Result Answer Refusal → Effect
   solve_call cs s = record { returned = solved_code s; judged = cs; lent = answer ∷ []; left = numbers_or (solved_numbers s) answer ∷ [] }
 
   pub solved-judged : Judged (solve_call (table_checks d tables) (solved_with ruling d tables budget))
   unfolding solved_with
   solved-judged =
-      let s : Outcome → Solved = λ o. given o (solved'.Of (answer_with ruling d.n (always (rows_of d tables)) budget)) solved'.Refused in
+      let s : Outcome → Result Answer Refusal = λ o. given o (Ok (answer_with ruling d.n (always (rows_of d tables)) budget)) Err in
       by-outcome (table_checks d tables) (answer ∷ []) (λ o. solved_code (s o)) (λ o. numbers_or (solved_numbers (s o)) answer ∷ []) refl (λ r. refl)
       (λ r. refl)
 
@@ -144,7 +140,7 @@ unfolding model_of run_in fresh_words satisfied_words well_formed all bit
 of_model =
     whole model (as_given model (λ a. refl))
     (λ (run, lent).
-    let m : Outcome → Modelled = λ o. given o (modelled.Model (run_in run).t) modelled.Refused in
+    let m : Outcome → Result ℕ Refusal = λ o. given o (Ok (run_in run).t) Err in
     by-outcome (model_checks (run_in run)) (lent ∷ []) (λ o. model_code (m o)) (λ o. numbers_or (model_numbers (m o)) lent ∷ []) refl (λ r. refl) (λ r. refl))
     (λ a. refl) refl (λ a. refl) (λ a. refl)
 
@@ -154,7 +150,7 @@ module _ (d : Dimensions) (tables : Tables) (run : Run) (counts : List ℕ) wher
   count-checked : count_checks d tables run (length counts) ≡ count_checks d (named_tables d tables) run (length (take (row_count d) counts))
   count-checked = rw (← named-short d tables, ← named-high d tables, ← front-short (row_count d) counts)
 
-  count_written : outcome (count_checks d tables run (length counts)) ≡ Taken
+  count_written : outcome (count_checks d tables run (length counts)) ≡ Ok tt
       → counts_after d tables run counts ≡ counts_after d (named_tables d tables) run (take (row_count d) counts) ++ drop (row_count d) counts
   unfolding counts_after
   count_written h =

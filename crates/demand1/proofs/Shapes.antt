@@ -5,10 +5,9 @@ use mathlib.Core.Bool.{Bool, true, false, cond}
 use mathlib.Core.List.{List, [], ◌∷◌, ◌++◌, map}
 use Prim.Native.Nat.{ℕ}
 use lib.ListN.{drop}
+use Rattle.std.specs.Prelude.{Ok, Err}
 use Rattle.refusals.specs.declared.Refusal.{Refusal}
-use Rattle.refusals.specs.declared.Outcome.{Outcome}
-use Rattle.refusals.specs.declared.Outcome.TheVariants.{Taken, Refused}
-use Rattle.refusals.specs.Numbers.{number_of, code_of}
+use Rattle.refusals.specs.Numbers.{Outcome, number_of, code_of}
 use Rattle.refusals.specs.Checks.{Check, outcome, given}
 use Rattle.refusals.proofs.Outcomes.{outcome-refused, outcome_parts}
 use Rattle.dimensions.specs.declared.Dimensions.{Dimensions}
@@ -25,18 +24,18 @@ unfolding first_number
 first-number [] = refl
 first-number (c ∷ cs) = go c.fails c.refusal (outcome cs) (first_number cs) (first-number cs)
   where
-    go : (b : Bool) (r : Refusal) (o : Outcome) (k : ℕ) → code_of o ≡ k → code_of (cond b (Refused r) o) ≡ cond b (number_of r) k
+    go : (b : Bool) (r : Refusal) (o : Outcome) (k : ℕ) → code_of o ≡ k → code_of (cond b (Err r) o) ≡ cond b (number_of r) k
     go true r o k e = refl
     go false r o k e = e
 
 -- a call that is judged by its checks: the number is the outcome's, and refused it leaves every buffer
 pub record Judged (c : Effect) : Type 0 where
   pub numbered : c.returned ≡ code_of (outcome c.judged)
-  pub unchanged : (r : Refusal) → outcome c.judged ≡ Refused r → c.left ≡ c.lent
+  pub unchanged : (r : Refusal) → outcome c.judged ≡ Err r → c.left ≡ c.lent
 
 -- number and buffers that follow from the outcome
 pub by-outcome : (judged : List Check) (lent : List (List ℕ)) (returned : Outcome → ℕ) (left : Outcome → List (List ℕ))
-    → returned Taken ≡ 0 → ((r : Refusal) → returned (Refused r) ≡ number_of r) → ((r : Refusal) → left (Refused r) ≡ lent)
+    → returned (Ok tt) ≡ 0 → ((r : Refusal) → returned (Err r) ≡ number_of r) → ((r : Refusal) → left (Err r) ≡ lent)
     → Judged (record { returned = returned (outcome judged); judged = judged; lent = lent; left = left (outcome judged) })
 by-outcome judged lent returned left taken refused stays = record {
   numbered = go (outcome judged);
@@ -44,12 +43,12 @@ by-outcome judged lent returned left taken refused stays = record {
 }
   where
     go : (o : Outcome) → returned o ≡ code_of o
-    go Taken = taken
-    go (Refused r) = refused r
+    go (Ok _) = taken
+    go (Err r) = refused r
 
 -- the same, where the outcome is a part of what the call gives
 pub by-held : (judged : List Check) (lent : List (List ℕ)) (o : Outcome) (left : Outcome → List (List ℕ))
-    → o ≡ outcome judged → ((r : Refusal) → left (Refused r) ≡ lent)
+    → o ≡ outcome judged → ((r : Refusal) → left (Err r) ≡ lent)
     → Judged (record { returned = code_of o; judged = judged; lent = lent; left = left o })
 by-held judged lent o left e stays = record {
   numbered = ap code_of e;
@@ -62,28 +61,28 @@ pub rejudged : {c : Effect} (cs : List Check) → outcome c.judged ≡ outcome c
 rejudged cs e j = record { numbered = j.numbered ∙ ap code_of e; unchanged = λ r x. j.unchanged r (e ∙ x) }
 
 -- what follows from the same outcome, where it is the same if that is taken
-pub given-same : {B : Type 0} (o q : Outcome) (x y : B) (f : Refusal → B) → o ≡ q → (o ≡ Taken → x ≡ y) → given o x f ≡ given q y f
+pub given-same : {B : Type 0} (o q : Outcome) (x y : B) (f : Refusal → B) → o ≡ q → (o ≡ Ok tt → x ≡ y) → given o x f ≡ given q y f
 given-same {B} o q x y f e h = go o h ∙ ap (λ (z : Outcome). given z y f) e
   where
-    go : (z : Outcome) → (z ≡ Taken → x ≡ y) → given z x f ≡ given z y f
-    go Taken k = k refl
-    go (Refused r) k = refl
+    go : (z : Outcome) → (z ≡ Ok tt → x ≡ y) → given z x f ≡ given z y f
+    go (Ok _) k = k refl
+    go (Err r) k = refl
 
 -- ---- checks one after the other
 
 -- the first checks decide, or else the others
-pub outcome_append : (xs ys : List Check) → outcome (xs ++ ys) ≡ given (outcome xs) (outcome ys) Refused
+pub outcome_append : (xs ys : List Check) → outcome (xs ++ ys) ≡ given (outcome xs) (outcome ys) Err
 outcome_append [] ys = refl
 outcome_append (c ∷ cs) ys = go c.fails (outcome cs) (outcome (cs ++ ys)) (outcome_append cs ys)
   where
-    go : (b : Bool) (o p : Outcome) → p ≡ given o (outcome ys) Refused
-        → cond b (Refused c.refusal) p ≡ given (cond b (Refused c.refusal) o) (outcome ys) Refused
+    go : (b : Bool) (o p : Outcome) → p ≡ given o (outcome ys) Err
+        → cond b (Err c.refusal) p ≡ given (cond b (Err c.refusal) o) (outcome ys) Err
     go true o p e = refl
     go false o p e = e
 
 -- checks that come to an outcome, and others after them
-pub outcome-then : (xs ys : List Check) (o q : Outcome) → outcome xs ≡ o → outcome ys ≡ q → outcome (xs ++ ys) ≡ given o q Refused
-outcome-then xs ys o q e h = outcome_append xs ys ∙ ap₂ (λ (a b : Outcome). given a b Refused) e h
+pub outcome-then : (xs ys : List Check) (o q : Outcome) → outcome xs ≡ o → outcome ys ≡ q → outcome (xs ++ ys) ≡ given o q Err
+outcome-then xs ys o q e h = outcome_append xs ys ∙ ap₂ (λ (a b : Outcome). given a b Err) e h
 
 module _ {A : Type 0} (e : Entry A) where
   -- ---- the arguments as the contract has them
@@ -91,7 +90,7 @@ module _ {A : Type 0} (e : Entry A) where
   -- they are judged as the arguments are, and are the same where these are taken
   pub record InBytes : Type 0 where
     pub alike : (a : A) → outcome (e.call (e.in_bytes a)).judged ≡ outcome (e.call a).judged
-    pub same : (a : A) → outcome (e.call a).judged ≡ Taken → e.in_bytes a ≡ a
+    pub same : (a : A) → outcome (e.call a).judged ≡ Ok tt → e.in_bytes a ≡ a
     pub kept : (a : A) → (e.call (e.in_bytes a)).lent ≡ (e.call a).lent
 
   -- of a function whose contract has them as they are given
@@ -104,7 +103,7 @@ module _ {A : Type 0} (e : Entry A) where
 
   -- of a function whose first checks come to the same on them, and are not taken unless they are the same
   pub leading : (first rest : A → List Check) → ((a : A) → outcome (first (e.in_bytes a)) ≡ outcome (first a))
-      → ((a : A) → outcome (first a) ≡ Taken → e.in_bytes a ≡ a)
+      → ((a : A) → outcome (first a) ≡ Ok tt → e.in_bytes a ≡ a)
       → ((a : A) → (e.call a).judged ≡ first a ++ rest a) → ((a : A) → (e.call (e.in_bytes a)).lent ≡ (e.call a).lent) → InBytes
   leading first rest alike taken begins kept = record {
     alike = λ a. go a (outcome (first a)) refl;
@@ -112,12 +111,12 @@ module _ {A : Type 0} (e : Entry A) where
     kept = kept;
   }
     where
-      refused : (a : A) (r : Refusal) → outcome (first a) ≡ Refused r → outcome (e.call a).judged ≡ Refused r
+      refused : (a : A) (r : Refusal) → outcome (first a) ≡ Err r → outcome (e.call a).judged ≡ Err r
       refused a r x = ap outcome (begins a) ∙ outcome-refused (first a) (rest a) r x
 
       go : (a : A) (o : Outcome) → outcome (first a) ≡ o → outcome (e.call (e.in_bytes a)).judged ≡ outcome (e.call a).judged
-      go a Taken x = ap (λ (b : A). outcome (e.call b).judged) (taken a x)
-      go a (Refused r) x = refused (e.in_bytes a) r (alike a ∙ x) ∙ sym (refused a r x)
+      go a (Ok _) x = ap (λ (b : A). outcome (e.call b).judged) (taken a x)
+      go a (Err r) x = refused (e.in_bytes a) r (alike a ∙ x) ∙ sym (refused a r x)
 
   -- of one that judges a host's four numbers first
   pub by-sizes : (d : A → Dimensions) → ((a : A) → as_bytes (d a) ≡ d a → e.in_bytes a ≡ a) → ((a : A) → d (e.in_bytes a) ≡ as_bytes (d a))
@@ -146,8 +145,8 @@ module _ {A : Type 0} (e : Entry A) where
   }
     where
       go : (a : A) (o : Outcome) → outcome (e.call a).judged ≡ o → (e.call (e.in_bytes a)).left ≡ (e.call a).left
-      go a Taken x = ap (λ (b : A). (e.call b).left) (h.same a x)
-      go a (Refused r) x = (j (e.in_bytes a)).unchanged r (h.alike a ∙ x) ∙ h.kept a ∙ sym ((j a).unchanged r x)
+      go a (Ok _) x = ap (λ (b : A). (e.call b).left) (h.same a x)
+      go a (Err r) x = (j (e.in_bytes a)).unchanged r (h.alike a ∙ x) ∙ h.kept a ∙ sym ((j a).unchanged r x)
 
   -- ---- the demand
 
@@ -158,7 +157,7 @@ module _ {A : Type 0} (e : Entry A) where
     pub occurs : map (λ (a : A). (e.call a).returned) e.examples ≡ 0 ∷ e.numbers
     pub split : (a : A) → (e.call a).lent ≡ beside (e.call (e.named a)).lent (e.past a)
     pub checked : (a : A) → outcome (e.call a).judged ≡ outcome (e.call (e.named a)).judged
-    pub written : (a : A) → outcome (e.call a).judged ≡ Taken → (e.call a).left ≡ beside (e.call (e.named a)).left (e.past a)
+    pub written : (a : A) → outcome (e.call a).judged ≡ Ok tt → (e.call a).left ≡ beside (e.call (e.named a)).left (e.past a)
 
   -- the demand's parts, of calls that do this
   record Parts (call : A → Effect) : Type 0 where
@@ -174,8 +173,8 @@ module _ {A : Type 0} (e : Entry A) where
   untouched_by c j h = go (outcome c.judged) refl
     where
       go : (o : Outcome) → outcome c.judged ≡ o → c.left ≡ c.lent
-      go Taken x = absurd (h (j.numbered ∙ ap code_of x))
-      go (Refused r) x = j.unchanged r x
+      go (Ok _) x = absurd (h (j.numbered ∙ ap code_of x))
+      go (Err r) x = j.unchanged r x
 
   parts : Shown → Parts e.call
   parts s = record {
@@ -189,8 +188,8 @@ module _ {A : Type 0} (e : Entry A) where
   }
     where
       go : (a : A) (o : Outcome) → outcome (e.call a).judged ≡ o → (e.call a).left ≡ beside (e.call (e.named a)).left (e.past a)
-      go a Taken x = s.written a x
-      go a (Refused r) x =
+      go a (Ok _) x = s.written a x
+      go a (Err r) x =
           (s.judged a).unchanged r x ∙ s.split a
           ∙ ap (λ (l : List (List ℕ)). beside l (e.past a)) (sym ((s.judged (e.named a)).unchanged r (sym (s.checked a) ∙ x)))
 

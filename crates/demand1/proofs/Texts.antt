@@ -4,8 +4,8 @@ use mathlib.Core.List.{List, [], ◌∷◌, ◌++◌, map}
 use Prim.Native.Nat.{ℕ, ◌*◌}
 use native.Mathlib.Omega.{arith}
 use lib.ListN.{length, take, drop, take-append-drop, length-take}
+use Rattle.refusals.specs.Numbers.{Outcome}
 use Rattle.refusals.specs.declared.Refusal.TheVariants.{RowBuffer, TextsDiffer}
-use Rattle.refusals.specs.declared.Outcome.{Outcome}
 use Rattle.refusals.specs.Checks.{check, outcome, given}
 use Rattle.words.specs.Sets.{put}
 use Rattle.words.specs.Sameness.{same}
@@ -16,8 +16,7 @@ use Rattle.numbers.specs.Numbers.{digits_after, decimal_of, number_read}
 use Rattle.header.specs.Header.{past_remarks, header_of}
 use Rattle.clauses.specs.Clauses.{clauses}
 use Rattle.tables.specs.Tables.{Tables}
-use Rattle.dimacs.specs.declared.Table.{Table}
-use Rattle.dimacs.specs.Text.{table_of}
+use Rattle.dimacs.specs.Text.{TextTable, table_of}
 use Rattle.host_texts.specs.Texts.{Texts, all_texts, texts_of, has_no_room, read_outcome, rows_given, text_sizes, tables_read, sizes_read}
 use Rattle.demand1.specs.Calls.{beside}
 use Rattle.demand1.specs.Demand1.{Demand1}
@@ -34,8 +33,8 @@ module _ (left right public : List ℕ) where
 
   texts-named : texts_of left right public ≡ texts_of (named_text left) (named_text right) (named_text public)
   texts-named =
-      ap₂ (λ (l r : Table). all_texts l r (table_of 0 public)) (table-named 1 left) (table-named 1 right)
-      ∙ ap (λ (p : Table). all_texts (table_of 1 (named_text left)) (table_of 1 (named_text right)) p) (table-named 0 public)
+      ap₂ (λ (l r : TextTable). all_texts l r (table_of 0 public)) (table-named 1 left) (table-named 1 right)
+      ∙ ap (λ (p : TextTable). all_texts (table_of 1 (named_text left)) (table_of 1 (named_text right)) p) (table-named 0 public)
 
   read-checked : (lent : Tables) → read_outcome (texts_of left right public) lent
       ≡ outcome (text_judged 1 left ++ (text_judged 1 right ++ (text_judged 0 public
@@ -52,7 +51,7 @@ module _ (t : Texts) (lent : Tables) where
       rw (← front-short (2 * t.left.rows) lent.left, ← front-short (2 * t.right.rows) lent.right, ← front-short (2 * t.public.rows) lent.public)
 
   -- a table's rows over the front of its words
-  rows_cut : (o q : Outcome) (x : Table) (words : List ℕ) → o ≡ q
+  rows_cut : (o q : Outcome) (x : TextTable) (words : List ℕ) → o ≡ q
       → rows_given o x words ≡ rows_given q x (take (2 * x.rows) words) ++ drop (2 * x.rows) words
   rows_cut o q x words e =
       front_stays _ _ _ _ _ e

@@ -4,8 +4,9 @@ use mathlib.Core.List.{List, [], ◌∷◌, ◌++◌, map}
 use Prim.Native.Nat.{ℕ, zero, suc, ◌+◌, ◌*◌}
 use native.Mathlib.Omega.{arith}
 use lib.ListN.{length, take, drop, replicate, take-append-drop, length-replicate}
-use Rattle.refusals.specs.declared.Outcome.{Outcome}
-use Rattle.refusals.specs.declared.Outcome.TheVariants.{Taken}
+use Rattle.std.specs.Prelude.{Result, Ok, Err}
+use Rattle.refusals.specs.declared.Refusal.{Refusal}
+use Rattle.refusals.specs.Numbers.{Outcome}
 use Rattle.refusals.specs.Checks.{check, outcome, given}
 use Rattle.refusals.specs.declared.Refusal.TheVariants.{WholeBudget}
 use Rattle.refusals.proofs.Outcomes.{outcome_parts}
@@ -17,14 +18,12 @@ use Rattle.state.specs.declared.Run.{Run}
 use Rattle.state.specs.State.{fresh, run_of}
 use Rattle.netlist.specs.Netlist.{gates_on}
 use Rattle.generator.specs.Generation.{written_words}
-use Rattle.repeats.specs.declared.Applied.{Applied}
+use Rattle.repeats.specs.Application.{Applied}
 use Rattle.repeats.specs.Repeats.{Attempt, attempted}
 use lib.Dec.{ltb}
 use Rattle.repeats.specs.Repeating.{generation_checks, wire_checks}
 use Rattle.repeats.proofs.RepeatChecks.{words_passed, generates}
 use Rattle.solver.specs.declared.Answer.{Answer}
-use Rattle.solver.specs.declared.Solved.{Solved}
-use Rattle.solver.specs.declared.Solved.TheVariants as solved
 use Rattle.solver.specs.Entries.{solved_code, solved_numbers}
 use Rattle.whole_budget.specs.Applications.{attempt_gives, applications, whole_answer_in, enough, whole_answer}
 use Rattle.whole_budget.specs.WholeBudget.{
@@ -85,7 +84,7 @@ module _ (d : Dimensions) (tables : Tables) (budget : ℕ) (gates bytes wires : 
   whole-checked =
       rw (← named-short d tables, ← named-high d tables, ← front-short (3 * ceiling d) gates, ← front-short (input_wires d) bytes, ← front-short space wires)
 
-  module _ (h : outcome (whole_checks d tables budget (length gates) (length bytes) (length wires)) ≡ Taken) where
+  module _ (h : outcome (whole_checks d tables budget (length gates) (length bytes) (length wires)) ≡ Ok tt) where
     gates_kept : gates_after_whole d tables budget gates bytes wires
         ≡ gates_after_whole d (named_tables d tables) budget cut_gates cut_bytes cut_wires ++ drop (3 * ceiling d) gates
     unfolding gates_after_whole whole_allowed
@@ -107,7 +106,7 @@ module _ (d : Dimensions) (tables : Tables) (budget : ℕ) (gates bytes wires : 
   whole-cut : solved_whole d tables budget gates bytes wires ≡ solved_whole d (named_tables d tables) budget cut_gates cut_bytes cut_wires
   unfolding solved_whole whole_allowed
   whole-cut =
-      ap₂ (λ (o : Outcome) (a : Answer). given o (solved.Of a) solved.Refused) (ap outcome whole-checked) (whole-named d tables budget)
+      ap₂ (λ (o : Outcome) (a : Answer). given o (Ok a) Err) (ap outcome whole-checked) (whole-named d tables budget)
 
 whole-occurs : map (λ a. (solve_whole.call a).returned) solve_whole.examples ≡ 0 ∷ solve_whole.numbers
 unfolding solved_whole whole_allowed all_below
@@ -121,7 +120,7 @@ of_solve-whole =
     (λ a. refl) (λ a. refl) (λ a. refl))
     (record {
       judged = λ (d, tables, budget, gates, bytes, wires, answer).
-          let s : Outcome → Solved = λ o. given o (solved.Of (whole_answer d tables budget)) solved.Refused in
+          let s : Outcome → Result Answer Refusal = λ o. given o (Ok (whole_answer d tables budget)) Err in
           by-outcome (whole_checks d tables budget (length gates) (length bytes) (length wires)) (gates ∷ bytes ∷ wires ∷ answer ∷ [])
           (λ o. solved_code (s o))
           (λ o. given o (written_words d gates) (λ q. gates) ∷ given o (cleared (input_wires d) bytes) (λ q. bytes)
@@ -137,6 +136,6 @@ of_solve-whole =
       written = λ (d, tables, budget, gates, bytes, wires, answer) h.
           ap₂ (λ (g : List ℕ) (l : List (List ℕ)). g ∷ l) (gates_kept d tables budget gates bytes wires h)
           (ap₂ (λ (b : List ℕ) (l : List (List ℕ)). b ∷ l) (bytes-kept d tables budget gates bytes wires h)
-          (ap₂ (λ (w : List ℕ) (s : Solved). w ∷ numbers_or (solved_numbers s) answer ∷ []) (wires_kept d tables budget gates bytes wires h)
+          (ap₂ (λ (w : List ℕ) (s : Result Answer Refusal). w ∷ numbers_or (solved_numbers s) answer ∷ []) (wires_kept d tables budget gates bytes wires h)
           (whole-cut d tables budget gates bytes wires)));
     })

@@ -1,7 +1,7 @@
 -- The functions that read a budget line, check a proof and judge a game.
 -- Read: none, they have the form of `Runs`.
-use Rattle.std.specs.Prelude.{ℕ, suc, Bool, true, false, not, List, [], ◌∷◌, ◌++◌, map, eqb, ltb, take}
-use Rattle.std.proofs.Math.Option.{Option, none, some}
+use Rattle.refusals.specs.declared.Refusal.{Refusal}
+use Rattle.std.specs.Prelude.{ℕ, suc, Bool, true, false, not, List, [], ◌∷◌, ◌++◌, map, eqb, ltb, take, Option, Some, None, Result, Ok, Err}
 use Rattle.refusals.specs.declared.Refusal.TheVariants.{Variables, RowCount, Text, NumberLine}
 use Rattle.refusals.specs.declared.Refusal.TheVariants.{ProofText, NotFollowing, NoEmptyClause, GameVariables, LineVariables}
 use Rattle.refusals.specs.Checks.{Check, check, outcome}
@@ -15,8 +15,6 @@ use Rattle.tables.specs.Acceptance.{table_checks}
 use Rattle.lexer.specs.Spelling.{bytes}
 use Rattle.lexer.specs.Bytes.{run}
 use Rattle.numbers.specs.Numbers.{is_digit}
-use Rattle.header.specs.declared.HeaderNumbers.{HeaderNumbers}
-use Rattle.header.specs.declared.HeaderNumbers.TheVariants as sizes
 use Rattle.lines.specs.Numbers.{budget_of, budget_code, budget_numbers}
 use Rattle.excerpts.specs.Excerpts.{overlong}
 use Rattle.drat.specs.Proofs.{ProofLine, all_follow, adds_empty}
@@ -49,13 +47,13 @@ read_budget = record {
 
 -- there is none
 abbrev pub is_none : Option (List ProofLine) → Bool
-is_none none = true
-is_none (some ls) = false
+is_none None = true
+is_none (Some ls) = false
 
 -- a test of its lines; none has none that fails
 abbrev pub of_lines : (List ProofLine → Bool) → Option (List ProofLine) → Bool
-of_lines p none = true
-of_lines p (some ls) = p ls
+of_lines p None = true
+of_lines p (Some ls) = p ls
 
 -- 18, 19, 20
 abbrev pub lines_judged : List Row → Option (List ProofLine) → List Check
@@ -95,9 +93,9 @@ check_proof = record {
 -- ---- a game
 
 -- more variables than a game has
-abbrev pub has_too_many : HeaderNumbers → Bool
-has_too_many (sizes.Of n m) = ltb most_game_variables n
-has_too_many (sizes.Refused r) = false
+abbrev pub has_too_many : Result (ℕ × ℕ) Refusal → Bool
+has_too_many (Ok (n, m)) = ltb most_game_variables n
+has_too_many (Err r) = false
 
 -- 5 where the text is overlong, the header's 1 and 2, 21, 5 for another cause, and then 22
 abbrev pub game_judged : List ℕ → List Check

@@ -11,8 +11,7 @@ use Rattle.state.specs.WellFormed.{state_checks}
 use Rattle.solver.specs.Entries.{stepped_with, solved_with, solved_code, solved_numbers}
 use Rattle.occurrences.specs.Index.{index_of}
 use Rattle.indexed.specs.Entries.{index_after, counted, counted_code, counted_numbers, indexed_checks}
-use Rattle.indexed.specs.declared.Continued.{Continued}
-use Rattle.indexed.specs.Continuing.{continued_code, continued_numbers, continued_with}
+use Rattle.indexed.specs.Continuing.{Continued, continued_code, continued_numbers, continued_with}
 use Rattle.weighted.specs.Weights.{weighted_rule}
 use Rattle.stored.specs.Words.{run_in}
 use Rattle.lent.specs.Lent.{numbers_or, stored_if}

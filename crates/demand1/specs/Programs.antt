@@ -1,5 +1,5 @@
 -- Demand 1 for the programs' own functions, by value: what they print for texts and a line.
-use Rattle.std.specs.Prelude.{ℕ, suc, ◌≡◌, Bool, true, false, not, cond, List, [], ◌∷◌, ◌++◌, map, eqb, take}
+use Rattle.std.specs.Prelude.{ℕ, suc, ◌≡◌, Bool, true, false, not, cond, List, [], ◌∷◌, ◌++◌, map, eqb, take, Result, Ok, Err}
 use Rattle.refusals.specs.declared.Refusal.{Refusal}
 use Rattle.refusals.specs.declared.Refusal.TheVariants.{NumberLine, TextsDiffer}
 use Rattle.refusals.specs.Checks.{Check, check}
@@ -10,10 +10,6 @@ use Rattle.lexer.specs.Bytes.{run}
 use Rattle.numbers.specs.Numbers.{is_digit}
 use Rattle.text.specs.Refused.{refused_line}
 use Rattle.dimacs.specs.ThreeTexts.{text_tables}
-use Rattle.lines.specs.declared.Budget.{Budget}
-use Rattle.lines.specs.declared.Budget.TheVariants as budget
-use Rattle.lines.specs.declared.DimensionLine.{DimensionLine}
-use Rattle.lines.specs.declared.DimensionLine.TheVariants as dimension
 use Rattle.lines.specs.Numbers.{budget_of, budget_code, dimension_line_of}
 use Rattle.answers.specs.Printed.{answer_text, refusal_text}
 use Rattle.reply.specs.Reply.{dimensions_of, tables_in, reply_text}
@@ -58,9 +54,9 @@ abbrev pub line_judged : List ℕ → List Check
 line_judged line = check (not (eqb (budget_code (budget_of line)) 0)) NumberLine ∷ []
 
 -- the steps of a line that is read
-abbrev pub steps_in : Budget → ℕ
-steps_in (budget.Of steps) = steps
-steps_in (budget.Refused r) = 0
+abbrev pub steps_in : Result ℕ Refusal → ℕ
+steps_in (Ok steps) = steps
+steps_in (Err r) = 0
 
 -- what refuses the left text, the right one, the public one; 6
 abbrev pub three_judged : List ℕ → List ℕ → List ℕ → List Check
@@ -115,14 +111,14 @@ whole_program = record {
 -- ---- the circuit program
 
 -- the line is not read
-abbrev pub unread : DimensionLine → Bool
-unread (dimension.Of n left right public) = false
-unread (dimension.Refused r) = true
+abbrev pub unread : Result (ℕ × ℕ × ℕ × ℕ) Refusal → Bool
+unread (Ok (n, left, right, public)) = false
+unread (Err r) = true
 
 -- the dimensions of a line that is read
-abbrev pub sizes_in : DimensionLine → Dimensions
-sizes_in (dimension.Of n left right public) = dimensions n left right public
-sizes_in (dimension.Refused r) = dimensions 0 0 0 0
+abbrev pub sizes_in : Result (ℕ × ℕ × ℕ × ℕ) Refusal → Dimensions
+sizes_in (Ok (n, left, right, public)) = dimensions n left right public
+sizes_in (Err r) = dimensions 0 0 0 0
 
 -- listing::list: a line
 abbrev pub circuit : Program (List ℕ)

@@ -1,17 +1,37 @@
 -- The functions that read texts: three texts to tables, the budget line, a proof, a game, and the places of clauses.
 -- Read: the first entry.
-use Rattle.std.specs.Prelude.{ℕ, ◌*◌, Bool, true, false, not, ◌||◌, List, [], ◌∷◌, ◌++◌, map, eqb, ltb, length, take, drop, replicate}
-use Rattle.refusals.specs.declared.Outcome.{Outcome}
+use Rattle.refusals.specs.declared.Refusal.{Refusal}
+use Rattle.std.specs.Prelude.{
+  ℕ,
+  ◌*◌,
+  Bool,
+  true,
+  false,
+  not,
+  ◌||◌,
+  List,
+  [],
+  ◌∷◌,
+  ◌++◌,
+  map,
+  eqb,
+  ltb,
+  length,
+  take,
+  drop,
+  replicate,
+  Result,
+  Ok,
+  Err,
+}
 use Rattle.refusals.specs.declared.Refusal.TheVariants.{Variables, RowCount, RowBuffer, Text, TextsDiffer, NoClause, LineBuffer}
 use Rattle.refusals.specs.Checks.{Check, check, given}
-use Rattle.refusals.specs.Numbers.{number_of, code_of}
+use Rattle.refusals.specs.Numbers.{Outcome, number_of, code_of}
 use Rattle.dimensions.specs.declared.Dimensions.{Dimensions}
 use Rattle.tables.specs.Tables.{Tables, all_tables}
 use Rattle.tables.specs.Acceptance.{table_checks}
 use Rattle.lexer.specs.Spelling.{bytes}
 use Rattle.lexer.specs.Remarks.{without_remarks}
-use Rattle.header.specs.declared.HeaderNumbers.{HeaderNumbers}
-use Rattle.header.specs.declared.HeaderNumbers.TheVariants as sizes
 use Rattle.header.specs.Header.{header_of}
 use Rattle.dimacs.specs.Text.{table_of}
 use Rattle.excerpts.specs.Excerpts.{overlong, has_clause, placed, placed_code, placed_numbers, clause_bytes}
@@ -29,12 +49,12 @@ unfoldable pub named_text : List ℕ → List ℕ
 named_text text = take 65537 text
 
 -- the number that a header meets; 0 where it is taken
-abbrev pub header_number : HeaderNumbers → ℕ
-header_number (sizes.Of n m) = 0
-header_number (sizes.Refused r) = number_of r
+abbrev pub header_number : Result (ℕ × ℕ) Refusal → ℕ
+header_number (Ok (n, m)) = 0
+header_number (Err r) = number_of r
 
 -- a text's header
-abbrev pub head_of : ℕ → List ℕ → HeaderNumbers
+abbrev pub head_of : ℕ → List ℕ → Result (ℕ × ℕ) Refusal
 head_of least text = (header_of least (without_remarks text)).sizes
 
 -- the call is taken

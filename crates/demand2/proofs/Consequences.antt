@@ -6,11 +6,11 @@ use Prim.Native.Nat.{ℕ, zero, suc, ◌+◌, ◌-◌, ◌^◌, ◌≤◌, ◌<�
 use native.Mathlib.Omega.{arith}
 use lib.Dec.{ltb}
 use borrow.Author.Tests.{ltb-true, ltb-false}
+use Rattle.std.specs.Prelude.{Ok}
 use Rattle.words.specs.declared.Row.{Row}
 use Rattle.words.specs.Sets.{bit}
 use Rattle.words.proofs.Truth.{on, and_l, and_r, and_i}
 use Rattle.refusals.specs.Checks.{outcome}
-use Rattle.refusals.specs.declared.Outcome.TheVariants.{Taken}
 use Rattle.dimensions.specs.declared.Dimensions.{Dimensions}
 use Rattle.tables.specs.Tables.{Tables}
 use Rattle.tables.specs.Rows.{row_at, rows_from, rows_of}
@@ -149,7 +149,7 @@ module _ (p : Row → Bool) where
       (λ h. numbered words (suc i) k (and_r (p (row_at words i)) _ e) j (ltb-true i j h) (omega arith))
       (λ h. let same : j ≡ i = omega (arith, ltb-false i j h) in ap (λ (k : ℕ). p (row_at words k)) same ∙ and_l (p (row_at words i)) _ e)
 
-module _ (d : Dimensions) (tables : Tables) (budget : ℕ) (accepted : outcome (table_checks d tables) ≡ Taken) where
+module _ (d : Dimensions) (tables : Tables) (budget : ℕ) (accepted : outcome (table_checks d tables) ≡ Ok tt) where
   abbrev answer : Answer
   answer = answer_of d.n (always (rows_of d tables)) budget
 

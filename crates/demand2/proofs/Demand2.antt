@@ -7,10 +7,10 @@ use native.Mathlib.Omega.{arith}
 use lib.Dec.{ltb}
 use lib.Pow.{pow_mono}
 use borrow.Author.Tests.{ltb-true, ltb-false}
+use Rattle.std.specs.Prelude.{Ok}
 use Rattle.words.specs.declared.Row.{Row}
 use Rattle.words.proofs.Truth.{on}
 use Rattle.refusals.specs.Checks.{outcome}
-use Rattle.refusals.specs.declared.Outcome.TheVariants.{Taken}
 use Rattle.words.specs.Sets.{bit}
 use Rattle.dimensions.specs.declared.Dimensions.{Dimensions}
 use Rattle.tables.specs.Tables.{Tables}
@@ -156,14 +156,14 @@ demand2_rows = demand2_with rule ruled
 -- ---- accepted tables
 
 -- by any ruling whose rule applies, under any budget, no row replaced
-pub demand2_tables : (ruling : Ruling) → Applies ruling → (d : Dimensions) (tables : Tables) (budget : ℕ) → outcome (table_checks d tables) ≡ Taken
+pub demand2_tables : (ruling : Ruling) → Applies ruling → (d : Dimensions) (tables : Tables) (budget : ℕ) → outcome (table_checks d tables) ≡ Ok tt
     → let rows = always (rows_of d tables) in Demand2With ruling d.n rows budget (answer_with ruling d.n rows budget)
 demand2_tables ruling applies d tables budget e =
     demand2_with ruling applies d.n (always (rows_of d tables)) (accepted d tables e).size.n-most (λ i. accepted-low d tables e)
     (λ i j b. grows_same d.n (rows_of d tables)) budget
 
 -- under any budget, no row replaced
-pub demand2 : (d : Dimensions) (tables : Tables) (budget : ℕ) → outcome (table_checks d tables) ≡ Taken
+pub demand2 : (d : Dimensions) (tables : Tables) (budget : ℕ) → outcome (table_checks d tables) ≡ Ok tt
     → let rows = always (rows_of d tables) in Demand2 d.n rows budget (answer_of d.n rows budget)
 unfolding after answer_of
 demand2 = demand2_tables rule ruled

@@ -4,7 +4,6 @@ use mathlib.Core.Path.{◌≡◌, refl, ap}
 use Prim.Native.Nat.{ℕ}
 use mathlib.Core.List.{List, [], ◌∷◌, map}
 use Rattle.words.specs.declared.Row.{Row}
-use Rattle.verdicts.specs.declared.Verdict.{Verdict}
 use Rattle.verdicts.specs.declared.Verdict.TheVariants.{Satisfiable, Unsatisfiable, Unknown}
 use Rattle.solver.specs.declared.Answer.{Answer}
 use Rattle.demand2.proofs.Marked.{Marked, table, asked, ten_marked}

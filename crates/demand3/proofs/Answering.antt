@@ -7,9 +7,9 @@ use Prim.Native.Nat.{ℕ, zero, suc, ◌+◌, ◌≤◌}
 use native.Mathlib.Omega.{arith}
 use lib.ListN.{length, replicate, length-map}
 use borrow.Author.Tests.{le-leb}
+use Rattle.std.specs.Prelude.{Ok, Err}
+use Rattle.refusals.specs.Numbers.{Outcome}
 use Rattle.refusals.specs.Checks.{given}
-use Rattle.refusals.specs.declared.Outcome.{Outcome}
-use Rattle.refusals.specs.declared.Outcome.TheVariants.{Taken, Refused}
 use Rattle.refusals.proofs.Outcomes.{refused-taken}
 use Rattle.words.specs.declared.Row.{Row}
 use Rattle.dimensions.specs.declared.Dimensions.{Dimensions}
@@ -24,9 +24,8 @@ use Rattle.solver.specs.Step.{always}
 use Rattle.solver.specs.Entries.{answer_of}
 use Rattle.solver.proofs.RunLaws.{run_is_of}
 use Rattle.netlist.specs.Netlist.{gates_on}
-use Rattle.repeats.specs.declared.Repeated.{Repeated}
 use Rattle.repeats.specs.Repeats.{Attempt, Repeat, last_run, long_enough, long_ones}
-use Rattle.repeats.specs.Repeating.{whole, made, repeated_by, refused_with, allowed, repeated}
+use Rattle.repeats.specs.Repeating.{Repeated, whole, made, repeated_by, refused_with, allowed, repeated}
 use Rattle.demand3.specs.Demand3.{history_of, answer_for}
 use Rattle.repeats.proofs.RepeatChecks.{sizes-taken, Passed, passed}
 use Rattle.demand3.proofs.Demand3.{demand3}
@@ -73,7 +72,7 @@ module _ (d : Dimensions) (tables : Tables) (budget : ℕ) (gates bytes wires : 
         (omega (arith, all_long d (whole d bytes wires) long budget, count_most d.n budget (always (rows_of d tables))))
 
   -- repeats and verdict of a call that is taken are the budgeted run's
-  pub repeat-answers : (repeated d tables budget gates bytes wires run).outcome ≡ Taken
+  pub repeat-answers : (repeated d tables budget gates bytes wires run).outcome ≡ Ok tt
       → answered (repeated d tables budget gates bytes wires run) ≡ answer_of d.n (always (rows_of d tables)) budget
   unfolding repeated allowed made run_of
   repeat-answers e = go (allowed d tables budget gates bytes wires run) refl e
@@ -81,7 +80,7 @@ module _ (d : Dimensions) (tables : Tables) (budget : ℕ) (gates bytes wires : 
       result : Outcome → Repeated
       result o = given o (repeated_by run history) (refused_with run)
 
-      go : (o : Outcome) → allowed d tables budget gates bytes wires run ≡ o → (result o).outcome ≡ Taken
+      go : (o : Outcome) → allowed d tables budget gates bytes wires run ≡ o → (result o).outcome ≡ Ok tt
           → answered (result o) ≡ answer_of d.n (always (rows_of d tables)) budget
-      go Taken q h = answer_is (passed d tables (length gates) (length bytes) (length wires) run q)
-      go (Refused r) q h = absurd (refused-taken h)
+      go (Ok _) q h = answer_is (passed d tables (length gates) (length bytes) (length wires) run q)
+      go (Err r) q h = absurd (refused-taken h)

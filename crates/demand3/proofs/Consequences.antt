@@ -9,8 +9,8 @@ use lib.Dec.{leb}
 use lib.ListN.{length, get_or, replicate, length-map, length-replicate, get_or-map}
 use lib.Seq.{ext_get_or}
 use borrow.Author.Tests.{le-leb}
+use Rattle.std.specs.Prelude.{None, Ok}
 use Rattle.refusals.specs.Checks.{outcome}
-use Rattle.refusals.specs.declared.Outcome.TheVariants.{Taken}
 use Rattle.words.specs.declared.Row.{Row}
 use Rattle.words.proofs.Truth.{on, and_i}
 use Rattle.dimensions.specs.declared.Dimensions.{Dimensions}
@@ -33,7 +33,6 @@ use Rattle.wires.specs.Layout.{state_bits}
 use Rattle.wires.specs.Packing.{input_bits}
 use Rattle.netlist.specs.Netlist.{gates_on}
 use Rattle.netlist.specs.Outputs.{closed, output_bits, outputs_in}
-use Rattle.bristol.specs.declared.WrittenLine.TheVariants.{Past}
 use Rattle.bristol.specs.Writing.{line_at, written_line, requested}
 use Rattle.repeats.specs.Repeats.{Attempt, Lent, Repeat, circuit_words, marks, last_run, repeats_ended, long_enough, long_ones}
 use Rattle.demand3.proofs.Histories.{repeated, repeated-length, repeated-at}
@@ -194,10 +193,10 @@ module _ (d : Dimensions) (x : Demand3 d) where
 
   -- ---- two hosts
 
-  module _ (sizes : outcome (size_checks d) ≡ Taken) where
+  module _ (sizes : outcome (size_checks d) ≡ Ok tt) where
     -- it sees the circuit's text, whatever it lends, and is told that there is no more line
     pub host_sees_lem : (tables : ℕ → Tables) (budget : ℕ) (attempts : List Attempt) (lent : ℕ → List ℕ) → Room d lent → (k : ℕ) → 4 + length (gates_on d) ≤ k
-        → (hosted d tables budget attempts lent k ≡ seen d tables budget attempts) × (written_line d (circuit_words d) k (lent k) ≡ Past)
+        → (hosted d tables budget attempts lent k ≡ seen d tables budget attempts) × (written_line d (circuit_words d) k (lent k) ≡ Ok None)
     host_sees_lem tables budget attempts lent room k h =
         let s = seen d tables budget attempts in
         let t = x.text sizes lent room k h in

@@ -7,9 +7,9 @@ use native.Mathlib.Omega.{arith}
 use lib.Dec.{ltb}
 use lib.ListN.{length, get_or, length-map}
 use borrow.Author.Tests.{eq-eqb, ne_eqb, ltb-true, ltb-false}
+use Rattle.std.specs.Prelude.{Ok}
 use Rattle.refusals.specs.Checks.{check, outcome}
 use Rattle.refusals.specs.declared.Refusal.TheVariants.{Gates}
-use Rattle.refusals.specs.declared.Outcome.TheVariants.{Taken}
 use Rattle.refusals.proofs.Outcomes.{outcome-taken}
 use Rattle.words.specs.declared.Row.{Row}
 use Rattle.words.specs.Sets.{any}
@@ -201,12 +201,12 @@ same_seen d tables tables' acc acc' same budget attempts attempts' q e e' =
 -- ---- the text
 
 -- the writer takes the circuit's words
-writer_takes : (d : Dimensions) → outcome (size_checks d) ≡ Taken → outcome (circuit_checks d (circuit_words d)) ≡ Taken
+writer_takes : (d : Dimensions) → outcome (size_checks d) ≡ Ok tt → outcome (circuit_checks d (circuit_words d)) ≡ Ok tt
 writer_takes d e =
     outcome-taken (size_checks d) (check (not (accepted (input_wires d) (circuit_words d))) Gates ∷ []) e ∙ rw (words-accepted d e)
 
 -- of dimensions within their limits: for others no circuit is made
-pub demand3 : (d : Dimensions) → outcome (size_checks d) ≡ Taken → Demand3 d
+pub demand3 : (d : Dimensions) → outcome (size_checks d) ≡ Ok tt → Demand3 d
 unfolding circuit_words
 demand3 d fits = record {
   every_state = gates_carry_out d fits;

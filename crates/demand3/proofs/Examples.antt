@@ -7,6 +7,7 @@ use mathlib.Core.List.{List, [], ◌∷◌}
 use Prim.Native.Nat.{ℕ, zero, suc, ◌+◌, ◌≤◌, ◌<◌}
 use native.Mathlib.Omega.{arith}
 use lib.ListN.{length, get_or, replicate}
+use Rattle.std.specs.Prelude.{Ok}
 use Rattle.refusals.specs.declared.Refusal.TheVariants.{State}
 use Rattle.words.specs.declared.Row.{Row}
 use Rattle.words.specs.Sets.{bit, put, any, count, lowest}
@@ -24,7 +25,6 @@ use Rattle.solver.specs.Entries.{answer_of}
 use Rattle.answers.specs.Printed.{answer_text}
 use Rattle.netlist.specs.Netlist.{gates_on}
 use Rattle.netlist.specs.Outputs.{closed}
-use Rattle.refusals.specs.declared.Outcome.TheVariants.{Taken}
 use Rattle.repeats.specs.Repeats.{Attempt, Lent, Otherwise, repeats, last_run, repeats_ended, long_ones}
 use Rattle.repeats.specs.Repeating.{repeated}
 use Rattle.demand3.proofs.Answering.{answered, repeat-answers}
@@ -104,7 +104,7 @@ unfolding repeats last_run run_of
 nothing_seen = refl
 
 -- one call of `repeat` on the fresh run, where it is taken
-pub marked_call : (gates bytes wires : List ℕ) → (repeated small (marked 0) 9 gates bytes wires (run_of 2 fresh)).outcome ≡ Taken
+pub marked_call : (gates bytes wires : List ℕ) → (repeated small (marked 0) 9 gates bytes wires (run_of 2 fresh)).outcome ≡ Ok tt
     → answered (repeated small (marked 0) 9 gates bytes wires (run_of 2 fresh)) ≡ answer 3 (Satisfiable 2)
 marked_call gates bytes wires e = repeat-answers small (marked 0) 9 gates bytes wires e ∙ marked-answer
 

@@ -1,8 +1,7 @@
 -- Demand 3, as one statement about the generated circuit of some dimensions: every state, history, end, text and secrecy.
 -- Ask: Is the list of attempts any list?
-use Rattle.std.specs.Prelude.{ℕ, suc, ◌+◌, ◌≤◌, ◌<◌, min, ◌≡◌, Bool, true, List, length, get_or}
+use Rattle.std.specs.Prelude.{ℕ, suc, ◌+◌, ◌≤◌, ◌<◌, min, ◌≡◌, Bool, true, List, length, get_or, None, Ok}
 use Rattle.refusals.specs.Checks.{outcome}
-use Rattle.refusals.specs.declared.Outcome.TheVariants.{Taken}
 use Rattle.words.specs.declared.Row.{Row}
 use Rattle.dimensions.specs.declared.Dimensions.{Dimensions}
 use Rattle.dimensions.specs.Sizes.{size_checks}
@@ -18,7 +17,6 @@ use Rattle.netlist.specs.Netlist.{gates_on}
 use Rattle.netlist.specs.Outputs.{CarriesOut}
 use Rattle.answers.specs.Printed.{answer_text}
 use Rattle.bristol.specs.Text.{circuit_text}
-use Rattle.bristol.specs.declared.WrittenLine.TheVariants.{Past}
 use Rattle.bristol.specs.Writing.{line_at, written_line, requested}
 use Rattle.repeats.specs.Repeats.{Accepts, Attempt, Repeat, returned, circuit_words, marks, last_run, repeats, repeats_ended, long_ones}
 
@@ -91,9 +89,9 @@ pub record Demand3 (d : Dimensions) : Type 0 where
       → answer_in d.n (history_of d tables budget attempts) ≡ answer_for d tables budget)
       × ((answer_for d tables budget).count ≤ long_ones d attempts → repeats_ended budget (history_of d tables budget attempts) ≡ true)
   -- the writer, asked for line 0, 1, 2, … with room for each, puts lines that joined are the text, and says then that it has no more
-  pub text : outcome (size_checks d) ≡ Taken
+  pub text : outcome (size_checks d) ≡ Ok tt
       → (lent : ℕ → List ℕ) → ((i : ℕ) → length (line_at d (circuit_words d) i) ≤ length (lent i)) → (k : ℕ) → 4 + length (gates_on d) ≤ k
-      → (requested d (circuit_words d) lent 0 k ≡ circuit_text_of d) × (written_line d (circuit_words d) k (lent k) ≡ Past)
+      → (requested d (circuit_words d) lent 0 k ≡ circuit_text_of d) × (written_line d (circuit_words d) k (lent k) ≡ Ok None)
   -- two pairs of tables with the same public rows, wherever their replacements fell, under one budget that agree in verdict, model and
   -- count, each with attempts of its own
   pub secrecy : (tables tables' : ℕ → Tables) → AllAccepts d tables → AllAccepts d tables' → SamePublic d tables tables'

@@ -5,15 +5,13 @@ use mathlib.Core.Path.{◌≡◌, refl, sym, ap, ◌∙◌}
 use mathlib.Core.List.{List}
 use Prim.Native.Nat.{ℕ, ◌≤◌, min}
 use native.Mathlib.Omega.{arith}
-use Rattle.refusals.specs.declared.Outcome.TheVariants.{Taken}
+use Rattle.std.specs.Prelude.{Ok}
 use Rattle.dimensions.specs.declared.Dimensions.{Dimensions}
 use Rattle.tables.specs.Tables.{Tables}
-use Rattle.dimacs.specs.declared.TextTables.{TextTables}
-use Rattle.dimacs.specs.ThreeTexts.{text_tables}
+use Rattle.dimacs.specs.ThreeTexts.{ThreeTables, text_tables}
 use Rattle.dimacs.proofs.Accepted.{accepted-texts}
 use Rattle.solver.specs.Entries.{answer_of}
 use Rattle.lines.specs.Numbers.{budget_of}
-use Rattle.lines.specs.declared.Budget.TheVariants as budget
 use Rattle.answers.specs.Printed.{answer_text, solved_text}
 use Rattle.reply.specs.Reply.{dimensions_of, tables_in, reply_text}
 use Rattle.reply.proofs.Accepted.{n-high, tables-taken, rows_read, reply-answers}
@@ -25,8 +23,8 @@ use Rattle.demand3.specs.Demand3.{history_of, answer_for, answer_in, Follows, se
 use Rattle.demand3.proofs.Demand3.{demand3}
 use Rattle.demand3.proofs.Consequences.{answer-is}
 
-module _ (left right public : List ℕ) (taken : (text_tables left right public).outcome ≡ Taken) where
-  abbrev pub read : TextTables
+module _ (left right public : List ℕ) (taken : (text_tables left right public).outcome ≡ Ok tt) where
+  abbrev pub read : ThreeTables
   read = text_tables left right public
 
   abbrev pub sizes : Dimensions
@@ -51,7 +49,7 @@ module _ (left right public : List ℕ) (taken : (text_tables left right public)
   reply-history = circuit_demand3.history tables read-accepted
 
   -- at the end the composed answer is the pair program's
-  pub reply_demand3 : (line : List ℕ) (steps : ℕ) → budget_of line ≡ budget.Of steps → (attempts : List Attempt)
+  pub reply_demand3 : (line : List ℕ) (steps : ℕ) → budget_of line ≡ Ok steps → (attempts : List Attempt)
       → (answer_for sizes tables steps).count ≤ long_ones sizes attempts → (seen sizes tables steps attempts).3 ≡ reply_text left right public line
   unfolding reply_text
   reply_demand3 line steps e attempts long =
@@ -61,7 +59,7 @@ module _ (left right public : List ℕ) (taken : (text_tables left right public)
       ∙ sym (ap (solved_text read.n) (reply-answers left right public line steps taken e))
 
   -- the text of the answer that the repeats give
-  pub reply_printed : (line : List ℕ) (steps : ℕ) → budget_of line ≡ budget.Of steps → (attempts : List Attempt)
+  pub reply_printed : (line : List ℕ) (steps : ℕ) → budget_of line ≡ Ok steps → (attempts : List Attempt)
       → (answer_for sizes tables steps).count ≤ long_ones sizes attempts
       → answer_text (min read.n 32) (answer_in read.n (history_of sizes tables steps attempts)) ≡ reply_text left right public line
   reply_printed = reply_demand3

@@ -9,12 +9,12 @@ use lib.Dec.{eqb, ltb}
 use lib.Pow.{pow_pos}
 use lib.ListN.{length, get_or, replicate, length-append, length-replicate}
 use borrow.Author.Tests.{eqb-true, not-false}
+use Rattle.std.specs.Prelude.{Ok, Err}
 use Rattle.words.proofs.Truth.{on, and_l, and_r, or_l, or_r}
 use Rattle.lexer.specs.Remarks.{without_remarks}
 use Rattle.lexer.specs.Pieces.{Piece, tokens_from}
 use Rattle.refusals.specs.declared.Refusal.{Refusal}
 use Rattle.refusals.specs.declared.Refusal.TheVariants as R
-use Rattle.refusals.specs.declared.Outcome.TheVariants.{Taken, Refused}
 use Rattle.refusals.specs.Checks.{given}
 use Rattle.refusals.proofs.Outcomes.{refused-taken, check_passed}
 use Rattle.dimensions.specs.Sizes.{most_variables, most_rows}
@@ -24,10 +24,8 @@ use Rattle.clauses.specs.Rows.{words_of_rows}
 use Rattle.clauses.specs.Clauses.{Reading, clause, ended, unreadable, clauses, clause_rows, complete}
 use Rattle.clauses.proofs.Literals.{below, row_lt}
 use Rattle.clauses.proofs.Reading.{is_below_all, clauses-below}
-use Rattle.dimacs.specs.Text.{refused, body_of, from_header, table_of}
-use Rattle.dimacs.specs.ThreeTexts.{shared_n, texts_outcome, text_tables}
-use Rattle.dimacs.specs.declared.Table.{Table}
-use Rattle.dimacs.specs.declared.TextTables.{TextTables}
+use Rattle.dimacs.specs.Text.{TextTable, refused, body_of, from_header, table_of}
+use Rattle.dimacs.specs.ThreeTexts.{ThreeTables, shared_n, texts_outcome, text_tables}
 use Rattle.dimacs.proofs.Fill.{words-length}
 use Rattle.dimacs.proofs.ThreeTexts.{given-taken, outcome-is, by-outcome}
 
@@ -57,8 +55,8 @@ pub record Within (least n rows : ℕ) (words : List ℕ) : Type 0 where
   pub sized : length words ≡ 256
   pub no_high-bit : (i : ℕ) → get_or words i 0 < 2 ^ n
 
-abbrev Fine : ℕ → Table → Type 0
-Fine least t = t.outcome ≡ Taken → Within least t.n t.rows t.words
+abbrev Fine : ℕ → TextTable → Type 0
+Fine least t = t.outcome ≡ Ok tt → Within least t.n t.rows t.words
 
 refused-fine : (least : ℕ) (r : Refusal) → Fine least (refused r)
 refused-fine least r e = absurd (refused-taken e)
@@ -91,14 +89,14 @@ accepted_text least text =
 
 -- ---- three accepted texts
 
-module _ (l r p : Table) (taken : texts_outcome l r p ≡ Taken) where
-  left-taken : (l.outcome ≡ Taken) × (given r.outcome (given p.outcome (shared_n l r p) Refused) Refused ≡ Taken)
-  left-taken = given-taken l.outcome (given r.outcome (given p.outcome (shared_n l r p) Refused) Refused) taken
+module _ (l r p : TextTable) (taken : texts_outcome l r p ≡ Ok tt) where
+  left-taken : (l.outcome ≡ Ok tt) × (given r.outcome (given p.outcome (shared_n l r p) Err) Err ≡ Ok tt)
+  left-taken = given-taken l.outcome (given r.outcome (given p.outcome (shared_n l r p) Err) Err) taken
 
-  right_taken : (r.outcome ≡ Taken) × (given p.outcome (shared_n l r p) Refused ≡ Taken)
-  right_taken = given-taken r.outcome (given p.outcome (shared_n l r p) Refused) left-taken.1
+  right_taken : (r.outcome ≡ Ok tt) × (given p.outcome (shared_n l r p) Err ≡ Ok tt)
+  right_taken = given-taken r.outcome (given p.outcome (shared_n l r p) Err) left-taken.1
 
-  public_taken : (p.outcome ≡ Taken) × (shared_n l r p ≡ Taken)
+  public_taken : (p.outcome ≡ Ok tt) × (shared_n l r p ≡ Ok tt)
   public_taken = given-taken p.outcome (shared_n l r p) right_taken.1
 
   -- they agree in n
@@ -106,26 +104,26 @@ module _ (l r p : Table) (taken : texts_outcome l r p ≡ Taken) where
   same-n =
       let right : Bool = eqb l.n r.n in
       let public : Bool = eqb l.n p.n in
-      let agree : not right || not public ≡ false = check_passed (not right || not public) R.TextsDiffer Taken public_taken.1 in (
+      let agree : not right || not public ≡ false = check_passed (not right || not public) R.TextsDiffer (Ok tt) public_taken.1 in (
         eqb-true l.n r.n (not-false right (or_l (not right) (not public) agree)),
         eqb-true l.n p.n (not-false public (or_r (not right) (not public) agree)),
       )
 
 -- refusals 1 to 4 do not apply to the tables that are read
-pub record AllWithin (t : TextTables) : Type 0 where
+pub record AllWithin (t : ThreeTables) : Type 0 where
   pub left : Within 1 t.n t.left_rows t.left
   pub right : Within 1 t.n t.right_rows t.right
   pub public : Within 0 t.n t.public_rows t.public
 
 -- where three texts are taken, the tables read from them have 256 words each, and refusals 1 to 4 do not apply to them
-pub accepted-texts : (left right public : List ℕ) → (text_tables left right public).outcome ≡ Taken → AllWithin (text_tables left right public)
+pub accepted-texts : (left right public : List ℕ) → (text_tables left right public).outcome ≡ Ok tt → AllWithin (text_tables left right public)
 accepted-texts left right public taken =
     let l = table_of 1 left in
     let r = table_of 1 right in
     let p = table_of 0 public in
     let e = sym (outcome-is l r p) ∙ taken in
     let same = same-n l r p e in
-    subst AllWithin (sym (by-outcome l r p Taken e))
+    subst AllWithin (sym (by-outcome l r p (Ok tt) e))
     (record {
       left = accepted_text 1 left (left-taken l r p e).0;
       right = subst (λ (n : ℕ). Within 1 n r.rows r.words) (sym same.0) (accepted_text 1 right (right_taken l r p e).0);

@@ -8,21 +8,19 @@ use native.Mathlib.Omega.{arith}
 use lib.Dec.{eqb, ltb}
 use lib.ListN.{length}
 use borrow.Author.Tests.{eqb-true}
+use Rattle.std.specs.Prelude.{Ok, Err}
 use Rattle.words.specs.Booleans.{digit}
 use Rattle.words.proofs.Truth.{on}
 use Rattle.lexer.specs.Remarks.{without_remarks}
 use Rattle.lexer.specs.Pieces.{tokens_from}
-use Rattle.refusals.specs.Numbers.{number_of, code_of}
+use Rattle.refusals.specs.Numbers.{Outcome, number_of, code_of}
 use Rattle.refusals.specs.Checks.{given}
 use Rattle.refusals.specs.declared.Refusal.TheVariants.{TextsDiffer}
-use Rattle.refusals.specs.declared.Outcome.{Outcome}
-use Rattle.refusals.specs.declared.Outcome.TheVariants.{Taken, Refused}
 use Rattle.header.specs.Header.{header_of}
 use Rattle.header.proofs.Limits.{header_either}
 use Rattle.clauses.specs.Clauses.{Reading, clauses, clause_rows, complete}
-use Rattle.dimacs.specs.Text.{body_of, from_header, table_of}
+use Rattle.dimacs.specs.Text.{TextTable, body_of, from_header, table_of}
 use Rattle.dimacs.specs.ThreeTexts.{texts_outcome, text_tables}
-use Rattle.dimacs.specs.declared.Table.{Table}
 use Rattle.dimacs.proofs.ThreeTexts.{outcome-is}
 
 -- how many of 0, 1, 2 and 5 a number is
@@ -56,17 +54,17 @@ not-six k e =
     (λ t. absurd (let z : ◌≡◌ {A = ℕ} 0 1 = sym (ap one_of (eqb-true k 6 t)) ∙ e in omega arith))
     (λ t. rw t (add-zero (one_of k) ∙ e))
 
-tables-ending : (l r p : Table) → one_of (code_of l.outcome) ≡ 1 → one_of (code_of r.outcome) ≡ 1 → one_of (code_of p.outcome) ≡ 1
+tables-ending : (l r p : TextTable) → one_of (code_of l.outcome) ≡ 1 → one_of (code_of r.outcome) ≡ 1 → one_of (code_of p.outcome) ≡ 1
     → one_of_all (code_of (texts_outcome l r p)) ≡ 1
 tables-ending l r p = go l.outcome r.outcome p.outcome (not (eqb l.n r.n) || not (eqb l.n p.n))
   where
     go : (o q s : Outcome) (t : Bool) → one_of (code_of o) ≡ 1 → one_of (code_of q) ≡ 1 → one_of (code_of s) ≡ 1
-        → one_of_all (code_of (given o (given q (given s (cond t (Refused TextsDiffer) Taken) Refused) Refused) Refused)) ≡ 1
-    go (Refused x) q s t ho hq hs = not-six (number_of x) ho
-    go Taken (Refused x) s t ho hq hs = not-six (number_of x) hq
-    go Taken Taken (Refused x) t ho hq hs = not-six (number_of x) hs
-    go Taken Taken Taken true ho hq hs = refl
-    go Taken Taken Taken false ho hq hs = refl
+        → one_of_all (code_of (given o (given q (given s (cond t (Err TextsDiffer) (Ok tt)) Err) Err) Err)) ≡ 1
+    go (Err x) q s t ho hq hs = not-six (number_of x) ho
+    go (Ok _) (Err x) s t ho hq hs = not-six (number_of x) hq
+    go (Ok _) (Ok _) (Err x) t ho hq hs = not-six (number_of x) hs
+    go (Ok _) (Ok _) (Ok _) true ho hq hs = refl
+    go (Ok _) (Ok _) (Ok _) false ho hq hs = refl
 
 pub texts-ending : (left right public : List ℕ) → one_of_all (code_of (text_tables left right public).outcome) ≡ 1
 texts-ending left right public =

@@ -7,16 +7,15 @@ use native.Mathlib.Omega.{arith}
 use lib.Dec.{eqb, eqb-zero-suc, eqb-suc-zero, eqb-suc-suc}
 use lib.ListN.{length, drop, set, replicate, length-replicate, length-set}
 use lib.Seq.{sets, sets-eq}
+use Rattle.std.specs.Prelude.{Ok}
 use Rattle.refusals.specs.declared.Refusal.TheVariants.{Text}
-use Rattle.refusals.specs.declared.Outcome.TheVariants.{Taken}
 use Rattle.words.specs.declared.Row.{Row}
 use Rattle.clauses.specs.Rows.{words_of_rows}
 use Rattle.clauses.specs.Clauses.{Reading, clause, ended, unreadable, clause_rows, complete}
-use Rattle.dimacs.specs.Text.{refused, body_of}
+use Rattle.dimacs.specs.Text.{TextTable, refused, body_of}
 use Rattle.clauses.specs.First.{clauses_from, first}
 use Rattle.clauses.specs.declared.Clause.{Clause}
 use Rattle.clauses.specs.declared.Clause.TheVariants.{Read, End}
-use Rattle.dimacs.specs.declared.Table.{Table}
 use Rattle.clauses.proofs.Reading.{read_is}
 
 -- m clauses, and then the end
@@ -141,7 +140,7 @@ module _ {n m : ℕ} {text : List ℕ} {start : ℕ} {words : List ℕ} {at k : 
     overfull y e q = rw (counts-is m (clauses_from n text start) ∙ sym none_left ∙ not-ended (clauses_from n text at) (subst (λ (z : Clause). z ≡ End → ⊥) e q))
 
     pub full : m ≤ 128 → first (clauses_from n text at) ≡ End
-        → ◌≡◌ {A = Table} (record { outcome = Taken; n = n; rows = m; words = words }) (body_of n m (clauses_from n text start))
+        → ◌≡◌ {A = TextTable} (record { outcome = Ok tt; n = n; rows = m; words = words }) (body_of n m (clauses_from n text start))
     full b e =
         let x = clauses_from n text start in
         let last = is-ended (clauses_from n text at) e in
@@ -150,5 +149,5 @@ module _ {n m : ℕ} {text : List ℕ} {start : ℕ} {words : List ℕ} {at k : 
         let fill : words ≡ sets (replicate 256 0) 0 (words_of_rows (clause_rows x)) =
         sym (ap (λ (y : Reading). sets words (2 * k) (words_of_rows (clause_rows y))) last) ∙ F.filled in
         rw (counts-is m x ∙ all)
-        (ap₂ (λ (i : ℕ) (l : List ℕ). record { outcome = Taken; n = n; rows = i; words = l }) (sym rows)
+        (ap₂ (λ (i : ℕ) (l : List ℕ). record { outcome = Ok tt; n = n; rows = i; words = l }) (sym rows)
         (fill ∙ words-all 256 (clause_rows x) (omega arith)))

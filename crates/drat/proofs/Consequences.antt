@@ -1,12 +1,11 @@
 -- What the two theorems on accepted proofs are good for. From their statements alone: one that said less would be refused here.
-use mathlib.Core.Path.{◌≡◌, refl}
-use mathlib.Core.Bool.{Bool, true, false, ◌&&◌, ◌||◌, false≢true}
+use Rattle.std.specs.Prelude.{Some, Ok}
+use mathlib.Core.Path.{◌≡◌}
+use mathlib.Core.Bool.{Bool, true, false, false≢true}
 use mathlib.Core.List.{List, [], ◌∷◌, ◌++◌}
-use mathlib.Core.Option.{some}
 use Prim.Native.Nat.{ℕ, suc, ◌-◌, ◌^◌, ◌≤◌}
 use lib.ListN.{length}
 use Rattle.refusals.specs.Checks.{outcome}
-use Rattle.refusals.specs.declared.Outcome.TheVariants.{Taken}
 use Rattle.refusals.proofs.Outcomes.{outcome_parts}
 use Rattle.words.specs.declared.Row.{Row}
 use Rattle.words.proofs.Truth.{and_l, and_r, and_i, on}
@@ -30,7 +29,7 @@ use Rattle.drat.proofs.Refutation.{accepted-none, all-accepted}
 module _ (d : Dimensions) (tables : Tables) where
   -- ---- an accepted text
 
-  module _ (text : List ℕ) (h : outcome (proof_checks d tables text) ≡ Taken) where
+  module _ (text : List ℕ) (h : outcome (proof_checks d tables text) ≡ Ok tt) where
     -- every assignment makes some row of the tables false
     pub accepted-row : (a : ℕ → Bool) → (r : Row) × In r (rows_of d tables) × (row_true a r ≡ false)
     unfolding all_true
@@ -64,9 +63,9 @@ module _ (d : Dimensions) (tables : Tables) where
   follow-behind (deleted c ∷ ls) more rows e f = follow-behind ls more (without c rows) e f
 
   -- lines after the empty clause are read for form only: with any well-formed ones there, up to 256 additions in all, a proof is accepted
-  pub behind-accepted : outcome (table_checks d tables) ≡ Taken → (text : List ℕ) → length text ≤ 65536
-      → (front more : List ProofLine) → proof_lines d.n (lines_from text 0) ≡ some (front ++ more) → additions (front ++ more) ≤ 256
-      → all_follow (rows_of d tables) front ≡ true → adds_empty front ≡ true → outcome (proof_checks d tables text) ≡ Taken
+  pub behind-accepted : outcome (table_checks d tables) ≡ Ok tt → (text : List ℕ) → length text ≤ 65536
+      → (front more : List ProofLine) → proof_lines d.n (lines_from text 0) ≡ Some (front ++ more) → additions (front ++ more) ≤ 256
+      → all_follow (rows_of d tables) front ≡ true → adds_empty front ≡ true → outcome (proof_checks d tables text) ≡ Ok tt
   behind-accepted taken text short front more read few follow empty =
       all-accepted d tables text taken short (front ++ more) read few (follow-behind front more (rows_of d tables) empty follow)
       (adds_behind front more empty)

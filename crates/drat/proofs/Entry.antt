@@ -1,15 +1,14 @@
 -- The entry's checks in order: the tables', an overlong text, then what its lines come to.
 use mathlib.Core.Path.{◌≡◌, sym, ap, ◌∙◌}
-use mathlib.Core.Bool.{cond}
 use mathlib.Core.List.{List, ◌++◌, append_assoc}
 use Prim.Native.Nat.{ℕ, ◌≤◌, ◌<◌}
 use lib.ListN.{length}
 use borrow.Author.Tests.{lt-ltb, le-ltb}
+use Rattle.std.specs.Prelude.{Ok, Err}
+use Rattle.refusals.specs.Numbers.{Outcome}
 use Rattle.refusals.specs.Checks.{outcome}
 use Rattle.refusals.specs.declared.Refusal.{Refusal}
 use Rattle.refusals.specs.declared.Refusal.TheVariants.{ProofText}
-use Rattle.refusals.specs.declared.Outcome.{Outcome}
-use Rattle.refusals.specs.declared.Outcome.TheVariants.{Taken, Refused}
 use Rattle.refusals.proofs.Outcomes.{outcome-taken, outcome-refused}
 use Rattle.words.specs.declared.Row.{Row}
 use Rattle.lexer.specs.Pieces.{lines_from}
@@ -31,14 +30,14 @@ all-rows d tables none x y z e₀ e₁ e₂ e₃ =
 
 module _ (d : Dimensions) (tables : Tables) (text : List ℕ) where
   -- what the tables are refused with, the proof is refused with
-  pub tables-refused : (q : Refusal) → outcome (table_checks d tables) ≡ Refused q → Refused q ≡ outcome (proof_checks d tables text)
+  pub tables-refused : (q : Refusal) → outcome (table_checks d tables) ≡ Err q → Err q ≡ outcome (proof_checks d tables text)
   tables-refused q e = sym (outcome-refused (table_checks d tables) (proof_text_checks (rows_of d tables) (proof_of d.n text)) q e)
 
-  module _ (taken : outcome (table_checks d tables) ≡ Taken) where
+  module _ (taken : outcome (table_checks d tables) ≡ Ok tt) where
     rest : outcome (proof_checks d tables text) ≡ outcome (proof_text_checks (rows_of d tables) (proof_of d.n text))
     rest = outcome-taken (table_checks d tables) (proof_text_checks (rows_of d tables) (proof_of d.n text)) taken
 
-    pub overlong : 65536 < length text → Refused ProofText ≡ outcome (proof_checks d tables text)
+    pub overlong : 65536 < length text → Err ProofText ≡ outcome (proof_checks d tables text)
     unfolding proof_of
     overlong h = sym (rest ∙ rw (lt-ltb 65536 (length text) h))
 

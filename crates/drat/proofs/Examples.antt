@@ -1,12 +1,11 @@
 -- Small texts against the rows (1 2), (1 -2), (-1 2) and (-1 -2), computed: 0, 18, 19 or 20. And what an accepted one shows of these rows.
 use mathlib.Core.Path.{◌≡◌, refl}
 use mathlib.Core.Bool.{Bool, false}
-use mathlib.Core.List.{List, [], ◌∷◌}
+use mathlib.Core.List.{[], ◌∷◌}
 use Prim.Native.Nat.{ℕ}
 use Prim.Native.String.{String}
 use Rattle.refusals.specs.Numbers.{code_of}
 use Rattle.refusals.specs.Checks.{outcome}
-use Rattle.refusals.specs.declared.Outcome.TheVariants.{Taken}
 use Rattle.words.specs.declared.Row.{Row}
 use Rattle.words.specs.Sets.{bit, put, any, count, lowest}
 use Rattle.lexer.specs.Spelling.{bytes}

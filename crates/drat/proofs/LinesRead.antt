@@ -1,19 +1,18 @@
 -- What a line makes of a text under way, for each way that code takes.
+use Rattle.refusals.specs.Numbers.{Outcome}
+use Rattle.std.specs.Prelude.{Some, None, Err}
 use mathlib.Core.Path.{◌≡◌, refl, sym, ap, ap₂, ◌∙◌}
-use mathlib.Core.Bool.{Bool, true, false, ◌||◌, cond, or-true}
+use mathlib.Core.Bool.{Bool, true, ◌||◌, cond, or-true}
 use mathlib.Core.List.{List, ◌∷◌}
-use mathlib.Core.Option.{Option, none, some}
 use Prim.Native.Nat.{ℕ, suc, ◌+◌, ◌≤◌, ◌<◌}
 use native.Mathlib.Omega.{arith}
 use lib.Dec.{ltb}
 use lib.ListN.{length}
 use borrow.Author.Tests.{lt-ltb}
 use Rattle.refusals.specs.declared.Refusal.TheVariants.{ProofText}
-use Rattle.refusals.specs.declared.Outcome.{Outcome}
-use Rattle.refusals.specs.declared.Outcome.TheVariants.{Refused}
 use Rattle.words.specs.declared.Row.{Row}
 use Rattle.drat.specs.declared.rup.Progress.{Progress}
-use Rattle.drat.specs.Proofs.{ProofLine, added, deleted, additions}
+use Rattle.drat.specs.Proofs.{added, deleted, additions}
 use Rattle.drat.specs.Progress.{outcome_with, Takes}
 use Rattle.drat_line.specs.declared.Said.{Said}
 use Rattle.drat_line.specs.declared.Said.TheVariants.{Nothing, Added, Deleted, Malformed}
@@ -29,15 +28,15 @@ abbrev failed : Checker → Checker
 failed checker = record { progress = checker.progress; additions = checker.additions; malformed = true }
 
 pub reads_malformed : (checker : Checker) (w : List ℕ) → Reads Malformed checker w (failed checker) w
-reads_malformed checker w none = refl
-reads_malformed checker w (some ls) = refl
+reads_malformed checker w None = refl
+reads_malformed checker w (Some ls) = refl
 
 module _ (checker : Checker) (w : List ℕ) (c : Row) where
   -- one addition too many
   pub reads_over : 256 ≤ checker.additions → Reads (Added c) checker w (failed checker) w
   unfolding additions
-  reads_over h none = refl
-  reads_over h (some ls) = sym (ap (λ (b : Bool). cond b (Refused ProofText) (outcome_with checker.progress w (added c ∷ ls))) over)
+  reads_over h None = refl
+  reads_over h (Some ls) = sym (ap (λ (b : Bool). cond b (Err ProofText) (outcome_with checker.progress w (added c ∷ ls))) over)
     where
       over : checker.malformed || ltb 256 (checker.additions + additions (added c ∷ ls)) ≡ true
       over = rw (lt-ltb 256 (checker.additions + suc (additions ls)) (omega arith)) (or-true checker.malformed)
@@ -45,9 +44,9 @@ module _ (checker : Checker) (w : List ℕ) (c : Row) where
   pub reads-added : (p : Progress) (y : List ℕ) → Takes (added c) checker.progress w p y
       → Reads (Added c) checker w (record { progress = p; additions = checker.additions + 1; malformed = checker.malformed }) y
   unfolding additions
-  reads-added p y h none = refl
-  reads-added p y h (some ls) =
-      ap₂ (λ (k : ℕ) (r : Outcome). cond (checker.malformed || ltb 256 k) (Refused ProofText) r) same (h ls)
+  reads-added p y h None = refl
+  reads-added p y h (Some ls) =
+      ap₂ (λ (k : ℕ) (r : Outcome). cond (checker.malformed || ltb 256 k) (Err ProofText) r) same (h ls)
     where
       same : checker.additions + 1 + additions ls ≡ checker.additions + additions (added c ∷ ls)
       same = omega arith
@@ -55,9 +54,9 @@ module _ (checker : Checker) (w : List ℕ) (c : Row) where
   pub reads_deleted : (p : Progress) (y : List ℕ) → Takes (deleted c) checker.progress w p y
       → Reads (Deleted c) checker w (record { progress = p; additions = checker.additions; malformed = checker.malformed }) y
   unfolding additions
-  reads_deleted p y h none = refl
-  reads_deleted p y h (some ls) =
-      ap₂ (λ (k : ℕ) (r : Outcome). cond (checker.malformed || ltb 256 k) (Refused ProofText) r) same (h ls)
+  reads_deleted p y h None = refl
+  reads_deleted p y h (Some ls) =
+      ap₂ (λ (k : ℕ) (r : Outcome). cond (checker.malformed || ltb 256 k) (Err ProofText) r) same (h ls)
     where
       same : checker.additions + additions ls ≡ checker.additions + additions (deleted c ∷ ls)
       same = refl

@@ -1,15 +1,14 @@
 -- What a line makes of a proof under way, for each way that code takes.
 use mathlib.Core.Path.{◌≡◌, refl, sym, ap, ◌∙◌}
-use mathlib.Core.Bool.{Bool, true, false, not, ◌&&◌, ◌||◌, cond}
+use mathlib.Core.Bool.{Bool, true, false}
 use mathlib.Core.List.{List, [], ◌∷◌, ◌++◌}
 use Prim.Native.Nat.{ℕ, ◌+◌, ◌*◌, ◌≤◌}
-use lib.Dec.{eqb}
 use lib.Bits.{bit_or}
 use lib.ListN.{length, take}
 use borrow.Author.Tests.{eq-eqb, ne_eqb}
+use Rattle.std.specs.Prelude.{Ok, Err}
 use Rattle.refusals.specs.Checks.{outcome}
 use Rattle.refusals.specs.declared.Refusal.TheVariants.{NotFollowing}
-use Rattle.refusals.specs.declared.Outcome.TheVariants.{Taken, Refused}
 use Rattle.words.specs.declared.Row.{Row}
 use Rattle.words.proofs.Operations.{or-zero}
 use Rattle.tables.specs.Rows.{rows_from}
@@ -29,11 +28,11 @@ checking k = record { count = k; stage = Checking }
 -- ---- a clause added
 
 module _ (rows : List Row) (c : Row) (ls : List ProofLine) where
-  outcome-failed : follows rows c ≡ false → outcome (addition_checks rows (added c ∷ ls)) ≡ Refused NotFollowing
+  outcome-failed : follows rows c ≡ false → outcome (addition_checks rows (added c ∷ ls)) ≡ Err NotFollowing
   unfolding all_follow
   outcome-failed e = rw e
 
-  outcome-empty : follows rows c ≡ true → is_empty c ≡ true → outcome (addition_checks rows (added c ∷ ls)) ≡ Taken
+  outcome-empty : follows rows c ≡ true → is_empty c ≡ true → outcome (addition_checks rows (added c ∷ ls)) ≡ Ok tt
   unfolding all_follow adds_empty
   outcome-empty e z = rw (e, z)
 

@@ -1,17 +1,17 @@
 -- A proof that is taken leaves no assignment that makes all rows true: an addition that follows is true wherever all rows are, a deletion leaves rows that are,
 -- and the empty clause is never true. By induction on the lines.
-use mathlib.Core.Path.{◌≡◌, refl, sym, ap, ◌∙◌}
+use mathlib.Core.Path.{◌≡◌, refl, sym, ◌∙◌}
 use mathlib.Core.Bool.{Bool, true, false, not, ◌&&◌, ◌||◌, true≢false, false≢true}
 use mathlib.Core.List.{List, [], ◌∷◌, ◌++◌}
 use Prim.Native.Nat.{ℕ}
 use lib.Dec.{eqb}
 use borrow.Author.Tests.{eqb-true, not-false}
+use Rattle.std.specs.Prelude.{Ok}
 use Rattle.refusals.specs.Checks.{outcome}
 use Rattle.refusals.specs.declared.Refusal.TheVariants.{NotFollowing, NoEmptyClause}
-use Rattle.refusals.specs.declared.Outcome.TheVariants.{Taken}
 use Rattle.refusals.proofs.Outcomes.{check_passed, checks-taken}
 use Rattle.words.specs.declared.Row.{Row}
-use Rattle.words.specs.Sets.{bit, any}
+use Rattle.words.specs.Sets.{bit}
 use Rattle.words.proofs.Truth.{and_l, and_r, and_i, on}
 use Rattle.words.proofs.Upto.{any_e}
 use Rattle.words.proofs.Bits.{bit-zero}
@@ -58,7 +58,7 @@ module _ (a : ℕ → Bool) where
   refuted (deleted c ∷ ls) rows e f h = refuted ls (without c rows) (without-true c rows e) f h
 
 -- a proof that is taken: no assignment makes all rows true
-pub taken_none : (rows : List Row) (ls : List ProofLine) → outcome (addition_checks rows ls) ≡ Taken → (a : ℕ → Bool) → all_true a rows ≡ false
+pub taken_none : (rows : List Row) (ls : List ProofLine) → outcome (addition_checks rows ls) ≡ Ok tt → (a : ℕ → Bool) → all_true a rows ≡ false
 taken_none rows ls h a =
     let f = not-false _ (check_passed (not (all_follow rows ls)) NotFollowing _ h) in
     let e = not-false _ (check_passed (not (adds_empty ls)) NoEmptyClause _ (checks-taken (not (all_follow rows ls)) NotFollowing _ h)) in

@@ -1,8 +1,9 @@
 -- The lines of a text one after the other: what is left gives what the whole gives.
+use Rattle.refusals.specs.Numbers.{Outcome}
+use Rattle.std.specs.Prelude.{Option, Some, None, Ok, Err}
 use mathlib.Core.Path.{◌≡◌, refl, sym, ap, ◌∙◌}
 use mathlib.Core.Bool.{Bool, true, false, not, ◌||◌, cond, true≢false}
-use mathlib.Core.List.{List, [], ◌∷◌}
-use mathlib.Core.Option.{Option, none, some}
+use mathlib.Core.List.{List, []}
 use Prim.Native.Nat.{ℕ, ◌+◌, ◌-◌, ◌≤◌, ◌<◌}
 use native.Mathlib.Numerals.{add-one}
 use native.Mathlib.Omega.{arith}
@@ -12,8 +13,6 @@ use lib.Seq.{drop-cons, drop-drop}
 use borrow.Author.Tests.{le-ltb, ltb-true, ltb-false}
 use Rattle.refusals.specs.Checks.{outcome}
 use Rattle.refusals.specs.declared.Refusal.TheVariants.{ProofText, NotFollowing, NoEmptyClause}
-use Rattle.refusals.specs.declared.Outcome.{Outcome}
-use Rattle.refusals.specs.declared.Outcome.TheVariants.{Taken, Refused}
 use Rattle.words.specs.declared.Row.{Row}
 use Rattle.words.proofs.Truth.{on}
 use Rattle.lexer.specs.Bytes.{is_line_feed, run}
@@ -36,11 +35,11 @@ in_line b = not (is_line_feed b)
 
 module _ (n : ℕ) (text : List ℕ) where
   -- past the end there is an empty line, which says nothing
-  past : (i : ℕ) → length text < i → proof_lines n (lines_from text i) ≡ some []
+  past : (i : ℕ) → length text < i → proof_lines n (lines_from text i) ≡ Some []
   unfolding proof_lines line_said cut run_end run
   past i h = rw (drop_of_length-le text (let z : length text ≤ i = omega arith in z))
 
-  no_lines : proof_lines n [] ≡ some []
+  no_lines : proof_lines n [] ≡ Some []
   unfolding proof_lines
   no_lines = refl
 
@@ -74,22 +73,22 @@ module _ (n : ℕ) (text : List ℕ) where
 start_is : (w : List ℕ) (count : ℕ) (x : Option (List ProofLine))
     → ending (record { progress = record { count = count; stage = Checking }; additions = 0; malformed = false }) w x
     ≡ outcome (proof_text_checks (rows_from w 0 count) (few_additions x))
-start_is w count none = refl
-start_is w count (some ls) =
+start_is w count None = refl
+start_is w count (Some ls) =
     let e : 0 + additions ls ≡ additions ls = omega arith in
     rw e (on (ltb 256 (additions ls)) (λ q. rw q) (λ q. rw q))
 
 -- the outcome of how far a proof has come at the end
 abbrev pub outcome_by : Stage → Outcome
-outcome_by Checking = Refused NoEmptyClause
-outcome_by Accepted = Taken
-outcome_by Failed = Refused NotFollowing
+outcome_by Checking = Err NoEmptyClause
+outcome_by Accepted = Ok tt
+outcome_by Failed = Err NotFollowing
 
 no_additions : additions [] ≡ 0
 unfolding additions
 no_additions = refl
 
-final : (m l : Bool) (s : Stage) (rows : List Row) → m ≡ false → l ≡ false → outcome_by s ≡ cond (m || l) (Refused ProofText) (outcome_at s rows [])
+final : (m l : Bool) (s : Stage) (rows : List Row) → m ≡ false → l ≡ false → outcome_by s ≡ cond (m || l) (Err ProofText) (outcome_at s rows [])
 unfolding all_follow adds_empty
 final true l s rows a b = absurd (true≢false a)
 final false true s rows a b = absurd (true≢false b)
@@ -97,7 +96,7 @@ final false false Checking rows a b = refl
 final false false Accepted rows a b = refl
 final false false Failed rows a b = refl
 
-pub ends_malformed : (checker : Checker) → checker.malformed ≡ true → Ends checker (Refused ProofText)
+pub ends_malformed : (checker : Checker) → checker.malformed ≡ true → Ends checker (Err ProofText)
 ends_malformed checker e w = rw e
 
 module _ (checker : Checker) (few : checker.additions ≤ 256) (h : checker.malformed ≡ false) where

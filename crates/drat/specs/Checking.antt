@@ -1,9 +1,7 @@
 -- A text under way: its outcome with the lines that are left.
-use Rattle.std.specs.Prelude.{ℕ, ◌+◌, ◌≤◌, ◌≡◌, ◌||◌, cond, List, [], ltb, length}
-use Rattle.std.proofs.Math.Option.{Option, none, some}
+use Rattle.refusals.specs.Numbers.{Outcome}
+use Rattle.std.specs.Prelude.{ℕ, ◌+◌, ◌≤◌, ◌≡◌, ◌||◌, cond, List, [], ltb, length, Option, Some, None, Err}
 use Rattle.refusals.specs.declared.Refusal.TheVariants.{ProofText}
-use Rattle.refusals.specs.declared.Outcome.{Outcome}
-use Rattle.refusals.specs.declared.Outcome.TheVariants.{Refused}
 use Rattle.drat_line.specs.declared.Said.{Said}
 use Rattle.drat.specs.declared.Checker.{Checker}
 use Rattle.drat.specs.Proofs.{ProofLine, additions}
@@ -12,9 +10,9 @@ use Rattle.drat.specs.Text.{line_before}
 
 -- 18 where a line is malformed or the additions are too many, else what the proof comes to
 abbrev pub ending : Checker → List ℕ → Option (List ProofLine) → Outcome
-ending checker words none = Refused ProofText
-ending checker words (some ls) =
-    cond (checker.malformed || ltb 256 (checker.additions + additions ls)) (Refused ProofText) (outcome_with checker.progress words ls)
+ending checker words None = Err ProofText
+ending checker words (Some ls) =
+    cond (checker.malformed || ltb 256 (checker.additions + additions ls)) (Err ProofText) (outcome_with checker.progress words ls)
 
 -- a line is read: whatever lines follow, the outcome is the same
 abbrev pub Reads : Said → Checker → List ℕ → Checker → List ℕ → Type 0
@@ -29,4 +27,4 @@ pub record Room (checker : Checker) (words : List ℕ) : Type 0 where
 
 -- the outcome of a checker with no line left, whatever the rows
 abbrev pub Ends : Checker → Outcome → Type 0
-Ends checker r = (words : List ℕ) → r ≡ ending checker words (some [])
+Ends checker r = (words : List ℕ) → r ≡ ending checker words (Some [])

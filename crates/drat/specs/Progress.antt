@@ -1,9 +1,8 @@
 -- A proof under way: its outcome with the lines that are left.
-use Rattle.std.specs.Prelude.{ℕ, ◌≡◌, List, ◌∷◌}
+use Rattle.refusals.specs.Numbers.{Outcome}
+use Rattle.std.specs.Prelude.{ℕ, ◌≡◌, List, ◌∷◌, Ok, Err}
 use Rattle.refusals.specs.Checks.{outcome}
 use Rattle.refusals.specs.declared.Refusal.TheVariants.{NotFollowing}
-use Rattle.refusals.specs.declared.Outcome.{Outcome}
-use Rattle.refusals.specs.declared.Outcome.TheVariants.{Taken, Refused}
 use Rattle.words.specs.declared.Row.{Row}
 use Rattle.tables.specs.Rows.{rows_from}
 use Rattle.drat.specs.declared.rup.Stage.{Stage}
@@ -14,8 +13,8 @@ use Rattle.drat.specs.Proofs.{ProofLine, addition_checks}
 -- what the rows present and the lines left come to; once it is decided, no line changes it
 abbrev pub outcome_at : Stage → List Row → List ProofLine → Outcome
 outcome_at Checking rows ls = outcome (addition_checks rows ls)
-outcome_at Accepted rows ls = Taken
-outcome_at Failed rows ls = Refused NotFollowing
+outcome_at Accepted rows ls = Ok tt
+outcome_at Failed rows ls = Err NotFollowing
 
 -- the same for rows in front of words
 abbrev pub outcome_with : Progress → List ℕ → List ProofLine → Outcome

@@ -1,7 +1,6 @@
 -- What a DRAT text means, and when it is accepted: 18, 19 and 20 after the tables' own checks (document 02, "Proofs from other solvers").
 -- Ask: Is 18 judged over the whole text, then 19, then 20?
-use Rattle.std.specs.Prelude.{ℕ, true, cond, List, [], ◌∷◌, ◌++◌, ltb, length}
-use Rattle.std.proofs.Math.Option.{Option, none, some}
+use Rattle.std.specs.Prelude.{ℕ, true, cond, List, [], ◌∷◌, ◌++◌, ltb, length, Option, Some, None}
 use Rattle.refusals.specs.Checks.{Check, check}
 use Rattle.refusals.specs.declared.Refusal.TheVariants.{ProofText}
 use Rattle.words.specs.declared.Row.{Row}
@@ -18,32 +17,32 @@ use Rattle.drat.specs.Proofs.{ProofLine, added, deleted, additions, addition_che
 -- a line in front of others: one with nothing in it is skipped, and none are left where one is malformed
 abbrev pub line_before : Said → Option (List ProofLine) → Option (List ProofLine)
 line_before Nothing ls = ls
-line_before (Added r) none = none
-line_before (Added r) (some ls) = some (added r ∷ ls)
-line_before (Deleted r) none = none
-line_before (Deleted r) (some ls) = some (deleted r ∷ ls)
-line_before Malformed ls = none
+line_before (Added r) None = None
+line_before (Added r) (Some ls) = Some (added r ∷ ls)
+line_before (Deleted r) None = None
+line_before (Deleted r) (Some ls) = Some (deleted r ∷ ls)
+line_before Malformed ls = None
 
 -- all lines, those after the empty clause too
 unfoldable pub proof_lines : ℕ → List Piece → Option (List ProofLine)
 unfolding line_said
-proof_lines n [] = some []
+proof_lines n [] = Some []
 proof_lines n (p ∷ ps) = line_before (line_said n p.bytes) (proof_lines n ps)
 
 -- at most 256 additions in them
 abbrev pub few_additions : Option (List ProofLine) → Option (List ProofLine)
-few_additions none = none
-few_additions (some ls) = cond (ltb 256 (additions ls)) none (some ls)
+few_additions None = None
+few_additions (Some ls) = cond (ltb 256 (additions ls)) None (Some ls)
 
 -- the proof of a text of at most 65,536 bytes; none where it is malformed
 unfoldable pub proof_of : ℕ → List ℕ → Option (List ProofLine)
 unfolding proof_lines additions
-proof_of n text = cond (ltb 65536 (length text)) none (few_additions (proof_lines n (lines_from text 0)))
+proof_of n text = cond (ltb 65536 (length text)) None (few_additions (proof_lines n (lines_from text 0)))
 
 -- 18, or the proof's 19 and 20
 abbrev pub proof_text_checks : List Row → Option (List ProofLine) → List Check
-proof_text_checks rows none = check true ProofText ∷ []
-proof_text_checks rows (some ls) = addition_checks rows ls
+proof_text_checks rows None = check true ProofText ∷ []
+proof_text_checks rows (Some ls) = addition_checks rows ls
 
 -- the tables' 1, 2, 4, 3, then 18, 19, 20
 abbrev pub proof_checks : Dimensions → Tables → List ℕ → List Check

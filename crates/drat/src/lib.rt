@@ -3,12 +3,11 @@
 
 mod rup;
 
-ghost use Rattle.std.specs.Prelude.{◌≡◌, [], ◌∷◌, ◌≤◌, length};
+ghost use Rattle.std.specs.Prelude.{◌≡◌, [], ◌∷◌, ◌≤◌, length, Ok};
 ghost use Rattle.refusals.specs.Checks.{outcome};
 ghost use Rattle.refusals.specs.Numbers.{code_of, said};
-ghost use Rattle.refusals.specs.declared.Outcome.TheVariants.{Taken};
 ghost use Rattle.lexer.specs.Pieces.{lines_from};
-ghost use Rattle.tables.specs.Tables.{all_tables, lent_tables};
+ghost use Rattle.tables.specs.Tables.{lent_words, words_in};
 ghost use Rattle.tables.specs.Rows.{rows_from, rows_of};
 ghost use Rattle.tables.specs.Acceptance.{table_checks};
 ghost use Rattle.drat_line.specs.Lines.{line_said};
@@ -20,7 +19,8 @@ use crate::rup::{Progress, Stage};
 use dimensions::Dimensions;
 use drat_line::Said;
 use lexer::kinds::Kind;
-use refusals::{Outcome, Refusal};
+use refusals::Refusal;
+use tables::Tables;
 use words::Row;
 
 // A text under way: how far the proof has come, how many additions were read, and whether a line was malformed or an addition too many.
@@ -94,24 +94,24 @@ fn take_line(words: &mut [u32], checker: Checker, line: &[u8], n: u8) -> Checker
 }
 
 // What a text that is read whole comes to: 18, then 19, then 20.
-fn outcome_of(checker: Checker) -> Outcome
+fn outcome_of(checker: Checker) -> Result<(), Refusal>
     requires { checker.additions ≤ 256 }
     ensures { Ends checker result }
 {
     if checker.malformed {
-        return Outcome::Refused(Refusal::ProofText);
+        return Err(Refusal::ProofText);
     }
     let progress = checker.progress;
     let stage = progress.stage;
     match stage {
-        Stage::Checking => Outcome::Refused(Refusal::NoEmptyClause),
-        Stage::Accepted => Outcome::Taken,
-        Stage::Failed => Outcome::Refused(Refusal::NotFollowing),
+        Stage::Checking => Err(Refusal::NoEmptyClause),
+        Stage::Accepted => Ok(()),
+        Stage::Failed => Err(Refusal::NotFollowing),
     }
 }
 
 // The lines of a text against the rows in front of the words.
-fn check_lines(words: &mut [u32], count: usize, text: &[u8], n: u8) -> Outcome
+fn check_lines(words: &mut [u32], count: usize, text: &[u8], n: u8) -> Result<(), Refusal>
     requires n_bound { n ≤ 32 }
     requires count_bound { count ≤ 384 }
     requires in_bounds { 1280 ≤ length words.old }
@@ -137,38 +137,29 @@ fn check_lines(words: &mut [u32], count: usize, text: &[u8], n: u8) -> Outcome
 }
 
 // The rows of accepted tables in front of the words: how many they are.
-fn fill(words: &mut [u32], d: Dimensions, left: &[u32], right: &[u32], public: &[u32]) -> usize
-    requires public_value { outcome (table_checks d (all_tables left.now right.now public.now)) ≡ Taken }
+fn fill(words: &mut [u32], d: Dimensions, tables: Tables<'_>) -> usize
+    requires public_value { outcome (table_checks d (words_in tables)) ≡ Ok tt }
     requires in_bounds { 1280 ≤ length words.old }
-    ensures result_after { rows_from words.new 0 result ≡ rows_of d (lent_tables left right public) }
+    ensures result_after { rows_from words.new 0 result ≡ rows_of d (lent_words tables) }
     ensures upper_bound { result ≤ 384 }
 {
-    let first = rup::append(words, 0, left, d.left as usize);
-    let second = rup::append(words, first, right, d.right as usize);
-    rup::append(words, second, public, d.public as usize)
+    let first = rup::append(words, 0, tables.left, d.left as usize);
+    let second = rup::append(words, first, tables.right, d.right as usize);
+    rup::append(words, second, tables.public, d.public as usize)
 }
 
 // Whether the text proves that no assignment makes all rows of the tables true: if not, the tables' 1, 2, 4 or 3, then 18, 19 or 20. The
 // tables have 384 rows at most, and 256 are added.
-pub fn check_proof(
-    d: Dimensions,
-    left: &[u32],
-    right: &[u32],
-    public: &[u32],
-    text: &[u8],
-) -> Outcome
-    ensures value { result ≡ outcome (proof_checks d (lent_tables left right public) text.now) }
-    ensures result_value { code_of result ∷ [] ≡ said (outcome (proof_checks d (lent_tables left right public) text.now)) [] }
+pub fn check_proof(d: Dimensions, tables: Tables<'_>, text: &[u8]) -> Result<(), Refusal>
+    ensures value { result ≡ outcome (proof_checks d (lent_words tables) text.now) }
+    ensures result_value { code_of result ∷ [] ≡ said (outcome (proof_checks d (lent_words tables) text.now)) [] }
 {
-    let accepted = tables::accept(d, left, right, public);
-    match accepted {
-        Outcome::Taken => {}
-        Outcome::Refused(refusal) => return Outcome::Refused(refusal),
-    }
+    let accepted = tables::accept(d, tables);
+    accepted?;
     if 65536 < text.len() {
-        return Outcome::Refused(Refusal::ProofText);
+        return Err(Refusal::ProofText);
     }
     let mut words = [0u32; 1280];
-    let rows = fill(&mut words, d, left, right, public);
+    let rows = fill(&mut words, d, tables);
     check_lines(&mut words, rows, text, d.n)
 }

@@ -1,9 +1,9 @@
 // The lines of a proof against rows in words: clauses added, if they follow from the rows present (reverse unit propagation, RUP), and
 // deleted, up to the empty clause.
-ghost use Rattle.std.specs.Prelude.{◌≡◌, List, [], ◌∷◌, ◌++◌, ◌+◌, ◌-◌, ◌*◌, ◌≤◌, ◌<◌, length};
+ghost use Rattle.std.specs.Prelude.{◌≡◌, List, [], ◌∷◌, ◌++◌, ◌+◌, ◌-◌, ◌*◌, ◌≤◌, ◌<◌, length, unwrap_or, MatchOption};
 ghost use Rattle.tables.specs.Rows.{rows_from};
 ghost use Rattle.drat.specs.Proofs.{without, added};
-ghost use Rattle.drat.specs.Places.{place, without_at};
+ghost use Rattle.drat.specs.Places.{place};
 ghost use Rattle.drat.specs.Progress.{Takes};
 ghost use Rattle.drat.specs.declared.rup.Stage.TheVariants.{Checking};
 
@@ -42,43 +42,20 @@ pub(crate) fn append(words: &mut [u32], count: usize, table: &[u32], rows: usize
     ensures result_after { rows_from words.new 0 result ≡ rows_from words.old 0 count ++ rows_from table.now 0 rows }
     ensures value { result ≡ count + rows }
 {
-    let mut i = 0;
-    while i < rows {
-        let row = tables::row_at(table, i);
-        add(words, count + i, row);
-        i += 1;
-    }
-    count + rows
+    let end = count + rows;
+    words[2 * count..2 * end].copy_from_slice(&table[..2 * rows]);
+    end
 }
 
-// How many rows come before the first of the clause's literals; all of them if there is none.
-fn find_row(words: &[u32], count: usize, clause: Row) -> usize
+// How many rows come before the first of the clause's literals; none is told if there is none.
+fn find_row(words: &[u32], count: usize, clause: Row) -> Option<usize>
     requires { 2 * count ≤ length words.now }
-    ensures { result ≡ place clause (rows_from words.now 0 count) }
+    ensures value { unwrap_or result count ≡ place clause (rows_from words.now 0 count) }
+    ensures in_rows { MatchOption result (Unit {0}) (λ at. at < count) }
 {
-    let mut i = 0;
-    while i < count {
-        let row = tables::row_at(words, i);
-        if (clause.positive == row.positive) & (clause.negative == row.negative) {
-            return i;
-        }
-        i += 1;
-    }
-    count
-}
-
-// The rows past a place move to the front by one.
-fn close_gap(words: &mut [u32], count: usize, at: usize)
-    requires count_in_bounds { 2 * count ≤ length words.old }
-    requires at_lt_count { at < count }
-    ensures { rows_from words.new 0 (count - 1) ≡ without_at at (rows_from words.old 0 count) }
-{
-    let end = 2 * count - 2;
-    let mut k = 2 * at;
-    while k < end {
-        words[k] = words[k + 2];
-        k += 1;
-    }
+    let (rows, _) = words[..2 * count].as_chunks::<2>();
+    rows.iter()
+        .position(|&[p, n]| (p == clause.positive) & (n == clause.negative))
 }
 
 // The rows without one of the clause's literals: how many are left.
@@ -87,11 +64,10 @@ pub(crate) fn delete(words: &mut [u32], count: usize, clause: Row) -> usize
     ensures result_after { rows_from words.new 0 result ≡ without clause (rows_from words.old 0 count) }
     ensures upper_bound { result ≤ count }
 {
-    let at = find_row(words, count, clause);
-    if count <= at {
+    let Some(at) = find_row(words, count, clause) else {
         return count;
-    }
-    close_gap(words, count, at);
+    };
+    words.copy_within(2 * at + 2..2 * count, 2 * at);
     count - 1
 }
 

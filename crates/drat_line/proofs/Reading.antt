@@ -1,14 +1,15 @@
 -- What a line's bytes say, as code finds it.
 use mathlib.Core.Path.{◌≡◌, refl, sym, ap, ◌∙◌}
-use mathlib.Core.Bool.{Bool, true, false, ◌&&◌, ◌||◌, cond, true≢false, false≢true}
+use mathlib.Core.Bool.{Bool, true, false, ◌&&◌, ◌||◌, true≢false, false≢true}
 use mathlib.Core.List.{List, [], ◌∷◌}
-use Prim.Native.Nat.{ℕ, ◌+◌, ◌-◌, ◌≤◌, ◌<◌}
-use native.Mathlib.Numerals.{add-one}
+use Prim.Native.Nat.{ℕ, ◌-◌, ◌≤◌, ◌<◌}
 use native.Mathlib.Omega.{arith}
 use lib.Dec.{eqb, ltb}
-use lib.ListN.{length, take, drop, get_or, length-drop, drop_of_length-le}
-use lib.Seq.{drop-cons, take_all}
+use lib.ListN.{length, take, drop, get_or, length-drop}
+use lib.Seq.{take_all}
 use borrow.Author.Tests.{eq-eqb, ne_eqb, lt-ltb, le-ltb, ltb-true, ltb-false}
+use Rattle.std.specs.Prelude.{Some, None}
+use Rattle.std.specs.List.{list_any}
 use Rattle.words.specs.declared.Row.{Row}
 use Rattle.words.proofs.Truth.{or_l, or_r, on}
 use Rattle.lexer.specs.Bytes.{is_blank, is_separator, is_line_feed, run}
@@ -16,33 +17,22 @@ use Rattle.lexer.specs.Pieces.{Piece, cut, not_empty, parts_from, tokens_from}
 use Rattle.lexer.specs.Places.{run_end}
 use Rattle.lexer.specs.Blanks.{further, blanked, tokens_past}
 use Rattle.lexer.proofs.Runs.{end_le}
-use Rattle.clauses.specs.declared.Clause.{Clause}
 use Rattle.clauses.specs.declared.Clause.TheVariants.{Read, End, Unreadable}
 use Rattle.clauses.specs.Rows.{Literal, row_of}
 use Rattle.clauses.specs.Clauses.{Reading, clause, ended, unreadable, clauses}
 use Rattle.clauses.specs.First.{clauses_from, first}
 use Rattle.clauses.proofs.Reading.{read_is}
-use Rattle.drat_line.specs.declared.One.{One}
-use Rattle.drat_line.specs.declared.One.TheVariants as one
-use Rattle.drat_line.specs.declared.Said.{Said}
 use Rattle.drat_line.specs.declared.Said.TheVariants.{Nothing, Malformed}
 use Rattle.drat_line.specs.Lines.{is_break, has_break, one_clause, clause_in, added_by, deleted_by, is_deletion, said_of, closed_at, without_blanks, line_said}
 use Rattle.drat_line.specs.TotalLines.{is_ended, line_held}
 
 -- ---- a CR or an LF
 
-module _ (bs : List ℕ) (i : ℕ) (h : i < length bs) where
-  pub break_here : is_break (get_or bs i 0) ≡ true → has_break (drop i bs) ≡ true
-  unfolding has_break
-  break_here e = rw (drop-cons bs i 0 h, e)
-
-  pub break_later : is_break (get_or bs i 0) ≡ false → has_break (drop i bs) ≡ has_break (drop (i + 1) bs)
-  unfolding has_break
-  break_later e = rw (drop-cons bs i 0 h, e, add-one)
-
-pub no_break : (bs : List ℕ) (i : ℕ) → length bs ≤ i → has_break (drop i bs) ≡ false
+-- some byte is one
+pub some_break : (bs : List ℕ) → list_any is_break bs ≡ has_break bs
 unfolding has_break
-no_break bs i h = rw (drop_of_length-le bs h)
+some_break [] = refl
+some_break (b ∷ bs) = ap (λ (x : Bool). is_break b || x) (some_break bs)
 
 -- bytes without an LF have no remark
 no_remark : (bs : List ℕ) → has_break bs ≡ false → blanked further bs ≡ bs
@@ -76,7 +66,7 @@ unreadable_told unreadable h = refl
 -- ---- one clause
 
 module _ (n : ℕ) (bs : List ℕ) where
-  pub one_break : has_break bs ≡ true → one.Malformed ≡ clause_in n bs
+  pub one_break : has_break bs ≡ true → None ≡ clause_in n bs
   unfolding clause_in
   one_break e = rw e
 
@@ -85,18 +75,18 @@ module _ (n : ℕ) (bs : List ℕ) where
     unfolding clause_in
     by_reading = rw sound (ap (λ (ts : List Piece). one_clause (clauses n ts)) (same_tokens bs sound))
 
-    pub one_end : first (clauses_from n bs 0) ≡ End → one.Malformed ≡ clause_in n bs
+    pub one_end : first (clauses_from n bs 0) ≡ End → None ≡ clause_in n bs
     one_end f = go (clauses_from n bs 0) f ∙ by_reading
       where
-        go : (x : Reading) → first x ≡ End → one.Malformed ≡ one_clause x
+        go : (x : Reading) → first x ≡ End → None ≡ one_clause x
         go (clause ls s e rest) h = absurd (let z : ◌≡◌ {A = ℕ} 0 1 = cc in omega arith)
         go ended h = refl
         go unreadable h = refl
 
-    pub one_unreadable : first (clauses_from n bs 0) ≡ Unreadable → one.Malformed ≡ clause_in n bs
+    pub one_unreadable : first (clauses_from n bs 0) ≡ Unreadable → None ≡ clause_in n bs
     one_unreadable f = go (clauses_from n bs 0) f ∙ by_reading
       where
-        go : (x : Reading) → first x ≡ Unreadable → one.Malformed ≡ one_clause x
+        go : (x : Reading) → first x ≡ Unreadable → None ≡ one_clause x
         go (clause ls s e rest) h = absurd (let z : ◌≡◌ {A = ℕ} 0 1 = cc in omega arith)
         go ended h = refl
         go unreadable h = refl
@@ -105,22 +95,22 @@ module _ (n : ℕ) (bs : List ℕ) where
       as_clause : one_clause (clause (read_is n bs few 0 r s e f).0 s e (clauses_from n bs e)) ≡ clause_in n bs
       as_clause = ap one_clause (sym (read_is n bs few 0 r s e f).1) ∙ by_reading
 
-      go_more : (ls : List Literal) (x : Reading) → is_ended x ≡ false → one.Malformed ≡ one_clause (clause ls s e x)
+      go_more : (ls : List Literal) (x : Reading) → is_ended x ≡ false → None ≡ one_clause (clause ls s e x)
       go_more ls (clause ls' s' e' rest) h = refl
       go_more ls ended h = absurd (true≢false h)
       go_more ls unreadable h = refl
 
-      go_just : (ls : List Literal) (x : Reading) → is_ended x ≡ true → one.Of (row_of ls) ≡ one_clause (clause ls s e x)
+      go_just : (ls : List Literal) (x : Reading) → is_ended x ≡ true → Some (row_of ls) ≡ one_clause (clause ls s e x)
       go_just ls (clause ls' s' e' rest) h = absurd (false≢true h)
       go_just ls ended h = refl
       go_just ls unreadable h = absurd (false≢true h)
 
-      pub one_more : (x : Bool) → x ≡ is_ended (clauses_from n bs e) → x ≡ false → one.Malformed ≡ clause_in n bs
+      pub one_more : (x : Bool) → x ≡ is_ended (clauses_from n bs e) → x ≡ false → None ≡ clause_in n bs
       one_more x q z = go_more (read_is n bs few 0 r s e f).0 (clauses_from n bs e) (sym q ∙ z) ∙ as_clause
 
-      pub one_just : (x : Bool) → x ≡ is_ended (clauses_from n bs e) → x ≡ true → one.Of r ≡ clause_in n bs
+      pub one_just : (x : Bool) → x ≡ is_ended (clauses_from n bs e) → x ≡ true → Some r ≡ clause_in n bs
       one_just x q z =
-          ap one.Of (sym (read_is n bs few 0 r s e f).2)
+          ap Some (sym (read_is n bs few 0 r s e f).2)
           ∙ go_just (read_is n bs few 0 r s e f).0 (clauses_from n bs e) (sym q ∙ z) ∙ as_clause
 
 -- ---- a deletion

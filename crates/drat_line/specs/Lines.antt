@@ -1,13 +1,11 @@
 -- What a line of a DRAT text says: a clause added or, with `d` and a space in front, deleted (document 02, "Proofs from other solvers").
 -- Ask: What may a line hold, and where?
-use Rattle.std.specs.Prelude.{ℕ, ◌-◌, Bool, true, false, ◌&&◌, ◌||◌, cond, List, [], ◌∷◌, eqb, length, take, drop, get_or}
+use Rattle.std.specs.Prelude.{ℕ, ◌-◌, Bool, false, ◌&&◌, ◌||◌, cond, List, [], ◌∷◌, eqb, length, take, drop, get_or, Option, Some, None}
 use Rattle.words.specs.declared.Row.{Row}
 use Rattle.lexer.specs.Bytes.{is_blank, is_line_feed, run}
 use Rattle.lexer.specs.Pieces.{tokens_from}
 use Rattle.clauses.specs.Rows.{row_of}
 use Rattle.clauses.specs.Clauses.{Reading, clause, ended, unreadable, clauses}
-use Rattle.drat_line.specs.declared.One.{One}
-use Rattle.drat_line.specs.declared.One.TheVariants as one
 use Rattle.drat_line.specs.declared.Said.{Said}
 use Rattle.drat_line.specs.declared.Said.TheVariants.{Nothing, Added, Deleted, Malformed}
 
@@ -23,29 +21,29 @@ has_break [] = false
 has_break (b ∷ bs) = is_break b || has_break bs
 
 -- one clause, and then the end
-abbrev pub one_clause : Reading → One
-one_clause (clause literals from to ended) = one.Of (row_of literals)
-one_clause (clause literals from to (clause more from' to' rest)) = one.Malformed
-one_clause (clause literals from to unreadable) = one.Malformed
-one_clause ended = one.Malformed
-one_clause unreadable = one.Malformed
+abbrev pub one_clause : Reading → Option Row
+one_clause (clause literals from to ended) = Some (row_of literals)
+one_clause (clause literals from to (clause more from' to' rest)) = None
+one_clause (clause literals from to unreadable) = None
+one_clause ended = None
+one_clause unreadable = None
 
 -- exactly one clause, of literals from 1 to n, closed by 0 and set off by spaces and tabs: a CR that does not close the line is malformed
-unfoldable pub clause_in : ℕ → List ℕ → One
+unfoldable pub clause_in : ℕ → List ℕ → Option Row
 unfolding clauses
-clause_in n bytes = cond (has_break bytes) one.Malformed (one_clause (clauses n (tokens_from bytes 0)))
+clause_in n bytes = cond (has_break bytes) None (one_clause (clauses n (tokens_from bytes 0)))
 
 -- ---- a line
 
 -- the clause added
-abbrev pub added_by : One → Said
-added_by (one.Of r) = Added r
-added_by one.Malformed = Malformed
+abbrev pub added_by : Option Row → Said
+added_by (Some r) = Added r
+added_by None = Malformed
 
 -- the clause deleted
-abbrev pub deleted_by : One → Said
-deleted_by (one.Of r) = Deleted r
-deleted_by one.Malformed = Malformed
+abbrev pub deleted_by : Option Row → Said
+deleted_by (Some r) = Deleted r
+deleted_by None = Malformed
 
 -- `d` and a space in front
 abbrev pub is_deletion : List ℕ → Bool

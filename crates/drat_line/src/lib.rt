@@ -20,25 +20,11 @@ pub enum Said {
     Malformed,
 }
 
-// The one clause that bytes hold, or malformed.
-#[derive(Clone, Copy)]
-enum One {
-    Of(Row),
-    Malformed,
-}
-
 // Whether a CR or an LF is among the bytes.
 fn has_break(part: &[u8]) -> bool
     ensures { result ≡ has_break part.now }
 {
-    let mut i = 0;
-    while i < part.len() {
-        if (part[i] == b'\r') | (part[i] == b'\n') {
-            return true;
-        }
-        i += 1;
-    }
-    false
+    part.iter().any(|&b| b == b'\r' || b == b'\n')
 }
 
 // Whether no clause follows.
@@ -54,23 +40,23 @@ fn is_ended(part: &[u8], at: usize, n: u8) -> bool
 }
 
 // The one clause of a part of a line.
-fn read_one(part: &[u8], n: u8) -> One
+fn read_one(part: &[u8], n: u8) -> Option<Row>
     requires { n ≤ 32 }
     ensures { result ≡ clause_in n part.now }
 {
     if has_break(part) {
-        return One::Malformed;
+        return None;
     }
     let first = clauses::read_clause(part, 0, n);
     match first {
         Clause::Read(row, _, end) => {
             if !is_ended(part, end, n) {
-                return One::Malformed;
+                return None;
             }
-            One::Of(row)
+            Some(row)
         }
-        Clause::End => One::Malformed,
-        Clause::Unreadable => One::Malformed,
+        Clause::End => None,
+        Clause::Unreadable => None,
     }
 }
 
@@ -85,22 +71,22 @@ fn is_deletion(part: &[u8]) -> bool
 }
 
 // The clause added.
-fn added_by(one: One) -> Said
+fn added_by(one: Option<Row>) -> Said
     ensures { result ≡ added_by one }
 {
     match one {
-        One::Of(row) => Said::Added(row),
-        One::Malformed => Said::Malformed,
+        Some(row) => Said::Added(row),
+        None => Said::Malformed,
     }
 }
 
 // The clause deleted.
-fn deleted_by(one: One) -> Said
+fn deleted_by(one: Option<Row>) -> Said
     ensures { result ≡ deleted_by one }
 {
     match one {
-        One::Of(row) => Said::Deleted(row),
-        One::Malformed => Said::Malformed,
+        Some(row) => Said::Deleted(row),
+        None => Said::Malformed,
     }
 }
 

@@ -7,16 +7,17 @@ use Prim.Native.Nat.{ℕ, zero, suc, ◌+◌, ◌*◌, ◌/◌, ◌%◌, ◌≤�
 use native.Mathlib.Nat.{zero-add, not-suc-le-zero, le_of_suc-le-suc, add-zero}
 use native.Mathlib.Numerals.{add-one}
 use native.Mathlib.Omega.{arith}
-use borrow.Author.Tests.{lt-ltb, le-ltb, ne_eqb, eqb-true, eqb-false}
+use borrow.Author.Tests.{lt-ltb, le-ltb, ne_eqb, eqb-true}
 use lib.Dec.{eqb, ltb}
-use lib.ListN.{length, get_or, take, drop, set, length-map, drop_of_length-le, get_or-map}
-use lib.Seq.{take_at, take-length, length-take-le, get_or-take, paste-suc, drop-set-lt}
+use lib.ListN.{length, get_or, take, drop, set, length-map, length-drop, get_or-map}
+use lib.Seq.{take_at, length-take-le, paste-suc}
 use Rattle.words.specs.Booleans.{digit, imp}
 use Rattle.words.specs.Sets.{all}
 use Rattle.words.proofs.Truth.{mp, digit_lt, on}
 use Rattle.gates.specs.Gates.{wire, value, wires_of}
 use Rattle.gates.specs.Memory.{gate_of, gates_of, drives, accepted, bytes_of, bits_of, bits, over}
-use Rattle.gates.proofs.Judging.{accepted_uneven}
+use Rattle.std.specs.Simd.{first_chunks}
+use Rattle.gates.proofs.Judging.{accepted_few}
 use Rattle.gates.proofs.InMemory.{accepted-length, bytes_of_bits_of}
 use Rattle.two_pass.proofs.Running.{Run, value_read, at_each, read-front, front_length, next, values_length, judged-at, done}
 use Rattle.evaluator.specs.TrialBytes.{trial_bytes, wire_bytes}
@@ -93,56 +94,59 @@ table_at k x y hx hy h = eqb-true _ _ (mp _ _ (at_each shows 4 refl k x y (omega
 
 -- ---- the trial's turns
 
-module _ {s : List Bool} {g w₀ : List ℕ} {n : ℕ} {w : List ℕ} {i m : ℕ} (r : Run trial_bytes s g w₀ n w i m) (room : n + length g / 3 ≤ length w₀) where
-  values-many : m ≡ length r.values
-  values-many = front_length r room ∙ trial_length r.values
+module _ {s : List Bool} {g w₀ : List ℕ} {n : ℕ} {w : List ℕ} {i : ℕ} (r : Run trial_bytes s g w₀ n w i) (room : n + length g / 3 ≤ length w₀)
+    (upto : i ≤ length g / 3) where
+  values-many : n + i ≡ length r.values
+  values-many = front_length r room upto ∙ trial_length r.values
 
-  read : (a : ℕ) → a < m → get_or w a 0 ≡ digit (wire r.values a) + mark a
-  read a h = read-front r room a h ∙ trial_at r.values a (omega (arith, values-many))
+  read : (a : ℕ) → a < n + i → get_or w a 0 ≡ digit (wire r.values a) + mark a
+  read a h = read-front r room upto a h ∙ trial_at r.values a (omega (arith, values-many))
 
-  pub trial_read : (a : ℕ) → a < m → get_or w a 0 < 4
+  pub trial_read : (a : ℕ) → a < n + i → get_or w a 0 < 4
   trial_read a h = omega (arith, read a h, digit_lt (wire r.values a), mark_le a)
 
-  read-parity : (a : ℕ) → a < m → get_or w a 0 % 2 ≡ digit (wire r.values a)
+  read-parity : (a : ℕ) → a < n + i → get_or w a 0 % 2 ≡ digit (wire r.values a)
   read-parity a h = ap (λ (x : ℕ). x % 2) (read a h) ∙ parity (wire r.values a) a
 
   -- one number says whether a gate that names earlier wires may drive its wire
-  pub trial_drives : (k a b : ℕ) → a < m → b < m → ltb (4 * k + get_or w b 0) 10 ≡ drives m k a b
-  trial_drives k a b h l = ap (λ (y : ℕ). ltb (4 * k + y) 10) (read b l) ∙ trial_kinds m k a b (wire r.values b) h l
+  pub trial_drives : (k a b : ℕ) → a < n + i → b < n + i → ltb (4 * k + get_or w b 0) 10 ≡ drives (n + i) k a b
+  trial_drives k a b h l = ap (λ (y : ℕ). ltb (4 * k + y) 10) (read b l) ∙ trial_kinds (n + i) k a b (wire r.values b) h l
 
-  pub trial_next : m < n + length g / 3
-      → let k = get_or g i 0 in
-      let a = get_or g (i + 1) 0 in
-      let b = get_or g (i + 2) 0 in
-      a < m → b < m → 4 * k + get_or w b 0 < 10
-      → Run trial_bytes s g w₀ n (set w m (get_or table (4 * (4 * k + get_or w b 0) + get_or w a 0) 0)) (i + 3) (m + 1)
-  trial_next h ha hb hu =
-      let k = get_or g i 0 in
-      let a = get_or g (i + 1) 0 in
-      let b = get_or g (i + 2) 0 in
-      let u : Bool = value r.values (gate_of k a b) in
-      let e : get_or table (4 * (4 * k + get_or w b 0) + get_or w a 0) 0 ≡ digit u + 2 =
-      table_at k (get_or w a 0) (get_or w b 0) (trial_read a ha) (trial_read b hb) hu
-      ∙ ap (λ (t : Bool). digit t + 2) (value_read r.values k a b _ _ (read-parity a ha) (read-parity b hb)) in
-      next r room _ h (sym (trial_drives k a b ha hb) ∙ lt-ltb _ 10 hu)
-      (trial_append r.values u (omega (arith, values-many)) ∙ ap (λ (x : ℕ). trial_bytes r.values ++ (x ∷ [])) (sym e))
+  -- all gates ran: the words were accepted where no word is left over, and then the buffer is filled
+  pub ended : (left : ℕ) → length g / 3 ≤ i → left ≡ length g % 3
+      → let F = over (trial_bytes (wires_of s (gates_of g))) w₀ in
+      (eqb left 0 ≡ accepted n g) × (cond (eqb left 0) w [] ≡ cond (eqb left 0) F [])
+  ended left h e =
+      let few : length (drop (3 * i) g) ≡ left = omega (arith, length-drop (3 * i) g) in (
+        sym (ap (λ (k : ℕ). eqb k 0) few) ∙ sym (accepted_few _ _ (omega arith)) ∙ r.judged,
+        on (eqb left 0) (λ t. rw t (done r room upto (omega (arith, eqb-true left 0 t)))) (λ t. rw t refl),
+      )
+
+module _ {s : List Bool} {g w₀ : List ℕ} {n : ℕ} {w : List ℕ} {i : ℕ} (r : Run trial_bytes s g w₀ n w i) (room : n + length g / 3 ≤ length w₀)
+    {cs : List (List ℕ)} (chunks : cs ≡ first_chunks 3 (length g / 3) g) (h : i < length g / 3) where
+  abbrev word : ℕ → ℕ
+  word j = get_or (get_or cs i []) j 0
 
   -- a gate that may not drive its wire makes the whole refused
-  pub refused : m < n + length g / 3 → drives m (get_or g i 0) (get_or g (i + 1) 0) (get_or g (i + 2) 0) ≡ false → false ≡ accepted n g
-  refused h d = sym (judged-at r room h ∙ ap (λ (t : Bool). t && accepted (m + 1) (drop (i + 3) g)) d)
+  pub refused : drives (n + i) (word 0) (word 1) (word 2) ≡ false → false ≡ accepted n g
+  refused d = sym (judged-at r room chunks h ∙ ap (λ (t : Bool). t && accepted (n + (i + 1)) (drop (3 * (i + 1)) g)) d)
 
-  -- whole gates that all ran were accepted
-  all-accepted : length g ≤ i → accepted n g ≡ true
-  unfolding accepted
-  all-accepted h = sym r.judged ∙ ap (λ (l : List ℕ). accepted m l) (drop_of_length-le g h)
-
-  -- all gates ran: the words were accepted where they are whole gates, and then the buffer is filled
-  pub ended : n + length g / 3 ≤ m
-      → let F = over (trial_bytes (wires_of s (gates_of g))) w₀ in
-      (eqb (length g % 3) 0 ≡ accepted n g) × (cond (eqb (length g % 3) 0) w [] ≡ cond (eqb (length g % 3) 0) F [])
-  ended h = on (eqb (length g % 3) 0)
-      (λ t. let q : length g ≤ i = omega (arith, r.step, eqb-true (length g % 3) 0 t) in rw t (sym (all-accepted q), done r room q))
-      (λ t. rw t (sym (accepted_uneven n g (eqb-false (length g % 3) 0 t)), refl))
+  pub trial_next : let k = word 0 in
+      let a = word 1 in
+      let b = word 2 in
+      a < n + i → b < n + i → 4 * k + get_or w b 0 < 10
+      → Run trial_bytes s g w₀ n (set w (n + i) (get_or table (4 * (4 * k + get_or w b 0) + get_or w a 0) 0)) (i + 1)
+  trial_next ha hb hu =
+      let k = word 0 in
+      let a = word 1 in
+      let b = word 2 in
+      let upto : i ≤ length g / 3 = omega arith in
+      let u : Bool = value r.values (gate_of k a b) in
+      let e : get_or table (4 * (4 * k + get_or w b 0) + get_or w a 0) 0 ≡ digit u + 2 =
+      table_at k (get_or w a 0) (get_or w b 0) (trial_read r room upto a ha) (trial_read r room upto b hb) hu
+      ∙ ap (λ (t : Bool). digit t + 2) (value_read r.values k a b _ _ (read-parity r room upto a ha) (read-parity r room upto b hb)) in
+      next r room chunks h _ (sym (trial_drives r room upto k a b ha hb) ∙ lt-ltb _ 10 hu)
+      (trial_append r.values u (omega (arith, values-many r room upto)) ∙ ap (λ (x : ℕ). trial_bytes r.values ++ (x ∷ [])) (sym e))
 
 -- ---- in and out
 
@@ -153,9 +157,6 @@ next-byte d l w i v e f hd hl =
     ap₂ (λ (x : List ℕ) (y : ℕ). set x i y) e f
     ∙ rw (zero-add i, zero-add (suc i)) at (paste-suc d 0 l i 0 (omega arith) hl)
     ∙ ap (λ (k : ℕ). take k l ++ drop k d) (sym (add-one i))
-
-pub all-bytes : (d l w : List ℕ) (i : ℕ) → w ≡ take i l ++ drop i d → length l ≡ i → w ≡ over l d
-all-bytes d l w i e h = e ∙ ap (λ (k : ℕ). take k l ++ drop k d) (sym h) ∙ ap (λ (x : List ℕ). x ++ drop (length l) d) (take-length l)
 
 module _ (s : List ℕ) (b : bits s ≡ true) where
   byte_at : (i : ℕ) → digit (wire (bits_of s) i) ≡ get_or s i 0
@@ -172,27 +173,34 @@ module _ (s : List ℕ) (b : bits s ≡ true) where
 pub inputs-length : (s : List ℕ) → length (trial_bytes (bits_of s)) ≡ length s
 inputs-length s = trial_length (bits_of s) ∙ length-map s (λ x. eqb x 1)
 
-pub no_inputs : (s w : List ℕ) → length s ≡ 0 → w ≡ over (trial_bytes (bits_of s)) w
-no_inputs [] w h = refl
-no_inputs (x ∷ s) w h = absurd (omega arith)
+-- wire 0's byte, loaded
+pub first_input : (s t w : List ℕ) (x : ℕ) → s ≡ x ∷ t → bits s ≡ true → 0 < length w
+    → set w 0 x ≡ take 1 (trial_bytes (bits_of s)) ++ drop 1 (set w 0 x)
+first_input s t [] x e b h = absurd (not-suc-le-zero h)
+first_input s t (y ∷ w) x e b h =
+    let b₁ : bits (x ∷ t) ≡ true = ap bits (sym e) ∙ b in
+    rw e (ap (λ (v : ℕ). v ∷ w) (sym (byte_at (x ∷ t) b₁ 0)))
 
-pub first_input : (s w : List ℕ) → bits s ≡ true → 0 < length s → 0 < length w
-    → let d = set w 0 (get_or s 0 0) in d ≡ take 1 (trial_bytes (bits_of s)) ++ drop 1 d
-first_input [] w b h l = absurd (not-suc-le-zero h)
-first_input (x ∷ s) [] b h l = absurd (not-suc-le-zero l)
-first_input (x ∷ s) (y ∷ w) b h l = ap (λ (v : ℕ). v ∷ w) (sym (byte_at (x ∷ s) b 0))
+-- each input after the first is 0 or 1
+pub rest-bit : (s t : List ℕ) (x : ℕ) → s ≡ x ∷ t → bits s ≡ true → (i : ℕ) → get_or t i 0 < 2
+rest-bit s t x e b i = let same : get_or s (suc i) 0 ≡ get_or t i 0 = ap (λ (l : List ℕ). get_or l (suc i) 0) e in omega (arith, same, input_bit s b (suc i))
 
--- what was at the front before does not show
-pub all-inputs : (s w w₁ : List ℕ) (x : ℕ) → 0 < length s → w₁ ≡ over (trial_bytes (bits_of s)) (set w 0 x) → w₁ ≡ over (trial_bytes (bits_of s)) w
-all-inputs s w w₁ x h e =
+-- the byte of one input more, loaded
+pub next_input : (s t d w : List ℕ) (x i : ℕ) → s ≡ x ∷ t → bits s ≡ true → i < length t → length s ≤ length d
+    → let l = trial_bytes (bits_of s) in
+    w ≡ take (1 + i) l ++ drop (1 + i) d → set w (1 + i) (get_or t i 0 + 2) ≡ take (1 + (i + 1)) l ++ drop (1 + (i + 1)) d
+next_input s t d w x i e b h room f =
+    let one : 1 + i ≡ suc i = omega arith in
+    let next : (1 + i) + 1 ≡ 1 + (i + 1) = omega arith in
+    let many : length s ≡ suc (length t) = ap length e in
+    let same : get_or t i 0 ≡ get_or s (1 + i) 0 = rw (e, one) refl in
     let l = trial_bytes (bits_of s) in
-    e ∙ ap (λ (k : List ℕ). l ++ k) (drop-set-lt (length l) w 0 x (omega (arith, inputs-length s)))
+    next-byte d l w (1 + i) _ f (ap (λ (y : ℕ). y + 2) same ∙ trial_input s b (1 + i) (omega arith) (omega arith)) (omega arith)
+    (omega (arith, inputs-length s))
+    ∙ ap (λ (k : ℕ). take k l ++ drop k d) next
 
 -- bytes of the front, stored
 module _ (v : List ℕ) (n : ℕ) (h : n ≤ length v) where
-  pub stored_at : (i : ℕ) → i < n → get_or v i 0 % 2 ≡ get_or (wire_bytes (take n v)) i 0
-  stored_at i l = sym (get_or-map (λ x. x % 2) (take n v) i 0 ∙ ap (λ (x : ℕ). x % 2) (get_or-take n v i 0 l))
-
   pub stored-length : length (wire_bytes (take n v)) ≡ n
   stored-length = length-map (take n v) (λ x. x % 2) ∙ length-take-le n v h
 

@@ -11,10 +11,10 @@ ghost use Rattle.gates.specs.Memory as Memory;
 ghost use Rattle.two_pass.specs.Evaluation.{evaluation_checks, filled_wires};
 ghost use Rattle.evaluator.specs.TrialBytes.{trial_bytes, wire_bytes};
 
-use refusals::{Outcome, Refusal};
+use refusals::Refusal;
 
 // Fills the front of the wires with the inputs and then each gate's value; later bytes stay as they are. Refused, it changes no byte.
-pub fn evaluate(gates: &[u32], inputs: &[u8], wires: &mut [u8]) -> Outcome
+pub fn evaluate(gates: &[u32], inputs: &[u8], wires: &mut [u8]) -> Result<(), Refusal>
     ensures value { result ≡ outcome (evaluation_checks gates.now inputs.now wires.old) }
     ensures wires_after { wires.new ≡ filled_wires gates.now inputs.now wires.old }
     ensures result_value { code_of result ∷ [] ≡ said (outcome (evaluation_checks gates.now inputs.now wires.old)) [] }
@@ -23,38 +23,28 @@ pub fn evaluate(gates: &[u32], inputs: &[u8], wires: &mut [u8]) -> Outcome
     // Few wires do not repay a trial's array. The giant step's largest circuit has 217,129 without public rows and 317,481 with them: two
     // arrays, so that fewer wires do not clear the larger one.
     if 8192 <= end && end <= 221184 && gates::bits(inputs) {
-        return try_out(gates, inputs, wires);
+        return try_out::<221184>(gates, inputs, wires);
     }
     if 221184 < end && end <= 319488 && gates::bits(inputs) {
-        return try_out_large(gates, inputs, wires);
+        return try_out::<319488>(gates, inputs, wires);
     }
     two_pass::evaluate(gates, inputs, wires)
 }
 
-// Tries the gates out in its own array, 216 KiB on the stack.
-fn try_out(gates: &[u32], inputs: &[u8], wires: &mut [u8]) -> Outcome
-    requires gates_len_bound { length inputs.now + length gates.now / 3 ≤ 221184 }
+// Tries the gates out in an array of its own on the stack, a byte a wire.
+fn try_out<const ROOM: usize>(gates: &[u32], inputs: &[u8], wires: &mut [u8]) -> Result<(), Refusal>
+    requires room { ROOM ≤ 319488 }
+    requires gates_len_bound { length inputs.now + length gates.now / 3 ≤ ROOM }
     requires inputs_value { Memory.bits inputs.now ≡ true }
     ensures value { result ≡ outcome (evaluation_checks gates.now inputs.now wires.old) }
     ensures wires_after { wires.new ≡ filled_wires gates.now inputs.now wires.old }
 {
-    let mut own = [0u8; 221184];
-    try_in(gates, inputs, &mut own, wires)
-}
-
-// Tries more gates out, in 312 KiB on the stack.
-fn try_out_large(gates: &[u32], inputs: &[u8], wires: &mut [u8]) -> Outcome
-    requires gates_len_bound { length inputs.now + length gates.now / 3 ≤ 319488 }
-    requires inputs_value { Memory.bits inputs.now ≡ true }
-    ensures value { result ≡ outcome (evaluation_checks gates.now inputs.now wires.old) }
-    ensures wires_after { wires.new ≡ filled_wires gates.now inputs.now wires.old }
-{
-    let mut own = [0u8; 319488];
+    let mut own = [0u8; ROOM];
     try_in(gates, inputs, &mut own, wires)
 }
 
 // Evaluates in a scratch buffer, judging each gate in passing, then gives the wires out: the gates are read once.
-fn try_in(gates: &[u32], inputs: &[u8], scratch: &mut [u8], wires: &mut [u8]) -> Outcome
+fn try_in(gates: &[u32], inputs: &[u8], scratch: &mut [u8], wires: &mut [u8]) -> Result<(), Refusal>
     requires gates_in_bounds { length inputs.now + length gates.now / 3 ≤ length scratch.old }
     requires inputs_value { Memory.bits inputs.now ≡ true }
     ensures value { result ≡ outcome (evaluation_checks gates.now inputs.now wires.old) }
@@ -64,13 +54,13 @@ fn try_in(gates: &[u32], inputs: &[u8], scratch: &mut [u8], wires: &mut [u8]) ->
     let count = n + gates.len() / 3;
     load_inputs(inputs, scratch);
     if !trial(gates, inputs, scratch) {
-        return Outcome::Refused(Refusal::Gates);
+        return Err(Refusal::Gates);
     }
     if wires.len() < count {
-        return Outcome::Refused(Refusal::Wires);
+        return Err(Refusal::Wires);
     }
     store_wires(scratch, wires, count);
-    Outcome::Taken
+    Ok(())
 }
 
 // Loads the inputs as the trial holds them: 2 more than the byte, and wire 0 as it is.
@@ -79,14 +69,12 @@ fn load_inputs(inputs: &[u8], scratch: &mut [u8])
     requires inputs_value { Memory.bits inputs.now ≡ true }
     ensures { scratch.new ≡ Memory.over (trial_bytes (Memory.bits_of inputs.now)) scratch.old }
 {
-    if inputs.len() == 0 {
+    let Some((&first, rest)) = inputs.split_first() else {
         return;
-    }
-    scratch[0] = inputs[0];
-    let mut i = 1;
-    while i < inputs.len() {
-        scratch[i] = inputs[i] + 2;
-        i += 1;
+    };
+    scratch[0] = first;
+    for (i, &bit) in rest.iter().enumerate() {
+        scratch[1 + i] = bit + 2;
     }
 }
 
@@ -100,30 +88,27 @@ fn trial(gates: &[u32], inputs: &[u8], scratch: &mut [u8]) -> bool
         scratch.old) [] }
 {
     let values = values::TRIAL_VALUES;
-    let stop = inputs.len() + gates.len() / 3;
-    let mut i = 0;
-    let mut m = inputs.len();
-    while m < stop {
-        let kind = gates[i] as usize;
-        let a = gates[i + 1] as usize;
-        let b = gates[i + 2] as usize;
+    let n = inputs.len();
+    let (gates, rest) = gates.as_chunks::<3>();
+    for (i, &[kind, a, b]) in gates.iter().enumerate() {
+        let m = n + i;
+        let a = a as usize;
+        let b = b as usize;
         if m <= a {
             return false;
         }
         if m <= b {
             return false;
         }
-        let u = 4 * kind + (scratch[b] as usize);
+        let u = 4 * (kind as usize) + (scratch[b] as usize);
         let at = 4 * u + (scratch[a] as usize);
         // A known kind, and wire 0 after INV: only it is held below 2. One test for both spares a jump.
         if 40 <= at {
             return false;
         }
         scratch[m] = values[at];
-        i += 3;
-        m += 1;
     }
-    gates.len() % 3 == 0
+    rest.is_empty()
 }
 
 // Stores the values of the first `count` wires: the trial's bytes without their 2.
@@ -132,9 +117,7 @@ fn store_wires(scratch: &[u8], wires: &mut [u8], count: usize)
     requires count_in_bounds_2 { count ≤ length wires.old }
     ensures { wires.new ≡ Memory.over (wire_bytes (take count scratch.now)) wires.old }
 {
-    let mut i = 0;
-    while i < count {
-        wires[i] = scratch[i] % 2;
-        i += 1;
+    for (i, &held) in scratch[..count].iter().enumerate() {
+        wires[i] = held % 2;
     }
 }

@@ -7,6 +7,7 @@ use Prim.Native.Nat.{ℕ, zero, suc, ◌+◌, ◌-◌, ◌≤◌, ◌<◌}
 use native.Mathlib.Omega.{arith}
 use lib.Dec.{ltb}
 use lib.ListN.{length}
+use Rattle.std.specs.Prelude.{Result, Ok, Err}
 use Rattle.refusals.specs.declared.Refusal.{Refusal}
 use Rattle.words.specs.declared.Row.{Row}
 use Rattle.words.proofs.Truth.{on, and_l, and_r}
@@ -15,10 +16,7 @@ use Rattle.lexer.specs.Places.{part, first_of}
 use Rattle.lexer.specs.Blanks.{tokens_past}
 use Rattle.lexer.proofs.Tokens.{found}
 use Rattle.numbers.specs.Numbers.{Number, number, malformed, number_read}
-use Rattle.header.specs.declared.HeaderNumbers.{HeaderNumbers}
-use Rattle.header.specs.declared.HeaderNumbers.TheVariants as sizes
-use Rattle.header.specs.declared.Header.{Header}
-use Rattle.header.specs.Header.{header_of}
+use Rattle.header.specs.Header.{HeaderLine, header_of}
 use Rattle.clauses.specs.Rows.{Literal, row_of}
 use Rattle.clauses.specs.Clauses.{Reading, clause, ended, unreadable, joined_literal, before, clauses}
 use Rattle.clauses.specs.First.{clauses_from, empty_row, with_literals, first}
@@ -92,9 +90,9 @@ pub clause_lies : (text : List ℕ) (k : ℕ) → Lies text (clause_of text k)
 unfolding clause_of
 clause_lies text k = go (header_of 1 text).sizes refl
   where
-    go : (s : HeaderNumbers) → (header_of 1 text).sizes ≡ s → Lies text (skip k (behind_header text (header_of 1 text).end s))
-    go (sizes.Refused r) q = rw (skip-none k) tt
-    go (sizes.Of n m) q =
+    go : (s : Result (ℕ × ℕ) Refusal) → (header_of 1 text).sizes ≡ s → Lies text (skip k (behind_header text (header_of 1 text).end s))
+    go (Err r) q = rw (skip-none k) tt
+    go (Ok (n, m)) q =
         let end = (header_of 1 text).end in
         skip_lies n text (limits 1 text (header_of 1 text) refl n m q).0 k end (clauses_from n text end) (clauses_lie n text (tokens_past text end) end refl)
         (clauses-below n (tokens_past text end))
@@ -144,14 +142,14 @@ module _ (n : ℕ) (text : List ℕ) (start k : ℕ) where
 
 -- ---- after the header
 
-module _ (text : List ℕ) (k : ℕ) (h : Header) (e : h ≡ header_of 1 text) where
-  by-sizes : (s : HeaderNumbers) → h.sizes ≡ s → skip k (behind_header text h.end s) ≡ clause_of text k
+module _ (text : List ℕ) (k : ℕ) (h : HeaderLine) (e : h ≡ header_of 1 text) where
+  by-sizes : (s : Result (ℕ × ℕ) Refusal) → h.sizes ≡ s → skip k (behind_header text h.end s) ≡ clause_of text k
   unfolding clause_of
   by-sizes s q =
-      ap (λ (x : HeaderNumbers). skip k (behind_header text h.end x)) (sym q) ∙ ap (λ (x : Header). skip k (behind_header text x.end x.sizes)) e
+      ap (λ (x : Result (ℕ × ℕ) Refusal). skip k (behind_header text h.end x)) (sym q) ∙ ap (λ (x : HeaderLine). skip k (behind_header text x.end x.sizes)) e
 
-  pub no_header : (r : Refusal) → h.sizes ≡ sizes.Refused r → Unreadable ≡ first (clause_of text k)
-  no_header r q = ap first (sym (skip-none k) ∙ by-sizes (sizes.Refused r) q)
+  pub no_header : (r : Refusal) → h.sizes ≡ Err r → Unreadable ≡ first (clause_of text k)
+  no_header r q = ap first (sym (skip-none k) ∙ by-sizes (Err r) q)
 
-  pub clause_found : (n m : ℕ) → h.sizes ≡ sizes.Of n m → (y : Clause) → y ≡ first (skip k (clauses_from n text h.end)) → y ≡ first (clause_of text k)
-  clause_found n m q y z = z ∙ ap first (by-sizes (sizes.Of n m) q)
+  pub clause_found : (n m : ℕ) → h.sizes ≡ Ok (n, m) → (y : Clause) → y ≡ first (skip k (clauses_from n text h.end)) → y ≡ first (clause_of text k)
+  clause_found n m q y z = z ∙ ap first (by-sizes (Ok (n, m)) q)

@@ -7,11 +7,9 @@ use native.Mathlib.Omega.{arith}
 use lib.Dec.{eqb, leb}
 use lib.ListN.{length, take, drop}
 use borrow.Author.Tests.{eq-eqb, ne_eqb, le-leb, lt-leb, leb-true, leb-false}
-use Rattle.refusals.specs.Numbers.{said}
+use Rattle.std.specs.Prelude.{Result, Ok, Err}
+use Rattle.refusals.specs.Numbers.{Outcome, said}
 use Rattle.refusals.specs.Checks.{outcome, given}
-use Rattle.refusals.specs.declared.Outcome.{Outcome}
-use Rattle.refusals.specs.declared.Outcome.TheVariants.{Taken}
-use Rattle.refusals.specs.declared.Outcome.TheVariants as outcomes
 use Rattle.refusals.specs.declared.Refusal.{Refusal}
 use Rattle.refusals.proofs.Outcomes.{given-said}
 use Rattle.words.specs.declared.Row.{Row}
@@ -25,8 +23,6 @@ use Rattle.dimensions.specs.declared.Dimensions.{Dimensions}
 use Rattle.tables.specs.Tables.{Tables}
 use Rattle.tables.specs.Rows.{row_at}
 use Rattle.excerpts.specs.declared.Place.{Place}
-use Rattle.excerpts.specs.declared.Placed.{Placed}
-use Rattle.excerpts.specs.declared.Placed.TheVariants as placed'
 use Rattle.excerpts.specs.Excerpts.{excerpt_checks, clause_of, same_words, between, place_in, place_of, clause_place, placed, placed_code, place_numbers}
 use Rattle.excerpts.specs.Excerpts.{placed_numbers, bytes_at, clause_bytes}
 use Rattle.excerpts.specs.PlaceByWords.{place_held, Ordered}
@@ -134,70 +130,70 @@ module _ (d : Dimensions) (tables : Tables) (text_of_left text_of_right : List �
 
   -- ---- the answer
 
-  abbrev answer : Outcome → Placed
-  answer o = given o (placed'.Of (clause_place d tables text_of_left text_of_right number)) placed'.Refused
+  abbrev answer : Outcome → Result Place Refusal
+  answer o = given o (Ok (clause_place d tables text_of_left text_of_right number)) Err
 
   -- it says its number and its values
-  pub with-said : (p : Placed) → p ≡ placed d tables text_of_left text_of_right number
+  pub with-said : (p : Result Place Refusal) → p ≡ placed d tables text_of_left text_of_right number
       → (p ≡ placed d tables text_of_left text_of_right number)
       × (placed_code p ∷ placed_numbers p
       ≡ said (outcome (excerpt_checks d tables text_of_left text_of_right number)) (place_numbers (clause_place d tables text_of_left text_of_right number)))
   unfolding placed
   with-said p e = (
     e,
-    ap (λ (x : Placed). placed_code x ∷ placed_numbers x) e
-        ∙ given-said (λ (x : Placed). placed_code x ∷ placed_numbers x) (outcome (excerpt_checks d tables text_of_left text_of_right number))
-        (placed'.Of (clause_place d tables text_of_left text_of_right number)) placed'.Refused
+    ap (λ (x : Result Place Refusal). placed_code x ∷ placed_numbers x) e
+        ∙ given-said (λ (x : Result Place Refusal). placed_code x ∷ placed_numbers x) (outcome (excerpt_checks d tables text_of_left text_of_right number))
+        (Ok (clause_place d tables text_of_left text_of_right number)) Err
         (place_numbers (clause_place d tables text_of_left text_of_right number)) refl (λ r. refl),
   )
 
   -- where asking for a clause is refused, that refusal is handed back and no place
-  pub place-refused : (q : Refusal) → outcomes.Refused q ≡ outcome (excerpt_checks d tables text_of_left text_of_right number)
-      → placed'.Refused q ≡ placed d tables text_of_left text_of_right number
+  pub place-refused : (q : Refusal) → Err q ≡ outcome (excerpt_checks d tables text_of_left text_of_right number)
+      → Err q ≡ placed d tables text_of_left text_of_right number
   unfolding placed
   place-refused q e = ap answer e
 
-  module _ (e : Taken ≡ outcome (excerpt_checks d tables text_of_left text_of_right number)) where
-    place-taken : placed'.Of (clause_place d tables text_of_left text_of_right number) ≡ placed d tables text_of_left text_of_right number
+  module _ (e : (Ok tt) ≡ outcome (excerpt_checks d tables text_of_left text_of_right number)) where
+    place-taken : Ok (clause_place d tables text_of_left text_of_right number) ≡ placed d tables text_of_left text_of_right number
     unfolding placed
     place-taken = ap answer e
 
-    pub left-place : number ≤ d.left → (p : Place) → p ≡ place_of 0 tables.left text_of_left (number - 1) → placed'.Of p
+    pub left-place : number ≤ d.left → (p : Place) → p ≡ place_of 0 tables.left text_of_left (number - 1) → Ok p
         ≡ placed d tables text_of_left text_of_right number
-    left-place h p q = ap placed'.Of (q ∙ sym (left_is h)) ∙ place-taken
+    left-place h p q = ap Ok (q ∙ sym (left_is h)) ∙ place-taken
 
     pub right_place : d.left < number → (p : Place) → p ≡ place_of 1 tables.right text_of_right (number - d.left - 1)
-        → placed'.Of p ≡ placed d tables text_of_left text_of_right number
-    right_place h p q = ap placed'.Of (q ∙ sym (right_is h)) ∙ place-taken
+        → Ok p ≡ placed d tables text_of_left text_of_right number
+    right_place h p q = ap Ok (q ∙ sym (right_is h)) ∙ place-taken
 
     pub some-row : 1 ≤ number
     some-row = (asked d tables text_of_left text_of_right number (sym e)).least
 
   -- ---- the bytes
 
-  pub no_bytes : (q : Refusal) → placed'.Refused q ≡ placed d tables text_of_left text_of_right number
+  pub no_bytes : (q : Refusal) → Err q ≡ placed d tables text_of_left text_of_right number
       → [] ≡ clause_bytes d tables text_of_left text_of_right number
   unfolding placed clause_bytes
   no_bytes q e = go (outcome (excerpt_checks d tables text_of_left text_of_right number)) e
     where
-      go : (o : Outcome) → placed'.Refused q ≡ answer o
+      go : (o : Outcome) → Err q ≡ answer o
           → [] ≡ given o (bytes_at text_of_left text_of_right (clause_place d tables text_of_left text_of_right number)) (λ r. [])
-      go Taken h = absurd (let z : ◌≡◌ {A = ℕ} 0 1 = cc in omega arith)
-      go (outcomes.Refused r) h = refl
+      go (Ok _) h = absurd (let z : ◌≡◌ {A = ℕ} 0 1 = cc in omega arith)
+      go (Err r) h = refl
 
-  module _ (p : Place) (e : placed'.Of p ≡ placed d tables text_of_left text_of_right number) where
+  module _ (p : Place) (e : Ok p ≡ placed d tables text_of_left text_of_right number) where
     -- what is placed is the clause's place, and its bytes are there
     both : (p ≡ clause_place d tables text_of_left text_of_right number)
         × (bytes_at text_of_left text_of_right p ≡ clause_bytes d tables text_of_left text_of_right number)
     unfolding placed clause_bytes
     both = go (outcome (excerpt_checks d tables text_of_left text_of_right number)) e
       where
-        go : (o : Outcome) → placed'.Of p ≡ answer o
+        go : (o : Outcome) → Ok p ≡ answer o
             → (p ≡ clause_place d tables text_of_left text_of_right number)
             × (bytes_at text_of_left text_of_right p ≡ given o (bytes_at text_of_left text_of_right (clause_place d tables text_of_left text_of_right number))
             (λ r. []))
-        go Taken h = let q : p ≡ clause_place d tables text_of_left text_of_right number = cc in (q, ap (bytes_at text_of_left text_of_right) q)
-        go (outcomes.Refused r) h = absurd (let z : ◌≡◌ {A = ℕ} 0 1 = cc in omega arith)
+        go (Ok _) h = let q : p ≡ clause_place d tables text_of_left text_of_right number = cc in (q, ap (bytes_at text_of_left text_of_right) q)
+        go (Err r) h = absurd (let z : ◌≡◌ {A = ℕ} 0 1 = cc in omega arith)
 
     pub left-within : p.station ≡ 0 → p.start + p.length ≤ length text_of_left
     left-within =

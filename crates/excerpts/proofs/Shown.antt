@@ -7,19 +7,17 @@ use native.Mathlib.Omega.{arith}
 use lib.Dec.{eqb, ltb}
 use lib.ListN.{length, get_or, replicate}
 use borrow.Author.Tests.{eq-eqb, ltb-true, ltb-false}
-use Rattle.refusals.specs.declared.Outcome.TheVariants.{Taken}
+use Rattle.std.specs.Prelude.{Result, Ok, Err}
+use Rattle.refusals.specs.declared.Refusal.{Refusal}
 use Rattle.refusals.proofs.Outcomes.{refused-taken}
 use Rattle.words.specs.declared.Row.{Row}
 use Rattle.words.proofs.Truth.{on}
 use Rattle.lexer.specs.Blanks.{tokens_past}
-use Rattle.header.specs.declared.HeaderNumbers.{HeaderNumbers}
-use Rattle.header.specs.declared.HeaderNumbers.TheVariants as sizes
 use Rattle.header.specs.Header.{header_of}
 use Rattle.clauses.specs.Rows.{row_of, words_of_rows}
 use Rattle.clauses.specs.Clauses.{Reading, clause, ended, unreadable, clause_rows, complete}
 use Rattle.clauses.specs.First.{clauses_from}
-use Rattle.dimacs.specs.declared.Table.{Table}
-use Rattle.dimacs.specs.Text.{table_of}
+use Rattle.dimacs.specs.Text.{TextTable, table_of}
 use Rattle.dimacs.proofs.Remarks.{standing}
 use Rattle.dimacs.proofs.Texts.{overlong, by_header}
 use Rattle.tables.specs.Rows.{row_at}
@@ -54,12 +52,12 @@ clause_shown station text zeros k i unreadable l h = absurd (omega arith)
 -- of an accepted text
 module _ (station : ℕ) (text : List ℕ) (k : ℕ) where
   -- in the table that is read
-  abbrev InTable : HeaderNumbers → Table → Type 0
-  InTable s t = t.outcome ≡ Taken → k < t.rows → Shown station (skip k (behind_header text (header_of 1 text).end s)) (row_at t.words k)
+  abbrev InTable : Result (ℕ × ℕ) Refusal → TextTable → Type 0
+  InTable s t = t.outcome ≡ Ok tt → k < t.rows → Shown station (skip k (behind_header text (header_of 1 text).end s)) (row_at t.words k)
 
-  by-sizes : (s : HeaderNumbers) → InTable s (standing text (header_of 1 text).end s)
-  by-sizes (sizes.Refused r) = λ taken h. absurd (refused-taken taken)
-  by-sizes (sizes.Of n m) =
+  by-sizes : (s : Result (ℕ × ℕ) Refusal) → InTable s (standing text (header_of 1 text).end s)
+  by-sizes (Err r) = λ taken h. absurd (refused-taken taken)
+  by-sizes (Ok (n, m)) =
       let end = (header_of 1 text).end in
       let x = clauses_from n text end in
       on (complete x && eqb (length (clause_rows x)) m)
@@ -67,12 +65,12 @@ module _ (station : ℕ) (text : List ℕ) (k : ℕ) where
       (clauses_lie n text (tokens_past text end) end refl) h))
       (λ e. rw e (λ taken h. absurd (refused-taken taken)))
 
-  pub row-shown : (table_of 1 text).outcome ≡ Taken → k < (table_of 1 text).rows → (words : List ℕ) → row_at words k ≡ row_at (table_of 1 text).words k
+  pub row-shown : (table_of 1 text).outcome ≡ Ok tt → k < (table_of 1 text).rows → (words : List ℕ) → row_at words k ≡ row_at (table_of 1 text).words k
       → 1 ≤ (place_of station words text k).length
   unfolding clause_of
   row-shown taken h words same =
       subst (Shown station (clause_of text k)) (sym same)
       (on (ltb 65536 (length text))
-      (λ e. absurd (refused-taken (sym (ap (λ (t : Table). t.outcome) (overlong 1 text (ltb-true 65536 (length text) e))) ∙ taken)))
+      (λ e. absurd (refused-taken (sym (ap (λ (t : TextTable). t.outcome) (overlong 1 text (ltb-true 65536 (length text) e))) ∙ taken)))
       (λ e. let is = by_header 1 text (ltb-false 65536 (length text) e) (header_of 1 text) refl (header_of 1 text).sizes refl in
       subst (InTable (header_of 1 text).sizes) (sym is) (by-sizes (header_of 1 text).sizes) taken h))

@@ -2,6 +2,8 @@
 -- first.
 -- Ask: Is a clause from its first literal through its 0, in the text as it is? What is given where the row has other words now? Is an
 -- overlong text first, and 17 last?
+use Rattle.std.specs.Prelude.{Bool, ℕ, Result, Ok, Err}
+use Rattle.refusals.specs.declared.Refusal.{Refusal}
 use Rattle.std.specs.Prelude.{
   ℕ,
   zero,
@@ -30,39 +32,34 @@ use Rattle.refusals.specs.Checks.{Check, check, outcome, given}
 use Rattle.refusals.specs.declared.Refusal.TheVariants.{Text, TextsDiffer, NoClause}
 use Rattle.words.specs.declared.Row.{Row}
 use Rattle.lexer.specs.Blanks.{tokens_past}
-use Rattle.header.specs.declared.HeaderNumbers.{HeaderNumbers}
-use Rattle.header.specs.declared.HeaderNumbers.TheVariants as sizes
 use Rattle.header.specs.Header.{header_of}
 use Rattle.clauses.specs.Rows.{Literal}
 use Rattle.clauses.specs.Rows as rows
 use Rattle.clauses.specs.Clauses.{Reading, clause, ended, unreadable, clauses}
-use Rattle.dimacs.specs.declared.Table.{Table}
-use Rattle.dimacs.specs.Text.{table_of}
+use Rattle.dimacs.specs.Text.{TextTable, table_of}
 use Rattle.dimensions.specs.declared.Dimensions.{Dimensions}
 use Rattle.tables.specs.Tables.{Tables}
 use Rattle.tables.specs.Rows.{row_at}
 use Rattle.tables.specs.Acceptance.{table_checks}
 use Rattle.excerpts.specs.declared.Place.{Place}
-use Rattle.excerpts.specs.declared.Placed.{Placed}
-use Rattle.excerpts.specs.declared.Placed.TheVariants as placed'
 
 -- ---- when it is given
 
 -- what reading a text is refused with: 1, 2 or 5
-abbrev pub outcome_checks : Table → List Check
+abbrev pub outcome_checks : TextTable → List Check
 outcome_checks t = given t.outcome [] (λ r. check true r ∷ [])
 
 -- a text has these n and row count
-abbrev pub of_sizes : Table → ℕ → ℕ → Bool
+abbrev pub of_sizes : TextTable → ℕ → ℕ → Bool
 of_sizes t n count = eqb t.n n && eqb t.rows count
 
 -- a left or right row, and each text's n and row count are its table's
-abbrev pub has_clause : Dimensions → Table → Table → ℕ → Bool
+abbrev pub has_clause : Dimensions → TextTable → TextTable → ℕ → Bool
 has_clause d l r number =
     (ltb 0 number && leb number (d.left + d.right)) && (of_sizes l d.n d.left && of_sizes r d.n d.right)
 
 -- 1, 2, 5 of the left text, of the right text; 6 where they differ in n; 17
-abbrev pub text_checks : Dimensions → Table → Table → ℕ → List Check
+abbrev pub text_checks : Dimensions → TextTable → TextTable → ℕ → List Check
 text_checks d l r number =
     outcome_checks l ++ (outcome_checks r
     ++ (check (not (eqb l.n r.n)) TextsDiffer ∷ check (not (has_clause d l r number)) NoClause ∷ []))
@@ -87,9 +84,9 @@ skip (suc k) ended = unreadable
 skip (suc k) unreadable = unreadable
 
 -- the clauses after a header, in the text as it is: remarks are passed by and places are the text's
-abbrev pub behind_header : List ℕ → ℕ → HeaderNumbers → Reading
-behind_header text end (sizes.Of n m) = clauses n (tokens_past text end)
-behind_header text end (sizes.Refused r) = unreadable
+abbrev pub behind_header : List ℕ → ℕ → Result (ℕ × ℕ) Refusal → Reading
+behind_header text end (Ok (n, m)) = clauses n (tokens_past text end)
+behind_header text end (Err r) = unreadable
 
 -- a station's text from its clause k on, from 0
 unfoldable pub clause_of : List ℕ → ℕ → Reading
@@ -125,25 +122,25 @@ clause_place d tables text_of_left text_of_right number =
 -- ---- what is handed back
 
 -- the place, or the refusal
-unfoldable pub placed : Dimensions → Tables → List ℕ → List ℕ → ℕ → Placed
+unfoldable pub placed : Dimensions → Tables → List ℕ → List ℕ → ℕ → Result Place Refusal
 unfolding clause_place
 placed d tables text_of_left text_of_right number =
     given (outcome (excerpt_checks d tables text_of_left text_of_right number))
-    (placed'.Of (clause_place d tables text_of_left text_of_right number)) placed'.Refused
+    (Ok (clause_place d tables text_of_left text_of_right number)) Err
 
 -- what asking for the place returns: 0, or the refusal's number
-abbrev pub placed_code : Placed → ℕ
-placed_code (placed'.Of place) = 0
-placed_code (placed'.Refused r) = number_of r
+abbrev pub placed_code : Result Place Refusal → ℕ
+placed_code (Ok place) = 0
+placed_code (Err r) = number_of r
 
 -- station, start and length
 abbrev pub place_numbers : Place → List ℕ
 place_numbers place = place.station ∷ (place.start ∷ (place.length ∷ []))
 
 -- those of the place
-abbrev pub placed_numbers : Placed → List ℕ
-placed_numbers (placed'.Of place) = place_numbers place
-placed_numbers (placed'.Refused r) = []
+abbrev pub placed_numbers : Result Place Refusal → List ℕ
+placed_numbers (Ok place) = place_numbers place
+placed_numbers (Err r) = []
 
 -- the bytes of one of two texts at a place
 abbrev pub bytes_at : List ℕ → List ℕ → Place → List ℕ

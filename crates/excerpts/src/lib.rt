@@ -5,7 +5,8 @@ ghost use Rattle.std.specs.Prelude.{◌≡◌, ◌∷◌, [], ◌+◌, ◌*◌, 
 ghost use Rattle.refusals.specs.Numbers.{said, code_of};
 ghost use Rattle.refusals.specs.Checks.{outcome};
 ghost use Rattle.clauses.specs.First.{clauses_from, first};
-ghost use Rattle.tables.specs.Tables.{lent_tables};
+ghost use Rattle.tables.specs.Tables.{lent_words};
+ghost use Rattle.dimacs.specs.Text.{as_read};
 ghost use Rattle.excerpts.specs.Excerpts.{has_clause, text_checks, excerpt_checks, skip, clause_of, between, place_of, clause_place};
 ghost use Rattle.excerpts.specs.Excerpts.{placed, placed_code, place_numbers, placed_numbers, clause_bytes};
 ghost use Rattle.excerpts.specs.PlaceByWords.{place_held, Ordered};
@@ -13,8 +14,8 @@ ghost use Rattle.excerpts.specs.PlaceByWords.{place_held, Ordered};
 use clauses::Clause;
 use dimacs::Table;
 use dimensions::Dimensions;
-use header::HeaderNumbers;
-use refusals::{Outcome, Refusal};
+use refusals::Refusal;
+use tables::Tables;
 use words::Row;
 
 // Where a clause is: the text of station 0, the left one, or 1, the right one, its first byte and how many they are.
@@ -25,18 +26,11 @@ pub struct Place {
     pub length: usize,
 }
 
-// The place of a row's clause, or why there is none.
-#[derive(Clone, Copy)]
-pub enum Placed {
-    Of(Place),
-    Refused(Refusal),
-}
-
 // ---- checks
 
 // Whether the row is a station's and each text has its table's n and row count.
 fn has_clause(d: Dimensions, left: Table, right: Table, number: u64) -> bool
-    ensures { result ≡ has_clause d left right number }
+    ensures { result ≡ has_clause d (as_read left) (as_read right) number }
 {
     let rows = (d.left as u64) + (d.right as u64);
     let station = (0 < number) & (number <= rows);
@@ -45,54 +39,38 @@ fn has_clause(d: Dimensions, left: Table, right: Table, number: u64) -> bool
     station & (left_sizes & right_sizes)
 }
 
-// What two texts are refused with, left before right; then 6, then 17.
-fn check_texts(d: Dimensions, left: Table, right: Table, number: u64) -> Outcome
-    ensures { result ≡ outcome (text_checks d left right number) }
+// What two texts that were read are refused with: 6, then 17.
+fn check_texts(d: Dimensions, left: Table, right: Table, number: u64) -> Result<(), Refusal>
+    ensures { result ≡ outcome (text_checks d (as_read left) (as_read right) number) }
 {
-    let left_outcome = left.outcome;
-    match left_outcome {
-        Outcome::Taken => {}
-        Outcome::Refused(refusal) => return Outcome::Refused(refusal),
-    }
-    let right_outcome = right.outcome;
-    match right_outcome {
-        Outcome::Taken => {}
-        Outcome::Refused(refusal) => return Outcome::Refused(refusal),
-    }
     if left.n != right.n {
-        return Outcome::Refused(Refusal::TextsDiffer);
+        return Err(Refusal::TextsDiffer);
     }
     if !has_clause(d, left, right, number) {
-        return Outcome::Refused(Refusal::NoClause);
+        return Err(Refusal::NoClause);
     }
-    Outcome::Taken
+    Ok(())
 }
 
 // Whether the clause of a row may be asked for: 5 for an overlong text, the tables' 1, 2, 4, 3, the left text's 1, 2, 5, the right text's,
 // 6, then 17.
 pub fn check_excerpt(
     d: Dimensions,
-    left: &[u32],
-    right: &[u32],
-    public: &[u32],
+    tables: Tables<'_>,
     left_text: &[u8],
     right_text: &[u8],
     number: u64,
-) -> Outcome
-    ensures value { result ≡ outcome (excerpt_checks d (lent_tables left right public) left_text.now right_text.now number) }
-    ensures result_value { code_of result ∷ [] ≡ said (outcome (excerpt_checks d (lent_tables left right public) left_text.now
+) -> Result<(), Refusal>
+    ensures value { result ≡ outcome (excerpt_checks d (lent_words tables) left_text.now right_text.now number) }
+    ensures result_value { code_of result ∷ [] ≡ said (outcome (excerpt_checks d (lent_words tables) left_text.now
         right_text.now number)) [] }
 {
     if (65536 < left_text.len()) | (65536 < right_text.len()) {
-        return Outcome::Refused(Refusal::Text);
+        return Err(Refusal::Text);
     }
-    let checked = tables::accept(d, left, right, public);
-    match checked {
-        Outcome::Taken => {}
-        Outcome::Refused(refusal) => return Outcome::Refused(refusal),
-    }
-    let left_table = dimacs::read(left_text, 1);
-    let right_table = dimacs::read(right_text, 1);
+    tables::accept(d, tables)?;
+    let left_table = dimacs::read(left_text, 1)?;
+    let right_table = dimacs::read(right_text, 1)?;
     check_texts(d, left_table, right_table, number)
 }
 
@@ -104,13 +82,11 @@ fn nth_clause(text: &[u8], start: usize, n: u8, k: usize) -> Clause
     ensures { result ≡ first (skip k (clauses_from n text.now start)) }
 {
     let mut at = start;
-    let mut i = 0;
-    while i < k {
+    for _ in 0..k {
         let Clause::Read(_, _, next) = clauses::read_clause(text, at, n) else {
             return Clause::Unreadable;
         };
         at = next;
-        i += 1;
     }
     clauses::read_clause(text, at, n)
 }
@@ -119,13 +95,10 @@ fn nth_clause(text: &[u8], start: usize, n: u8, k: usize) -> Clause
 fn find_clause(text: &[u8], k: usize) -> Clause
     ensures { result ≡ first (clause_of text.now k) }
 {
-    let header = header::read_header(text, 1);
-    let end = header.end;
-    let sizes = header.sizes;
-    match sizes {
-        HeaderNumbers::Of(n, _) => nth_clause(text, end, n, k),
-        HeaderNumbers::Refused(_) => Clause::Unreadable,
-    }
+    let Ok(header) = header::read_header(text, 1) else {
+        return Clause::Unreadable;
+    };
+    nth_clause(text, header.end, header.n, k)
 }
 
 // The place from one byte up to another.
@@ -169,48 +142,41 @@ fn find_place(station: u8, words: &[u32], text: &[u8], i: usize) -> Place
 // The place of the clause that row `number`, from 1, was read from; length 0 where the table's row no longer has the clause's two words.
 pub fn clause_place(
     d: Dimensions,
-    left: &[u32],
-    right: &[u32],
-    public: &[u32],
+    tables: Tables<'_>,
     left_text: &[u8],
     right_text: &[u8],
     number: u64,
-) -> Placed
-    ensures value { result ≡ placed d (lent_tables left right public) left_text.now right_text.now number }
+) -> Result<Place, Refusal>
+    ensures value { result ≡ placed d (lent_words tables) left_text.now right_text.now number }
     ensures result_value { placed_code result ∷ placed_numbers result
-        ≡ said (outcome (excerpt_checks d (lent_tables left right public) left_text.now
-        right_text.now number)) (place_numbers (clause_place d (lent_tables left right public) left_text.now
+        ≡ said (outcome (excerpt_checks d (lent_words tables) left_text.now
+        right_text.now number)) (place_numbers (clause_place d (lent_words tables) left_text.now
         right_text.now number)) }
 {
-    let checked = check_excerpt(d, left, right, public, left_text, right_text, number);
-    match checked {
-        Outcome::Taken => {}
-        Outcome::Refused(refusal) => return Placed::Refused(refusal),
-    }
+    let checked = check_excerpt(d, tables, left_text, right_text, number);
+    checked?;
     let left_rows = d.left as u64;
     if number <= left_rows {
         let i = (number - 1) as usize;
-        return Placed::Of(find_place(0, left, left_text, i));
+        return Ok(find_place(0, tables.left, left_text, i));
     }
     let i = (number - left_rows - 1) as usize;
-    Placed::Of(find_place(1, right, right_text, i))
+    Ok(find_place(1, tables.right, right_text, i))
 }
 
 // The own bytes of the clause that row `number`, from 1, was read from, a part of the left or the right text: from its first literal
 // through its 0. The part is empty where the table's row no longer has the clause's two words, and where `check_excerpt` refuses.
 pub fn clause_bytes<'a>(
     d: Dimensions,
-    left: &[u32],
-    right: &[u32],
-    public: &[u32],
+    tables: Tables<'_>,
     left_text: &'a [u8],
     right_text: &'a [u8],
     number: u64,
 ) -> &'a [u8]
-    ensures { result.now ≡ clause_bytes d (lent_tables left right public) left_text.now right_text.now number }
+    ensures { result.now ≡ clause_bytes d (lent_words tables) left_text.now right_text.now number }
 {
-    let asked = clause_place(d, left, right, public, left_text, right_text, number);
-    let Placed::Of(place) = asked else {
+    let asked = clause_place(d, tables, left_text, right_text, number);
+    let Ok(place) = asked else {
         return &left_text[..0];
     };
     let start = place.start;

@@ -1,10 +1,9 @@
--- What the entry gives: outcome and run are the plain step's, and the outcome, that of the checks, decides what is told.
+-- What the entry gives: outcome and run are the plain step's, and the outcome, that of the checks, decides what is returned.
 use mathlib.Core.Path.{◌≡◌, refl, sym, ap, ◌∙◌}
 use mathlib.Core.List.{◌++◌}
+use Rattle.std.specs.Prelude.{Result, Ok, Err}
 use Rattle.refusals.specs.Checks.{outcome, given}
-use Rattle.refusals.specs.Numbers.{said}
-use Rattle.refusals.specs.declared.Outcome.{Outcome}
-use Rattle.refusals.specs.declared.Outcome.TheVariants.{Taken, Refused}
+use Rattle.refusals.specs.Numbers.{Outcome, said}
 use Rattle.refusals.specs.declared.Refusal.{Refusal}
 use Rattle.dimensions.specs.declared.Dimensions.{Dimensions}
 use Rattle.tables.specs.Tables.{Tables}
@@ -13,13 +12,11 @@ use Rattle.tables.specs.Acceptance.{table_checks}
 use Rattle.state.specs.declared.Run.{Run}
 use Rattle.state.specs.State.{state_of, run_of}
 use Rattle.state.specs.WellFormed.{state_checks}
-use Rattle.solver.specs.declared.Stepped.{Stepped}
 use Rattle.solver.specs.Step.{step}
-use Rattle.solver.specs.Entries.{stepped}
-use Rattle.explained.specs.declared.Explained.{Explained}
+use Rattle.solver.specs.Entries.{Stepped, stepped}
 use Rattle.explained.specs.declared.Told.{Told}
 use Rattle.explained.specs.declared.Told.TheVariants.{Nothing}
-use Rattle.explained.specs.Explanation.{explanation, explained, told_numbers, explained_said}
+use Rattle.explained.specs.Explanation.{explanation, explained, told_of, told_numbers, explained_said}
 
 module _ (d : Dimensions) (tables : Tables) (run : Run) where
   abbrev checked : Outcome
@@ -34,40 +31,39 @@ module _ (d : Dimensions) (tables : Tables) (run : Run) where
   step-outcome = go checked
     where
       go : (o : Outcome)
-          → (given {A = Stepped} o (record { outcome = Taken; run = run_of d.n (step d.n (rows_of d tables) (state_of run)) })
-          (λ r. record { outcome = Refused r; run = run })).outcome ≡ o
-      go Taken = refl
-      go (Refused r) = refl
+          → (given {A = Stepped} o (record { outcome = Ok tt; run = run_of d.n (step d.n (rows_of d tables) (state_of run)) })
+          (λ r. record { outcome = Err r; run = run })).outcome ≡ o
+      go (Ok _) = refl
+      go (Err r) = refl
 
-  told-by : (o : Outcome) → said o (told_numbers (given o tells (λ r. Nothing))) ≡ said o (told_numbers tells)
-  told-by Taken = refl
-  told-by (Refused r) = refl
+  -- by the plain step's outcome: what the step tells, or the refusal
+  given-by : (o : Outcome) → given o (Ok tells) Err ≡ given o (Ok (given o tells (λ r. Nothing))) Err
+  given-by (Ok _) = refl
+  given-by (Err r) = refl
 
-  -- what is given says its number and its values
-  with-said : (e : Explained) → e ≡ explained d tables run → (e ≡ explained d tables run) × (explained_said e ≡ said checked (told_numbers tells))
-  unfolding explained
-  with-said e q =
-      (q, ap explained_said q ∙ told-by (stepped d tables run).outcome ∙ ap (λ (o : Outcome). said o (told_numbers tells)) step-outcome)
+  said-by : (o : Outcome) → explained_said (given o (Ok tells) Err) ≡ said o (told_numbers tells)
+  said-by (Ok _) = refl
+  said-by (Err r) = refl
 
-  module _ (s : Stepped) (q : s ≡ stepped d tables run) where
-    pub passed_checks : s.outcome ≡ checked
-    passed_checks = ap (λ (x : Stepped). x.outcome) q ∙ step-outcome
+  module _ (o : Outcome) (e : o ≡ (stepped d tables run).outcome) where
+    pub passed_checks : o ≡ checked
+    passed_checks = e ∙ step-outcome
 
-    explained_as : (o : Outcome) → s.outcome ≡ o
-        → ◌≡◌ {A = Explained} (record { outcome = o; run = s.run; told = given o tells (λ r. Nothing) }) (explained d tables run)
-    unfolding explained
-    explained_as o t =
-        ap (λ (x : Outcome). record { outcome = x; run = s.run; told = given x tells (λ r. Nothing) }) (sym t)
-        ∙ ap (λ (x : Stepped). record { outcome = x.outcome; run = x.run; told = given x.outcome tells (λ r. Nothing) }) q
+    module _ (next : Run) (same : next ≡ (stepped d tables run).run) where
+      -- what is returned, the run then, and what is said
+      abbrev pub Returned : Result Told Refusal → Type 0
+      Returned x = (x ≡ told_of (explained d tables run)) × (next ≡ (explained d tables run).run) × (explained_said x ≡ said checked (told_numbers tells))
 
-    pub explained-taken : s.outcome ≡ Taken → (told : Told) → told ≡ tells
-        → let e : Explained = record { outcome = Taken; run = s.run; told = told } in
-        (e ≡ explained d tables run) × (explained_said e ≡ said checked (told_numbers tells))
-    explained-taken t told h =
-        with-said (record { outcome = Taken; run = s.run; told = told })
-        (ap (λ (x : Told). record { outcome = Taken; run = s.run; told = x }) h ∙ explained_as Taken t)
+      returned : (x : Result Told Refusal) → x ≡ given o (Ok tells) Err → Returned x
+      unfolding explained
+      returned x q = (
+        q ∙ given-by o ∙ ap (λ (y : Outcome). given y (Ok (given y tells (λ r. Nothing))) Err) e,
+        same,
+        ap explained_said q ∙ said-by o ∙ ap (λ (y : Outcome). said y (told_numbers tells)) passed_checks,
+      )
 
-    pub explained-refused : (r : Refusal) → s.outcome ≡ Refused r
-        → let e : Explained = record { outcome = Refused r; run = s.run; told = Nothing } in
-        (e ≡ explained d tables run) × (explained_said e ≡ said checked (told_numbers tells))
-    explained-refused r t = with-said (record { outcome = Refused r; run = s.run; told = Nothing }) (explained_as (Refused r) t)
+      pub explained-taken : o ≡ Ok tt → (told : Told) → told ≡ tells → Returned (Ok told)
+      explained-taken t told h = returned (Ok told) (ap Ok h ∙ ap (λ (y : Outcome). given y (Ok tells) Err) (sym t))
+
+      pub explained-refused : (r : Refusal) → o ≡ Err r → Returned (Err r)
+      explained-refused r t = returned (Err r) (ap (λ (y : Outcome). given y (Ok tells) Err) (sym t))

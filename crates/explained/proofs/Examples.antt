@@ -12,7 +12,7 @@ use Rattle.state.specs.declared.Standing.TheVariants.{Open, Satisfied, Refuted}
 use Rattle.state.specs.declared.Run.{Run}
 use Rattle.state.specs.State.{State, fresh, run_of}
 use Rattle.state.specs.WellFormed.{disjoint, well_formed}
-use Rattle.explained.specs.Explanation.{explanation, explained, explained_said, told_numbers}
+use Rattle.explained.specs.Explanation.{explanation, explained, told_of, explained_said, told_numbers}
 
 -- a row of two words
 abbrev row : ℕ → ℕ → Row
@@ -97,7 +97,7 @@ two-free-first = refl
 
 says : List ℕ → Run → List ℕ
 unfolding explained explanation run_of all_below well_formed disjoint bit any all count lowest free_literals
-says right run = explained_said (explained (dimensions 1 1 1 1) (all_tables (1 ∷ 1 ∷ []) right (0 ∷ 1 ∷ [])) run)
+says right run = explained_said (told_of (explained (dimensions 1 1 1 1) (all_tables (1 ∷ 1 ∷ []) right (0 ∷ 1 ∷ [])) run))
 
 -- rows are numbered over all tables: the right station's is the second, the public one the third
 right_row : says (1 ∷ 0 ∷ []) (run_of 1 fresh) ≡ 0 ∷ 4 ∷ 2 ∷ 1 ∷ 1 ∷ []

@@ -5,8 +5,8 @@ use mathlib.Core.Bool.{Bool, true, ◌&&◌}
 use mathlib.Core.List.{List, [], ◌∷◌, ◌++◌}
 use Prim.Native.Nat.{ℕ, suc, ◌*◌, ◌≤◌}
 use lib.ListN.{take}
+use Rattle.std.specs.Prelude.{Ok}
 use Rattle.refusals.specs.Checks.{outcome}
-use Rattle.refusals.specs.declared.Outcome.TheVariants.{Taken}
 use Rattle.words.specs.declared.Row.{Row}
 use Rattle.words.proofs.Truth.{on}
 use Rattle.dimensions.specs.declared.Dimensions.{Dimensions}
@@ -52,7 +52,7 @@ told-alike n k wide rows low s rules.Conflict = ap (λ (i : ℕ). told_back i s.
 told-alike n k wide rows low s (rules.Unit v value) = ap (λ (i : ℕ). Forced i v value) (row-alike n k wide s.t s.f (rules.Unit v value) rows low)
 told-alike n k wide rows low s (rules.Choice v) = refl
 
-pub told_of_fronts : (d : Dimensions) (tables : Tables) → outcome (table_checks d tables) ≡ Taken → (s : State)
+pub told_of_fronts : (d : Dimensions) (tables : Tables) → outcome (table_checks d tables) ≡ Ok tt → (s : State)
     → let front : ℕ → List ℕ → List Row = λ rows words. rows_of_words (take (2 * rows) words) in
     let fronts = front d.left tables.left ++ (front d.right tables.right ++ front d.public tables.public) in
     told 32 fronts s (rule 32 fronts s.t s.f) ≡ told d.n (rows_of d tables) s (rule d.n (rows_of d tables) s.t s.f)

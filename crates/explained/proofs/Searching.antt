@@ -1,15 +1,16 @@
 -- The search for the lowest row, table by table. What is found, or else the rows left, give what all the rows give.
-use mathlib.Core.Path.{◌≡◌, refl, sym, ap, ap₂, ◌∙◌}
-use mathlib.Core.Bool.{Bool, true, false, ◌&&◌, cond}
-use mathlib.Core.List.{List, [], ◌∷◌, ◌++◌}
-use Prim.Native.Nat.{ℕ, zero, suc, ◌+◌, ◌-◌, ◌≤◌, ◌<◌}
+use mathlib.Core.Path.{◌≡◌, refl, sym, ap, ◌∙◌}
+use mathlib.Core.Bool.{Bool, true, false, cond}
+use mathlib.Core.List.{List, [], ◌∷◌, ◌++◌, map}
+use Prim.Native.Nat.{ℕ, zero, suc, ◌+◌, ◌/◌, ◌≤◌, ◌<◌}
 use native.Mathlib.Omega.{arith}
-use lib.Dec.{eqb, ltb}
-use lib.ListN.{length}
-use borrow.Author.Tests.{ltb-true, ltb-false, eqb-true, ne_eqb}
+use lib.ListN.{length, get_or}
+use Rattle.std.specs.Simd.{first_chunks}
+use Rattle.scan.specs.Rules.{rows_of_words}
+use borrow.Author.Tests.{ne_eqb}
 use Rattle.words.specs.declared.Row.{Row}
-use Rattle.words.proofs.Truth.{and_l, and_r, on}
-use Rattle.tables.specs.Rows.{row_at, rows_from}
+use Rattle.words.proofs.Truth.{on}
+use Rattle.tables.proofs.Pairs.{row, pairs_rows}
 use Rattle.explained.specs.Explanation.{lowest_from, lowest_row}
 use Rattle.explained.specs.Search.{found_or}
 
@@ -26,9 +27,11 @@ found_assoc : (a b c : ℕ) → found_or (found_or a b) c ≡ found_or a (found_
 found_assoc zero b c = refl
 found_assoc (suc a) b c = rw (found_first (suc a) b (omega arith), found_first (suc a) (found_or b c) (omega arith)) (found_first (suc a) c (omega arith))
 
--- a turn of the loop has a row left, and no number yet
-pub turn : (i m found : ℕ) → ltb i m && eqb found 0 ≡ true → (i < m) × (found ≡ 0)
-turn i m found e = (ltb-true i m (and_l (ltb i m) (eqb found 0) e), eqb-true found 0 (and_r (ltb i m) (eqb found 0) e))
+-- ---- pairs of words
+
+-- the pairs of a table's words are its rows
+pub pairs_all : (w : List ℕ) → map row (first_chunks 2 (length w / 2) w) ≡ rows_of_words w
+pairs_all w = pairs_rows w w (length w / 2) 0 (λ a b l e. ap (λ (n : ℕ). get_or w n 0) (omega arith))
 
 module _ (p : Row → Bool) where
   -- ---- rows after others
@@ -56,44 +59,37 @@ module _ (p : Row → Bool) where
       ∙ ap (λ (k : ℕ). found_or (lowest_from 1 p xs) (lowest_from k p (ys ++ zs))) hi
       ∙ sym (from_append xs (ys ++ zs) 1 (omega arith))
 
-  -- ---- one table, row by row
+  -- ---- one table
 
-  module _ (words : List ℕ) (m first before : ℕ) where
-    -- the number found, or else the rows from i on, give what the number found before and all the rows give
-    abbrev pub Searched : ℕ → ℕ → Type 0
-    Searched i found = found_or found (lowest_from (first + i) p (rows_from words i (m - i))) ≡ found_or before (lowest_from first p (rows_from words 0 m))
+  -- how many pairs come before the first whose row passes
+  unfoldable pub misses : List (List ℕ) → ℕ
+  misses [] = 0
+  misses (x ∷ xs) = cond (p (row x)) 0 (suc (misses xs))
 
-    pub searched_start : Searched 0 before
-    searched_start =
-        let e : first + 0 ≡ first = omega arith in
-        let q : m - 0 ≡ m = omega arith in
-        ap₂ (λ (k l : ℕ). found_or before (lowest_from k p (rows_from words 0 l))) e q
+  pub misses_none : misses [] ≡ 0
+  unfolding misses
+  misses_none = refl
 
-    -- the row looked at
-    at_row : (i : ℕ) → i < m → rows_from words i (m - i) ≡ row_at words i ∷ rows_from words (suc i) (m - suc i)
-    at_row i h = let e : m - i ≡ suc (m - suc i) = omega arith in ap (rows_from words i) e
+  pub misses_hit : (x : List ℕ) (xs : List (List ℕ)) → p (row x) ≡ true → misses (x ∷ xs) ≡ 0
+  unfolding misses
+  misses_hit x xs e = rw e refl
 
-    pub searched_next : (i found next : ℕ) → 1 ≤ first → i < m → found ≡ 0 → next ≡ cond (p (row_at words i)) (first + i) found
-        → Searched i found → Searched (i + 1) next
-    unfolding lowest_from
-    searched_next i found next h b z e s =
-        let rest = rows_from words (suc i) (m - suc i) in
-        let one : i + 1 ≡ suc i = omega arith in
-        let further : first + suc i ≡ suc (first + i) = omega arith in
-        ap₂ (λ (k g : ℕ). found_or g (lowest_from (first + k) p (rows_from words k (m - k)))) one (e ∙ ap (cond (p (row_at words i)) (first + i)) z)
-        ∙ ap (λ (k : ℕ). found_or (cond (p (row_at words i)) (first + i) 0) (lowest_from k p rest)) further
-        ∙ on (p (row_at words i))
-        (λ q. rw (q, lowest_from) (found_first (first + i) _ (omega arith)))
-        (λ q. rw (q, lowest_from))
-        ∙ ap (lowest_from (first + i) p) (sym (at_row i b))
-        ∙ ap (λ (k : ℕ). found_or k (lowest_from (first + i) p (rows_from words i (m - i)))) (sym z)
-        ∙ s
+  pub misses_more : (x : List ℕ) (xs : List (List ℕ)) → p (row x) ≡ false → misses (x ∷ xs) ≡ misses xs + 1
+  unfolding misses
+  misses_more x xs e = rw e (omega arith)
 
-    -- no row is left, or a number was found
-    pub searched_end : (i found : ℕ) → ltb i m && eqb found 0 ≡ false → Searched i found → found ≡ found_or before (lowest_from first p (rows_from words 0 m))
-    unfolding lowest_from
-    searched_end i found e s =
-        on (ltb i m)
-        (λ q. sym (rw (let z : eqb found 0 ≡ false = rw q at e in z)) ∙ s)
-        (λ q. let none : m - i ≡ 0 = omega (arith, ltb-false i m q) in
-        sym (ap (λ (k : ℕ). found_or found (lowest_from (first + i) p (rows_from words i k))) none ∙ found_nothing found) ∙ s)
+  pub lowest_found : (xs : List (List ℕ)) (i : ℕ) → misses xs < length xs → i + misses xs ≡ lowest_from i p (map row xs)
+  unfolding lowest_from misses
+  lowest_found [] i h = absurd (omega arith)
+  lowest_found (x ∷ xs) i h =
+      on (p (row x))
+      (λ q. rw (q, lowest_from) (omega arith))
+      (λ q. let m = misses_more x xs q in rw (q, lowest_from) (omega (arith, lowest_found xs (suc i) (omega (arith, m, h)))))
+
+  pub lowest_none : (xs : List (List ℕ)) (i : ℕ) → length xs ≤ misses xs → 0 ≡ lowest_from i p (map row xs)
+  unfolding lowest_from misses
+  lowest_none [] i h = refl
+  lowest_none (x ∷ xs) i h =
+      on (p (row x))
+      (λ q. let m = misses_hit x xs q in absurd (omega (arith, m, h)))
+      (λ q. let m = misses_more x xs q in rw (q, lowest_from) (lowest_none xs (suc i) (omega (arith, m, h))))

@@ -1,8 +1,9 @@
 -- The rule behind each step: document 02, Req 07.
 -- Ask: Which row does a step name, and is it the lowest? Does it force the very literal taken, sign included? Is a closed run's rule none?
-use Rattle.std.specs.Prelude.{ℕ, suc, Bool, true, false, ◌&&◌, List, [], ◌∷◌}
+use Rattle.std.specs.Prelude.{ℕ, suc, Bool, true, false, ◌&&◌, List, [], ◌∷◌, Result, Ok, Err}
 use Rattle.refusals.specs.Checks.{given}
-use Rattle.refusals.specs.Numbers.{said}
+use Rattle.refusals.specs.Numbers.{Outcome, number_of}
+use Rattle.refusals.specs.declared.Refusal.{Refusal}
 use Rattle.words.specs.declared.Row.{Row}
 use Rattle.words.specs.Booleans.{digit}
 use Rattle.dimensions.specs.declared.Dimensions.{Dimensions}
@@ -16,7 +17,6 @@ use Rattle.scan.specs.declared.Rule.{Rule}
 use Rattle.scan.specs.declared.Rule.TheVariants as rules
 use Rattle.scan.specs.Rules.{unsatisfied_with, forces, rule}
 use Rattle.solver.specs.Entries.{stepped}
-use Rattle.explained.specs.declared.Explained.{Explained}
 use Rattle.explained.specs.declared.Told.{Told}
 use Rattle.explained.specs.declared.Told.TheVariants.{Nothing, AllSatisfied, ConflictWithLevel, ConflictWithoutLevel, Forced, Chosen}
 
@@ -60,6 +60,12 @@ explanation n rows s = if_open s.standing (told n rows s (rule n rows s.t s.f)) 
 
 -- ---- the entry
 
+-- the plain step's outcome and run, and what it tells
+pub record Explained : Type 0 where
+  pub outcome : Outcome
+  pub run : Run
+  pub told : Told
+
 -- outcome and run are the plain step's; refused, nothing is told
 unfoldable pub explained : Dimensions → Tables → Run → Explained
 unfolding explanation stepped
@@ -80,6 +86,11 @@ told_numbers (ConflictWithoutLevel row) = 3 ∷ row ∷ 0 ∷ 0 ∷ []
 told_numbers (Forced row v value) = 4 ∷ row ∷ suc v ∷ digit value ∷ []
 told_numbers (Chosen v) = 5 ∷ 0 ∷ suc v ∷ 1 ∷ []
 
--- what the entry returns, and the numbers of what is told
-abbrev pub explained_said : Explained → List ℕ
-explained_said e = said e.outcome (told_numbers e.told)
+-- what the entry returns: what is told, or the refusal
+abbrev pub told_of : Explained → Result Told Refusal
+told_of e = given e.outcome (Ok e.told) Err
+
+-- 0 and the numbers of what is told, or the refusal's number alone
+abbrev pub explained_said : Result Told Refusal → List ℕ
+explained_said (Ok t) = 0 ∷ told_numbers t
+explained_said (Err r) = number_of r ∷ []

@@ -3,22 +3,22 @@
 
 mod lowest;
 
-ghost use Rattle.std.specs.Prelude.{◌≡◌, true, ◌++◌, ◌≤◌, length};
+ghost use Rattle.std.specs.Prelude.{◌≡◌, true, ◌++◌, ◌≤◌, length, Ok};
 ghost use Rattle.refusals.specs.Checks.{outcome};
 ghost use Rattle.refusals.specs.Numbers.{said};
-ghost use Rattle.refusals.specs.declared.Outcome.TheVariants.{Taken};
-ghost use Rattle.tables.specs.Tables.{all_tables, lent_tables};
+ghost use Rattle.tables.specs.Tables.{lent_words, words_in};
 ghost use Rattle.tables.specs.Acceptance.{table_checks};
 ghost use Rattle.tables.specs.Rows.{rows_of};
 ghost use Rattle.scan.specs.Rules as Rules;
 ghost use Rattle.state.specs.State.{state_of};
 ghost use Rattle.state.specs.WellFormed.{well_formed, state_checks};
-ghost use Rattle.explained.specs.Explanation.{told_numbers, told_back, told, explanation, explained, explained_said};
+ghost use Rattle.explained.specs.Explanation.{told_numbers, told_back, told, explanation, explained, told_of, explained_said};
 
 use dimensions::Dimensions;
-use refusals::Outcome;
+use refusals::Refusal;
 use scan::Rule;
 use state::{Run, Standing};
+use tables::Tables;
 
 // What a step tells: its rule; the number from 1, over all tables, of the lowest row in conflict, or of the lowest that forces the literal
 // taken; and the variable that it sets, from 0 as bits are. A conflict with a level sets the level's variable false, a choice its own true.
@@ -30,14 +30,6 @@ pub enum Told {
     ConflictWithoutLevel(u32),
     Forced(u32, u32, bool),
     Chosen(u32),
-}
-
-// A run after one step and what the step tells, or the run as it was with the refusal, and nothing told.
-#[derive(Clone, Copy)]
-pub struct Explained {
-    pub outcome: Outcome,
-    pub run: Run,
-    pub told: Told,
 }
 
 // What is told as four numbers: rule, row, variable from 1, value.
@@ -69,27 +61,28 @@ fn tell_conflict(run: Run, row: u32) -> Told
 }
 
 // What the step of an open run tells, over buffers of rows and nothing else.
-fn tell(left: &[u32], right: &[u32], public: &[u32], run: Run) -> Told
-    requires left_len_bound { length left.now ≤ 510 }
-    requires right_len_bound { length right.now ≤ 510 }
-    requires public_len_bound { length public.now ≤ 510 }
+fn tell(tables: Tables<'_>, run: Run) -> Told
+    requires left_len_bound { length tables.left.now ≤ 510 }
+    requires right_len_bound { length tables.right.now ≤ 510 }
+    requires public_len_bound { length tables.public.now ≤ 510 }
     requires depth_bound { run.depth ≤ 32 }
-    ensures { result ≡ told 32 (Rules.rows_of_words left.now ++ (Rules.rows_of_words right.now ++ Rules.rows_of_words public.now))
+    ensures { result ≡ told 32 (Rules.rows_of_words tables.entry.left.now
+        ++ (Rules.rows_of_words tables.entry.right.now ++ Rules.rows_of_words tables.entry.public.now))
         (state_of run) (Rules.rule 32
-        (Rules.rows_of_words left.now
-        ++ (Rules.rows_of_words right.now ++ Rules.rows_of_words public.now)) run.t run.f) }
+        (Rules.rows_of_words tables.entry.left.now
+        ++ (Rules.rows_of_words tables.entry.right.now ++ Rules.rows_of_words tables.entry.public.now)) run.t run.f) }
 {
     let t = run.t;
     let f = run.f;
-    let rule = scan::find_rule(left, right, public, t, f);
+    let rule = scan::find_rule(tables, t, f);
     match rule {
         Rule::AllSatisfied => Told::AllSatisfied,
         Rule::Conflict => {
-            let row = lowest::lowest_row(left, right, public, rule, t, f);
+            let row = lowest::lowest_row(tables, rule, t, f);
             tell_conflict(run, row)
         }
         Rule::Unit(variable, value) => {
-            let row = lowest::lowest_row(left, right, public, rule, t, f);
+            let row = lowest::lowest_row(tables, rule, t, f);
             Told::Forced(row, variable, value)
         }
         Rule::Choice(variable) => Told::Chosen(variable),
@@ -97,10 +90,10 @@ fn tell(left: &[u32], right: &[u32], public: &[u32], run: Run) -> Told
 }
 
 // What the step of a well-formed run over accepted tables tells: nothing where it is closed.
-fn explain(d: Dimensions, left: &[u32], right: &[u32], public: &[u32], run: Run) -> Told
-    requires public_value { outcome (table_checks d (all_tables left.now right.now public.now)) ≡ Taken }
+fn explain(d: Dimensions, tables: Tables<'_>, run: Run) -> Told
+    requires public_value { outcome (table_checks d (words_in tables)) ≡ Ok tt }
     requires run_value { well_formed run ≡ true }
-    ensures { result ≡ explanation d.n (rows_of d (lent_tables left right public)) (state_of run) }
+    ensures { result ≡ explanation d.n (rows_of d (lent_words tables)) (state_of run) }
 {
     let standing = run.standing;
     match standing {
@@ -108,44 +101,18 @@ fn explain(d: Dimensions, left: &[u32], right: &[u32], public: &[u32], run: Run)
         Standing::Satisfied => return Told::Nothing,
         Standing::Refuted => return Told::Nothing,
     }
-    let left_words = 2 * (d.left as usize);
-    let right_words = 2 * (d.right as usize);
-    let public_words = 2 * (d.public as usize);
-    tell(
-        &left[..left_words],
-        &right[..right_words],
-        &public[..public_words],
-        run,
-    )
+    tell(tables.rows(d), run)
 }
 
-// The run after one giant step and what the step tells; the run as it was where the call is refused: 1, 2, 4, 3, 12, 13. The rows are
-// looked at again for what is told, so that the plain step does no more than before.
-pub fn step_explained(
-    d: Dimensions,
-    left: &[u32],
-    right: &[u32],
-    public: &[u32],
-    run: Run,
-) -> Explained
-    ensures value { result ≡ explained d (lent_tables left right public) run }
-    ensures result_value { explained_said result ≡ said (outcome (table_checks d (lent_tables left right public) ++ state_checks d run))
-        (told_numbers (explanation d.n (rows_of d (lent_tables left right public)) (state_of run))) }
+// One giant step of the run, and what the step tells; a refusal leaves the run as it was: 1, 2, 4, 3, 12, 13. The rows are looked at again
+// for what is told, so that the plain step does no more than before.
+pub fn step_explained(d: Dimensions, tables: Tables<'_>, run: &mut Run) -> Result<Told, Refusal>
+    ensures value { result ≡ told_of (explained d (lent_words tables) run.old) }
+    ensures run_after { run.new ≡ (explained d (lent_words tables) run.old).run }
+    ensures result_value { explained_said result ≡ said (outcome (table_checks d (lent_words tables) ++ state_checks d run.old))
+        (told_numbers (explanation d.n (rows_of d (lent_words tables)) (state_of run.old))) }
 {
-    let stepped = solver::step(d, left, right, public, run);
-    let outcome = stepped.outcome;
-    let next = stepped.run;
-    match outcome {
-        Outcome::Taken => {}
-        Outcome::Refused(refusal) => return Explained {
-            outcome: Outcome::Refused(refusal),
-            run: next,
-            told: Told::Nothing,
-        },
-    }
-    Explained {
-        outcome: Outcome::Taken,
-        run: next,
-        told: explain(d, left, right, public, run),
-    }
+    let before = *run;
+    solver::step(d, tables, run)?;
+    Ok(explain(d, tables, before))
 }

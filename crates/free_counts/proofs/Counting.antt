@@ -1,54 +1,51 @@
--- Counts stored row after row: those that are left give what all give. Three tables, one after the other, give those of all rows, at the width of the tables.
--- By induction on a table's rows.
+-- Counts stored row after row: a part that holds a table's counts, what is stored after them, and three tables, one after the other, which give
+-- those of all rows, at the width of the tables. By induction on a table's rows.
 use mathlib.Core.Path.{◌≡◌, refl, sym, ap, ap₂, ◌∙◌}
-use mathlib.Core.List.{List, [], ◌∷◌, ◌++◌, map-append}
-use Prim.Native.Nat.{ℕ, zero, suc, ◌+◌, ◌-◌, ◌*◌, ◌^◌, ◌≤◌, ◌<◌}
+use mathlib.Core.List.{List, ◌∷◌, ◌++◌, map-append, append_assoc}
+use Prim.Native.Nat.{ℕ, zero, suc, ◌+◌, ◌*◌, ◌^◌, ◌≤◌, ◌<◌}
 use native.Mathlib.Nat.{add-zero}
 use native.Mathlib.Omega.{arith}
-use lib.ListN.{length, get_or, set, length-set}
-use lib.Seq.{sets}
+use lib.ListN.{length, get_or, set, take, drop, length-map}
+use lib.Seq.{sets, sets-eq}
+use borrow.Rule.Slice.PartMut.{put_mid}
+use Rattle.std.proofs.lemmas.List.{get_or-map, ext_get_or}
+use Rattle.std.proofs.lemmas.List.Edits.{paste_all}
+use Rattle.std.proofs.lemmas.Slice.{put_mid-paste}
 use Rattle.words.specs.declared.Row.{Row}
 use Rattle.dimensions.specs.declared.Dimensions.{Dimensions}
 use Rattle.tables.specs.Tables.{Tables}
-use Rattle.tables.specs.Rows.{row_at, rows_from, rows_of, rows_of_public, free_literals}
+use Rattle.tables.specs.Rows.{row_at, rows_from, rows_of, rows_of_public, free_literals, empty}
+use Rattle.tables.proofs.Numbering.{table-length, row_from}
 use Rattle.tables.proofs.Rows.{literals_width}
 use Rattle.tables.proofs.Accepted.{Accepted}
 use Rattle.free_counts.specs.Counts.{free_counts_of}
 
 -- ---- one table
 
--- the rows below i are counted: what is left gives what all give
-pub record Counted (words : List ℕ) (rows t f : ℕ) (before : List ℕ) (at : ℕ) (counts : List ℕ) (i : ℕ) : Type 0 where
-  pub upto : i ≤ rows
-  pub size : length counts ≡ length before
-  pub left : sets counts (at + i) (free_counts_of 32 (rows_from words i (rows - i)) t f) ≡ sets before at (free_counts_of 32 (rows_from words 0 rows) t f)
+-- a part that holds the counts of a table's rows, between the bytes around it
+module _ (words : List ℕ) (rows t f : ℕ) where
+  abbrev counts : List ℕ
+  counts = free_counts_of 32 (rows_from words 0 rows) t f
 
-module _ (words : List ℕ) (rows t f : ℕ) (before : List ℕ) (at : ℕ) where
-  pub counted_none : Counted words rows t f before at before 0
-  counted_none =
-      let p : at + 0 ≡ at = omega arith in
-      let k : rows - 0 ≡ rows = omega arith in
-      record { upto = omega arith; size = refl; left = ap₂ (λ (x y : ℕ). sets before x (free_counts_of 32 (rows_from words 0 y) t f)) p k }
+  counts-length : length counts ≡ rows
+  counts-length = length-map (rows_from words 0 rows) (λ r. free_literals 32 r t f) ∙ table-length words 0 rows
 
-  module _ (counts : List ℕ) (i : ℕ) (c : Counted words rows t f before at counts i) where
-    pub counted-more : i < rows → (x : ℕ) → x ≡ free_literals 32 (row_at words i) t f → Counted words rows t f before at (set counts (at + i) x) (i + 1)
-    counted-more h x e =
-        let p : at + (i + 1) ≡ suc (at + i) = omega arith in
-        let j : i + 1 ≡ suc i = omega arith in
-        let k : rows - i ≡ suc (rows - (i + 1)) = omega arith in
-        record {
-          upto = omega arith;
-          size = length-set counts (at + i) x ∙ c.size;
-          left = ap₂ (λ (y z : ℕ). sets (set counts (at + i) x) y (free_counts_of 32 (rows_from words z (rows - (i + 1))) t f)) p j
-              ∙ ap (λ (y : ℕ). sets (set counts (at + i) y) (suc (at + i)) (free_counts_of 32 (rows_from words (suc i) (rows - (i + 1))) t f)) e
-              ∙ ap (λ (y : ℕ). sets counts (at + i) (free_counts_of 32 (rows_from words i y) t f)) (sym k)
-              ∙ c.left;
-        }
+  count_at : (i : ℕ) → i < rows → get_or counts i 0 ≡ free_literals 32 (row_at words i) t f
+  count_at i b =
+      let size : i < length (rows_from words 0 rows) = omega (arith, table-length words 0 rows) in
+      let e : 0 + i ≡ i = omega arith in
+      get_or-map (λ r. free_literals 32 r t f) (rows_from words 0 rows) i empty 0 size
+      ∙ ap (λ (r : Row). free_literals 32 r t f) (row_from words rows 0 i b ∙ ap (row_at words) e)
 
-    pub counted-all : rows ≤ i → counts ≡ sets before at (free_counts_of 32 (rows_from words 0 rows) t f)
-    counted-all h =
-        let z : 0 ≡ rows - i = omega arith in
-        ap (λ (y : ℕ). sets counts (at + i) (free_counts_of 32 (rows_from words i y) t f)) z ∙ c.left
+  pub counted-part : (before part : List ℕ) (at k : ℕ) → k ≡ rows → length part ≡ rows → at + rows ≤ length before
+      → ((i : ℕ) → i < rows → get_or part i 0 ≡ free_literals 32 (row_at words i) t f)
+      → put_mid at k before part ≡ sets before at counts
+  counted-part before part at k e size room each =
+      let same : part ≡ counts = ext_get_or 0 part counts (size ∙ sym counts-length) (λ i b. let h : i < rows = omega arith in each i h ∙ sym (count_at i h)) in
+      put_mid-paste at k before part counts rows same (sym e) (sym counts-length)
+      ∙ paste_all before at counts rows (sym counts-length)
+      ∙ ap (λ (n : ℕ). take at before ++ (counts ++ drop (at + n) before)) (sym counts-length)
+      ∙ sym (sets-eq counts before at (omega (arith, counts-length)) ∙ append_assoc (take at before) counts _)
 
 -- what is stored after a table's counts
 counts-then : (n t f : ℕ) (words : List ℕ) (k j : ℕ) (l : List ℕ) (at : ℕ) (rest : List ℕ)

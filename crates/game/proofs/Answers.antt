@@ -4,6 +4,9 @@ use mathlib.Core.Bool.{Bool, true, false, not, cond, true≢false}
 use mathlib.Core.List.{List, [], ◌∷◌}
 use Prim.Native.Nat.{ℕ}
 use native.Mathlib.Omega.{arith}
+use Rattle.std.specs.Prelude.{Result}
+use Rattle.refusals.specs.declared.Refusal.{Refusal}
+use Rattle.game.specs.declared.Winner.{Winner}
 use Rattle.words.specs.declared.Row.{Row}
 use Rattle.words.proofs.Truth.{on}
 use Rattle.truth.specs.Truth.{all_true}
@@ -11,7 +14,6 @@ use Rattle.qdimacs.specs.Text.{GameTurn, GameText, game, no_game, game_text}
 use Rattle.qdimacs.proofs.Fine.{Played, fine_game}
 use Rattle.game.specs.Game.{fixed, decided, forced, unfixed, winner, winner_of, winner_numbers, game_answer, game_code, game_numbers, won_said, game_said}
 use Rattle.game.specs.Strategies.{ExistentialForces, UniversalForces, Holds}
-use Rattle.game.specs.declared.GameAnswer.{GameAnswer}
 use Rattle.game.proofs.Strategies.{forces}
 
 -- ---- who wins, and how
@@ -80,5 +82,5 @@ answer-said (game rows (k ∷ ks)) =
     (won-said k.variable k.universal (forced rows ks (fixed unfixed k.variable true)) (forced rows ks (fixed unfixed k.variable false)))
 
 -- what is given says its number and its values
-pub said : (g : GameText) (r : GameAnswer) → r ≡ game_answer g → (r ≡ game_answer g) × (game_code r ∷ game_numbers r ≡ game_said g)
-said g r e = (e, ap (λ (x : GameAnswer). game_code x ∷ game_numbers x) e ∙ answer-said g)
+pub said : (g : GameText) (r : Result Winner Refusal) → r ≡ game_answer g → (r ≡ game_answer g) × (game_code r ∷ game_numbers r ≡ game_said g)
+said g r e = (e, ap (λ (x : Result Winner Refusal). game_code x ∷ game_numbers x) e ∙ answer-said g)

@@ -8,6 +8,7 @@ use native.Mathlib.Omega.{arith}
 use lib.Dec.{eqb, ltb}
 use lib.ListN.{take}
 use borrow.Author.Tests.{eqb-true, not-true}
+use Rattle.std.specs.Prelude.{Some, None}
 use Rattle.words.specs.Booleans.{imp}
 use Rattle.words.specs.Sets.{bit, any}
 use Rattle.words.proofs.Truth.{and_l, and_r, and_i, mp, on, taut1, taut3, taut5, agree, agree_eq}
@@ -24,7 +25,6 @@ use Rattle.truth.specs.Truth.{row_true, all_true}
 use Rattle.truth.proofs.TruthLaws.{literal}
 use Rattle.truth.proofs.RuleLaws.{Ruled, ruled}
 use Rattle.truth.proofs.Agreement.{agreed, satisfying, literals, Agrees, conflict_false}
-use Rattle.game.specs.declared.Decision.TheVariants.{Decided, Undecided}
 use Rattle.qdimacs.specs.Text.{GameTurn}
 use Rattle.game.specs.Game.{fixed, decided, forced}
 use Rattle.game.specs.Cuts.{is_set, are_all_new, cut_of}
@@ -87,18 +87,18 @@ module _ (rows : List Row) (t f : ℕ) where
   unfolding all_true row_true
   leaf_false w a g = on (all_true a rows) (λ h. absurd (conflict_false 32 a t f g w.row w.no_literal (w.of_rows (row_true a) h))) (λ h. h)
 
-  decides : (x y : Bool) → Decided x ≡ Decided y → x ≡ y
+  decides : (x y : Bool) → Some x ≡ Some y → x ≡ y
   decides x y e = cc
 
   -- so the scan's rule may decide the game
-  leaf_cut : (k : Rule) → Ruled 32 rows t f k → (b : Bool) → cut_of k ≡ Decided b → (a : ℕ → Bool) → Agrees 32 a t f → all_true a rows ≡ b
+  leaf_cut : (k : Rule) → Ruled 32 rows t f k → (b : Bool) → cut_of k ≡ Some b → (a : ℕ → Bool) → Agrees 32 a t f → all_true a rows ≡ b
   leaf_cut AllSatisfied w b e a g = leaf_true w a g ∙ decides true b e
   leaf_cut Conflict w b e a g = leaf_false w a g ∙ decides false b e
   leaf_cut (Unit v p) w b e a g = absurd (let z : ◌≡◌ {A = ℕ} 0 1 = cc in omega arith)
   leaf_cut (Choice v) w b e a g = absurd (let z : ◌≡◌ {A = ℕ} 0 1 = cc in omega arith)
 
   -- and where it does, no turn to come changes that
-  pub forced-cut : (b : Bool) → cut_of (rule 32 rows t f) ≡ Decided b → (ks : List GameTurn) → are_all_new ks (is_set t f) ≡ true → (a : ℕ → Bool)
+  pub forced-cut : (b : Bool) → cut_of (rule 32 rows t f) ≡ Some b → (ks : List GameTurn) → are_all_new ks (is_set t f) ≡ true → (a : ℕ → Bool)
       → Agrees 32 a t f → forced rows ks a ≡ b
   forced-cut b e ks h a g = steady b (leaf_cut (rule 32 rows t f) (ruled 32 rows t f) b e) ks (is_set t f) (λ i q. q) h a g
 
@@ -132,14 +132,14 @@ module _ (rows : List Row) (t : ℕ) (h : t < 2 ^ 32) where
   full_agrees i b = rw (bit_not 32 t i h b) (taut1 (λ t. agreed t (not t) t) refl (bit t i))
 
   -- T and the rest decide
-  pub full-decided : (b : Bool) → cut_of (rule 32 rows t ((2 ^ 32 - 1) - t)) ≡ Decided b → b ≡ all_true (bit t) rows
+  pub full-decided : (b : Bool) → cut_of (rule 32 rows t ((2 ^ 32 - 1) - t)) ≡ Some b → b ≡ all_true (bit t) rows
   full-decided b e =
       let f = (2 ^ 32 - 1) - t in
       sym (leaf_cut rows t f (rule 32 rows t f) (ruled 32 rows t f) b e (bit t) full_agrees)
 
   -- and where they do not, some row is not true
-  pub full_undecided : cut_of (rule 32 rows t ((2 ^ 32 - 1) - t)) ≡ Undecided → false ≡ all_true (bit t) rows
+  pub full_undecided : cut_of (rule 32 rows t ((2 ^ 32 - 1) - t)) ≡ None → false ≡ all_true (bit t) rows
   full_undecided e =
       on (all_true (bit t) rows)
-      (λ q. let z : Decided true ≡ Undecided = sym (ap cut_of (all-satisfied (full ∙ q))) ∙ e in absurd (let y : ◌≡◌ {A = ℕ} 0 1 = cc in omega arith))
+      (λ q. let z : Some true ≡ None = sym (ap cut_of (all-satisfied (full ∙ q))) ∙ e in absurd (let y : ◌≡◌ {A = ℕ} 0 1 = cc in omega arith))
       (λ q. sym q)

@@ -7,19 +7,18 @@ use native.Mathlib.Omega.{arith}
 use lib.Dec.{eqb}
 use lib.ListN.{length, take, get_or, replicate, length-append}
 use borrow.Author.Tests.{eqb-true, eq-eqb, lt-ltb, not-true}
+use Rattle.std.specs.Prelude.{Result, Ok, Err}
 use Rattle.words.specs.declared.Row.{Row}
 use Rattle.words.proofs.Truth.{and_l, and_r, and_i, on}
 use Rattle.words.proofs.Bits.{bit-zero}
 use Rattle.refusals.specs.declared.Refusal.{Refusal}
-use Rattle.refusals.specs.declared.Outcome.TheVariants.{Taken, Refused}
-use Rattle.refusals.proofs.Outcomes.{refused-taken}
 use Rattle.tables.specs.Rows.{row_at, rows_from}
 use Rattle.scan.specs.Rules.{rows_of_words}
 use Rattle.scan.proofs.Fronts.{rows_in_front}
 use Rattle.clauses.specs.Rows.{words_of_rows}
 use Rattle.dimacs.proofs.Fill.{words-length}
 use Rattle.qdimacs.specs.Text.{GameTurn, GameText, game, no_game}
-use Rattle.qdimacs.specs.TurnsInWords.{turns_in, quantified}
+use Rattle.qdimacs.specs.TurnsInWords.{turns_word, turns_in, quantified}
 use Rattle.qdimacs.specs.declared.Quantified.{Quantified}
 use Rattle.qdimacs.proofs.Turns.{has_turn, distinct}
 use Rattle.qdimacs.proofs.Fine.{Played, Fine, fine-turns}
@@ -77,7 +76,17 @@ pub record Given (q : Quantified) (g : GameText) : Type 0 where
   pub turns_are : turns_in q.turns q.n ≡ turns
   pub rows_are : rows_of_words (take (2 * q.rows) q.words) ≡ rows
 
-given_game : (rows : List Row) (turns : List GameTurn) → Played rows turns → Given (quantified (game rows turns)) (game rows turns)
+-- rows and turns as they are held
+abbrev held : List Row → List GameTurn → Quantified
+held rows turns =
+    record {
+      n = length turns;
+      turns = turns_word turns;
+      rows = length rows;
+      words = words_of_rows rows ++ replicate (256 - 2 * length rows) 0;
+    }
+
+given_game : (rows : List Row) (turns : List GameTurn) → Played rows turns → Given (held rows turns) (game rows turns)
 given_game rows turns p =
     let words = words_of_rows rows ++ replicate (256 - 2 * length rows) 0 in
     let fits : 2 * length rows ≤ length words = omega (arith, length-append (words_of_rows rows) (replicate (256 - 2 * length rows) 0), words-length rows) in
@@ -92,17 +101,17 @@ given_game rows turns p =
       rows_are = rows_in_front words (length rows) fits ∙ rows_back rows (replicate (256 - 2 * length rows) 0);
     }
 
-module _ (g : GameText) (q : Quantified) (e : q ≡ quantified g) where
-  pub refused-is : (r : Refusal) → q.outcome ≡ Refused r → g ≡ no_game r
-  refused-is r h = go g (sym (ap (λ (x : Quantified). x.outcome) e) ∙ h)
+module _ (g : GameText) (q : Result Quantified Refusal) (e : q ≡ quantified g) where
+  pub refused-is : (r : Refusal) → q ≡ Err r → g ≡ no_game r
+  refused-is r h = go g (sym e ∙ h)
     where
-      go : (g : GameText) → (quantified g).outcome ≡ Refused r → g ≡ no_game r
-      go (game rows turns) h = absurd (refused-taken (sym h))
+      go : (g : GameText) → quantified g ≡ Err r → g ≡ no_game r
+      go (game rows turns) h = absurd (let z : ◌≡◌ {A = ℕ} 0 1 = cc in omega arith)
       go (no_game s) h = let z : s ≡ r = cc in ap no_game z
 
-  pub given : Fine g → q.outcome ≡ Taken → Given q g
-  given f h = subst (λ (x : Quantified). Given x g) (sym e) (go g f (sym (ap (λ (x : Quantified). x.outcome) e) ∙ h))
+  pub given : Fine g → (y : Quantified) → q ≡ Ok y → Given y g
+  given f y h = go g f (sym e ∙ h)
     where
-      go : (g : GameText) → Fine g → (quantified g).outcome ≡ Taken → Given (quantified g) g
-      go (game rows turns) f h = given_game rows turns f
-      go (no_game s) f h = absurd (refused-taken h)
+      go : (g : GameText) → Fine g → quantified g ≡ Ok y → Given y g
+      go (game rows turns) f h = let z : held rows turns ≡ y = cc in subst (λ (x : Quantified). Given x (game rows turns)) z (given_game rows turns f)
+      go (no_game s) f h = absurd (let z : ◌≡◌ {A = ℕ} 0 1 = cc in omega arith)

@@ -1,11 +1,9 @@
 -- What the two functions take for granted of turns, T and F, and when the rows decide a game early.
-use Rattle.std.specs.Prelude.{ℕ, ◌≡◌, Bool, true, false, not, ◌&&◌, ◌||◌, List, [], ◌∷◌, eqb, ltb}
+use Rattle.std.specs.Prelude.{ℕ, ◌≡◌, Bool, true, false, not, ◌&&◌, ◌||◌, List, [], ◌∷◌, eqb, ltb, Option, Some, None}
 use Rattle.words.specs.Sets.{bit}
 use Rattle.scan.specs.declared.Rule.{Rule}
 use Rattle.scan.specs.declared.Rule.TheVariants.{AllSatisfied, Conflict, Unit, Choice}
 use Rattle.qdimacs.specs.Text.{GameTurn}
-use Rattle.game.specs.declared.Decision.{Decision}
-use Rattle.game.specs.declared.Decision.TheVariants.{Decided, Undecided}
 
 -- in T or in F
 abbrev pub is_set : ℕ → ℕ → ℕ → Bool
@@ -21,8 +19,8 @@ abbrev pub Apart : ℕ → ℕ → Type 0
 Apart t f = (i : ℕ) → bit t i && bit f i ≡ false
 
 -- what rows that T and F satisfy, or a row in conflict, say of the game, whatever turns are to come
-abbrev pub cut_of : Rule → Decision
-cut_of AllSatisfied = Decided true
-cut_of Conflict = Decided false
-cut_of (Unit v b) = Undecided
-cut_of (Choice v) = Undecided
+abbrev pub cut_of : Rule → Option Bool
+cut_of AllSatisfied = Some true
+cut_of Conflict = Some false
+cut_of (Unit v b) = None
+cut_of (Choice v) = None

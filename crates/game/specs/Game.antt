@@ -1,18 +1,15 @@
 -- Two sides fix variables in turn, the existential side for all rows true, the universal side against it (document 02, "Who can force the
 -- roster").
 -- Ask: Whose turn is it, and which variables come first? Which value is given where both serve?
-use Rattle.std.specs.Prelude.{ℕ, suc, Bool, true, false, not, ◌&&◌, ◌||◌, cond, List, [], ◌∷◌, eqb}
+use Rattle.refusals.specs.declared.Refusal.{Refusal}
+use Rattle.std.specs.Prelude.{ℕ, suc, Bool, true, false, not, ◌&&◌, ◌||◌, cond, List, [], ◌∷◌, eqb, Result, Option, Ok, Err, Some, None}
 use Rattle.words.specs.declared.Row.{Row}
 use Rattle.words.specs.Booleans.{digit}
 use Rattle.refusals.specs.Numbers.{number_of as refusal_number}
 use Rattle.truth.specs.Truth.{all_true}
 use Rattle.qdimacs.specs.Text.{GameTurn, GameText, game, no_game}
-use Rattle.game.specs.declared.Opening.{Opening}
-use Rattle.game.specs.declared.Opening.TheVariants.{Fixes, Nothing}
 use Rattle.game.specs.declared.Winner.{Winner}
 use Rattle.game.specs.declared.Winner.TheVariants.{Existential, Universal}
-use Rattle.game.specs.declared.GameAnswer.{GameAnswer}
-use Rattle.game.specs.declared.GameAnswer.TheVariants.{Won, Refused}
 
 -- ---- the game
 
@@ -41,27 +38,27 @@ unfixed i = false
 -- who can force its aim, from the first variable, whether the universal side fixes it, and what the existential side can force after its
 -- true and after its false: "where the winner moves first, one value of that first variable with which it still wins, true if both serve"
 abbrev pub winner : ℕ → Bool → Bool → Bool → Winner
-winner v true x y = cond (x && y) (Existential Nothing) (Universal (Fixes v (not x)))
-winner v false x y = cond (x || y) (Existential (Fixes v x)) (Universal Nothing)
+winner v true x y = cond (x && y) (Existential None) (Universal (Some (v, (not x))))
+winner v false x y = cond (x || y) (Existential (Some (v, x))) (Universal None)
 
 -- of rows and turns; there is always a first turn
 abbrev pub winner_of : List Row → List GameTurn → Winner
-winner_of rows [] = cond (all_true unfixed rows) (Existential Nothing) (Universal Nothing)
+winner_of rows [] = cond (all_true unfixed rows) (Existential None) (Universal None)
 winner_of rows (k ∷ ks) =
     winner k.variable k.universal (forced rows ks (fixed unfixed k.variable true))
     (forced rows ks (fixed unfixed k.variable false))
 
 -- of a text
-abbrev pub game_answer : GameText → GameAnswer
-game_answer (game rows turns) = Won (winner_of rows turns)
-game_answer (no_game r) = Refused r
+abbrev pub game_answer : GameText → Result Winner Refusal
+game_answer (game rows turns) = Ok (winner_of rows turns)
+game_answer (no_game r) = Err r
 
 -- ---- its numbers
 
 -- the first variable, "numbered 1 to n", and its value; 0 and 0 where the winner does not move first
-abbrev pub opening_numbers : Opening → List ℕ
-opening_numbers (Fixes v b) = suc v ∷ (digit b ∷ [])
-opening_numbers Nothing = 0 ∷ (0 ∷ [])
+abbrev pub opening_numbers : Option (ℕ × Bool) → List ℕ
+opening_numbers (Some (v, b)) = suc v ∷ (digit b ∷ [])
+opening_numbers None = 0 ∷ (0 ∷ [])
 
 -- 1 for the existential side, 2 for the universal one
 abbrev pub winner_numbers : Winner → List ℕ
@@ -69,14 +66,14 @@ winner_numbers (Existential o) = 1 ∷ opening_numbers o
 winner_numbers (Universal o) = 2 ∷ opening_numbers o
 
 -- 0, or the refusal's number
-abbrev pub game_code : GameAnswer → ℕ
-game_code (Won w) = 0
-game_code (Refused r) = refusal_number r
+abbrev pub game_code : Result Winner Refusal → ℕ
+game_code (Ok w) = 0
+game_code (Err r) = refusal_number r
 
 -- the winner, the first variable and its value
-abbrev pub game_numbers : GameAnswer → List ℕ
-game_numbers (Won w) = winner_numbers w
-game_numbers (Refused r) = []
+abbrev pub game_numbers : Result Winner Refusal → List ℕ
+game_numbers (Ok w) = winner_numbers w
+game_numbers (Err r) = []
 
 -- the same of rows and turns: a side that wins, and moves first or not, with the first variable and a value
 abbrev pub won_said : ℕ → Bool → ℕ → Bool → List ℕ

@@ -1,12 +1,11 @@
 -- What it means to force an aim: a plan that reaches it whatever the other side does. And the same as a formula with quantifiers along the
 -- turns.
 -- Ask: Is "can force" a plan against every plan?
-use Rattle.std.specs.Prelude.{ℕ, ◌≡◌, Bool, true, false, List, [], ◌∷◌}
+use Rattle.std.specs.Prelude.{ℕ, ◌≡◌, Bool, true, false, List, [], ◌∷◌, Some, None}
 use Rattle.words.specs.declared.Row.{Row}
 use Rattle.truth.specs.Truth.{all_true}
 use Rattle.qdimacs.specs.Text.{GameTurn}
 use Rattle.game.specs.Game.{fixed, unfixed, forced}
-use Rattle.game.specs.declared.Opening.TheVariants.{Fixes, Nothing}
 use Rattle.game.specs.declared.Winner.{Winner}
 use Rattle.game.specs.declared.Winner.TheVariants.{Existential, Universal}
 
@@ -49,14 +48,14 @@ pub record CanForce (rows : List Row) (ks : List GameTurn) (a : ℕ → Bool) : 
 -- given, and false is given only where true does not serve
 abbrev pub Holds : List Row → List GameTurn → Winner → Type 0
 Holds rows [] w = ⊥
-Holds rows (k ∷ ks) (Existential (Fixes v b)) =
+Holds rows (k ∷ ks) (Existential (Some (v, b))) =
     (k.universal ≡ false) × (v ≡ k.variable) × ExistentialForces rows ks (fixed unfixed v b)
     × (b ≡ false → ExistentialForces rows ks (fixed unfixed v true) → ⊥)
-Holds rows (k ∷ ks) (Existential Nothing) = (k.universal ≡ true) × ExistentialForces rows (k ∷ ks) unfixed
-Holds rows (k ∷ ks) (Universal (Fixes v b)) =
+Holds rows (k ∷ ks) (Existential None) = (k.universal ≡ true) × ExistentialForces rows (k ∷ ks) unfixed
+Holds rows (k ∷ ks) (Universal (Some (v, b))) =
     (k.universal ≡ true) × (v ≡ k.variable) × UniversalForces rows ks (fixed unfixed v b)
     × (b ≡ false → UniversalForces rows ks (fixed unfixed v true) → ⊥)
-Holds rows (k ∷ ks) (Universal Nothing) = (k.universal ≡ false) × UniversalForces rows (k ∷ ks) unfixed
+Holds rows (k ∷ ks) (Universal None) = (k.universal ≡ false) × UniversalForces rows (k ∷ ks) unfixed
 
 -- ---- quantifiers
 

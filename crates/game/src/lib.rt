@@ -10,35 +10,15 @@ ghost use Rattle.qdimacs.specs.TurnsInWords.{turns_in};
 ghost use Rattle.game.specs.Game.{forced, winner, winner_of, game_answer, game_code, game_numbers, game_said};
 ghost use Rattle.game.specs.Cuts.{is_set, are_all_new, Apart, cut_of};
 
-use refusals::{Outcome, Refusal};
+use refusals::Refusal;
 use scan::Rule;
-
-// The first variable, counted from 0 as bits are, and a value with which the winner still wins; or nothing, where the loser moves first.
-#[derive(Clone, Copy)]
-pub enum Opening {
-    Fixes(u8, bool),
-    Nothing,
-}
+use tables::Tables;
 
 // The side that can force its aim.
 #[derive(Clone, Copy)]
 pub enum Winner {
-    Existential(Opening),
-    Universal(Opening),
-}
-
-// A text's winner, or 1, 2, 21, 5 or 22.
-#[derive(Clone, Copy)]
-pub enum GameAnswer {
-    Won(Winner),
-    Refused(Refusal),
-}
-
-// Whether T and F decide the game, whatever turns are to come.
-#[derive(Clone, Copy)]
-enum Decision {
-    Decided(bool),
-    Undecided,
+    Existential(Option<(u8, bool)>),
+    Universal(Option<(u8, bool)>),
 }
 
 // The rule that applies to the rows of one table at T and F.
@@ -46,18 +26,26 @@ fn rule_at(rows: &[u32], t: u32, f: u32) -> Rule
     ensures { result ≡ rule 32 (rows_of_words rows.now) t f }
 {
     let none = &rows[..0];
-    scan::find_rule(rows, none, none, t, f)
+    scan::find_rule(
+        Tables {
+            left: rows,
+            right: none,
+            public: none,
+        },
+        t,
+        f,
+    )
 }
 
 // What the rows say of the game at T and F.
-fn cut(rows: &[u32], t: u32, f: u32) -> Decision
+fn cut(rows: &[u32], t: u32, f: u32) -> Option<bool>
     ensures { result ≡ cut_of (rule 32 (rows_of_words rows.now) t f) }
 {
     match rule_at(rows, t, f) {
-        Rule::AllSatisfied => Decision::Decided(true),
-        Rule::Conflict => Decision::Decided(false),
-        Rule::Unit(_, _) => Decision::Undecided,
-        Rule::Choice(_) => Decision::Undecided,
+        Rule::AllSatisfied => Some(true),
+        Rule::Conflict => Some(false),
+        Rule::Unit(_, _) => None,
+        Rule::Choice(_) => None,
     }
 }
 
@@ -65,7 +53,7 @@ fn cut(rows: &[u32], t: u32, f: u32) -> Decision
 fn all_true(rows: &[u32], t: u32) -> bool
     ensures { result ≡ all_true (bit t) (rows_of_words rows.now) }
 {
-    let Decision::Decided(b) = cut(rows, t, !t) else {
+    let Some(b) = cut(rows, t, !t) else {
         return false;
     };
     b
@@ -81,7 +69,7 @@ fn existential(rows: &[u32], turns: u64, unset: usize, t: u32, f: u32) -> bool
     if unset == 0 {
         return all_true(rows, t);
     }
-    if let Decision::Decided(b) = cut(rows, t, f) {
+    if let Some(b) = cut(rows, t, f) {
         return b;
     }
     let v = (turns / 2 % 16) as u32;
@@ -103,7 +91,7 @@ fn universal(rows: &[u32], turns: u64, unset: usize, t: u32, f: u32) -> bool
     if unset == 0 {
         return !all_true(rows, t);
     }
-    if let Decision::Decided(b) = cut(rows, t, f) {
+    if let Some(b) = cut(rows, t, f) {
         return !b;
     }
     let v = (turns / 2 % 16) as u32;
@@ -121,14 +109,14 @@ fn decide(variable: u8, universal: bool, first: bool, second: bool) -> Winner
 {
     if universal {
         if first & second {
-            return Winner::Existential(Opening::Nothing);
+            return Winner::Existential(None);
         }
-        return Winner::Universal(Opening::Fixes(variable, !first));
+        return Winner::Universal(Some((variable, !first)));
     }
     if first | second {
-        return Winner::Existential(Opening::Fixes(variable, first));
+        return Winner::Existential(Some((variable, first)));
     }
-    Winner::Universal(Opening::Nothing)
+    Winner::Universal(None)
 }
 
 // The side that can force its aim from the first of n turns on, and the first variable's value.
@@ -144,18 +132,13 @@ fn play(rows: &[u32], turns: u64, n: usize) -> Winner
 }
 
 // Who can force its aim in the game of a text, or 1, 2, 21, 5 or 22.
-pub fn answer(text: &[u8]) -> GameAnswer
+pub fn answer(text: &[u8]) -> Result<Winner, Refusal>
     ensures value { result ≡ game_answer (game_text text.now) }
     ensures result_value { game_code result ∷ game_numbers result ≡ game_said (game_text text.now) }
 {
-    let game = qdimacs::read(text);
-    let outcome = game.outcome;
-    match outcome {
-        Outcome::Taken => {}
-        Outcome::Refused(refusal) => return GameAnswer::Refused(refusal),
-    }
+    let game = qdimacs::read(text)?;
     let words = game.words;
     let length = 2 * (game.rows as usize);
     let winner = play(&words[..length], game.turns, game.n as usize);
-    GameAnswer::Won(winner)
+    Ok(winner)
 }

@@ -2,21 +2,15 @@
 use mathlib.Core.Path.{◌≡◌, refl, ap, sym, ◌∙◌}
 use mathlib.Core.Bool.{Bool, true, false, ◌&&◌, cond, and-false}
 use mathlib.Core.List.{List, [], ◌∷◌}
-use Prim.Native.Nat.{ℕ, zero, suc, ◌+◌, ◌*◌, ◌%◌, ◌^◌, ◌≤◌, ◌<◌}
-use native.Mathlib.Numerals.{add-one}
+use Prim.Native.Nat.{ℕ, zero, suc, ◌+◌, ◌*◌, ◌/◌, ◌^◌, ◌≤◌, ◌<◌}
 use native.Mathlib.Omega.{arith}
 use borrow.Author.Tests.{ltb-true, lt-ltb, le-ltb, le-leb, lt-leb, eqb-true, ne_eqb}
 use lib.Dec.{ltb, leb, eqb}
 use lib.ListN.{length, get_or, drop}
-use lib.Seq.{drop-cons}
-use Rattle.words.proofs.Truth.{and_l, and_r, on}
+use Rattle.std.specs.Simd.{first_chunks}
+use Rattle.words.proofs.Truth.{and_l, and_r}
 use Rattle.gates.specs.Memory.{drives, accepted}
-use Rattle.gates.proofs.InMemory.{accepted-length}
-
--- words whose number is no multiple of 3 are not accepted
-pub accepted_uneven : (m : ℕ) (ws : List ℕ) → (length ws % 3 ≡ 0 → ⊥) → accepted m ws ≡ false
-accepted_uneven m ws h =
-    on (accepted m ws) (λ e. absurd (h (omega (arith, accepted-length m ws e)))) (λ e. e)
+use Rattle.gates.proofs.Chunks.{drop-chunk}
 
 -- beyond all words the number of wires does not matter
 pub accepted_far : (m n : ℕ) (ws : List ℕ) → 2 ^ 32 ≤ m → 2 ^ 32 ≤ n → ((i : ℕ) → get_or ws i 0 < 2 ^ 32) → accepted m ws ≡ accepted n ws
@@ -57,23 +51,22 @@ as_one m (suc (suc zero)) a b h l u = rw (lt-ltb a m h) (go b)
 as_one m (suc (suc (suc k))) a b h l u =
     rw (le-ltb (suc (suc (suc k))) 3 (omega arith)) (lt-leb (suc (suc (suc k)) * 4294967296 + b) 8589934592 (omega arith))
 
--- the three words at i, and the rest
-pub drop-three : (g : List ℕ) (i : ℕ) → i + 3 ≤ length g → drop i g ≡ get_or g i 0 ∷ (get_or g (i + 1) 0 ∷ (get_or g (i + 2) 0 ∷ drop (i + 3) g))
-drop-three g i h =
-    let e₁ : suc i ≡ i + 1 = omega arith in
-    let e₂ : suc (i + 1) ≡ i + 2 = omega arith in
-    let e₃ : suc (i + 2) ≡ i + 3 = omega arith in
-    drop-cons g i 0 (omega arith)
-    ∙ ap (λ (l : List ℕ). get_or g i 0 ∷ l)
-    (ap (λ (j : ℕ). drop j g) e₁ ∙ drop-cons g (i + 1) 0 (omega arith)
-    ∙ ap (λ (l : List ℕ). get_or g (i + 1) 0 ∷ l)
-    (ap (λ (j : ℕ). drop j g) e₂ ∙ drop-cons g (i + 2) 0 (omega arith) ∙ ap (λ (j : ℕ). get_or g (i + 2) 0 ∷ drop j g) e₃))
-
--- words from i on, three or more: accepted after m wires just if those three may drive wire m and the rest is accepted after one wire more
-pub accepted-at : (g : List ℕ) (i : ℕ) → i + 3 ≤ length g → (m : ℕ)
-    → accepted m (drop i g) ≡ drives m (get_or g i 0) (get_or g (i + 1) 0) (get_or g (i + 2) 0) && accepted (m + 1) (drop (i + 3) g)
+-- chunk i and what is left: accepted after n + i wires just if that chunk may drive the next wire and the rest is accepted after it
+pub accepted-chunk : (g : List ℕ) (cs : List (List ℕ)) (n i : ℕ) → cs ≡ first_chunks 3 (length g / 3) g → i < length g / 3
+    → let word = get_or (get_or cs i []) in
+    accepted (n + i) (drop (3 * i) g) ≡ drives (n + i) (word 0 0) (word 1 0) (word 2 0) && accepted (n + (i + 1)) (drop (3 * (i + 1)) g)
 unfolding accepted
-accepted-at g i h m = ap (λ (l : List ℕ). accepted m l) (drop-three g i h) ∙ rw (add-one m)
+accepted-chunk g cs n i e h =
+    let wire : n + (i + 1) ≡ suc (n + i) = omega arith in
+    ap (accepted (n + i)) (drop-chunk g cs i e h) ∙ rw wire
+
+-- fewer than three words are no gate: accepted if there are none
+pub accepted_few : (m : ℕ) (ws : List ℕ) → length ws < 3 → accepted m ws ≡ eqb (length ws) 0
+unfolding accepted
+accepted_few m [] h = refl
+accepted_few m (k ∷ []) h = refl
+accepted_few m (k ∷ (a ∷ [])) h = refl
+accepted_few m (k ∷ (a ∷ (b ∷ ws))) h = absurd (omega arith)
 
 -- INV's second word is below m too, being 0
 bound : (m k b : ℕ) → 0 < m → cond (eqb k 2) (eqb b 0) (ltb b m) ≡ true → b < m

@@ -1,3 +1,4 @@
+pub mod Chunks
 pub mod Circuits
 pub mod InMemory
 pub mod Judging

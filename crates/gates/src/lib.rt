@@ -19,14 +19,7 @@ pub fn accepted(gates: &[u32], inputs: usize) -> bool
 pub fn bits(bytes: &[u8]) -> bool
     ensures { result ≡ Memory.bits bytes.now }
 {
-    let mut i = 0;
-    while i < bytes.len() {
-        if 1 < bytes[i] {
-            return false;
-        }
-        i += 1;
-    }
-    true
+    bytes.iter().all(|&b| b < 2)
 }
 
 // A word as an index.
@@ -55,20 +48,11 @@ fn all_gates(gates: &[u32], n: usize) -> bool
     requires { n ≤ 4294967296 }
     ensures { result ≡ Memory.accepted n gates.now }
 {
-    if gates.len() % 3 != 0 {
-        return false;
-    }
-    let mut i = 0;
-    let mut m = n;
-    while i < gates.len() {
-        let kind = gates[i];
-        let a = gates[i + 1];
-        let b = gates[i + 2];
-        if !drives(kind, a, b, m) {
+    let (gates, rest) = gates.as_chunks::<3>();
+    for (i, &[kind, a, b]) in gates.iter().enumerate() {
+        if !drives(kind, a, b, n + i) {
             return false;
         }
-        i += 3;
-        m += 1;
     }
-    true
+    rest.is_empty()
 }

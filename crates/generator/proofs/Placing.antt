@@ -4,6 +4,7 @@ use mathlib.Core.Bool.{true, ◌&&◌, cond}
 use mathlib.Core.List.{List, [], ◌∷◌, ◌++◌}
 use Prim.Native.Nat.{ℕ, zero, suc, ◌+◌, ◌*◌, ◌/◌, ◌%◌, ◌≤◌, ◌<◌}
 use native.Mathlib.Nat.{not-suc-le-zero, le_of_suc-le-suc, mul-le-mul, mul-le-mul_left}
+use native.Mathlib.Nat.{add-zero}
 use native.Mathlib.Numerals.{add-one, add-two, add-three}
 use native.Mathlib.Omega.{arith}
 use borrow.Author.Tests.{ltb-true}
@@ -28,17 +29,15 @@ placed-words s b (suc zero) x y h = refl
 placed-words s b (suc (suc zero)) x y h = refl
 placed-words s b (suc (suc (suc k))) x y h = absurd (not-suc-le-zero (le_of_suc-le-suc (le_of_suc-le-suc (le_of_suc-le-suc h))))
 
-pub record Placing (w₀ t s : List ℕ) (base p₀ : ℕ) (w : List ℕ) (p i : ℕ) : Type 0 where
+pub record Placing (w₀ t s : List ℕ) (base p₀ : ℕ) (w : List ℕ) (i : ℕ) : Type 0 where
   pub good : tidy (drop i t) ≡ true
-  pub same : sets w p (words_of (cell s base (gates_in (drop i t)))) ≡ sets w₀ p₀ (words_of (cell s base (gates_in t)))
+  pub same : sets w (p₀ + 3 * i) (words_of (cell s base (gates_in (drop i t)))) ≡ sets w₀ p₀ (words_of (cell s base (gates_in t)))
   pub size : length w ≡ length w₀
-  pub step : p ≡ p₀ + 3 * i
-  pub upto : i ≤ length t
 
-pub start : (w t s : List ℕ) (base p : ℕ) → tidy t ≡ true → Placing w t s base p w p 0
-start w t s base p e = record { good = e; same = refl; size = refl; step = omega arith; upto = omega arith }
+pub start : (w t s : List ℕ) (base p : ℕ) → tidy t ≡ true → Placing w t s base p w 0
+start w t s base p e = record { good = e; same = rw (add-zero p) refl; size = refl }
 
-module _ (w₀ t s : List ℕ) (base p₀ : ℕ) (w : List ℕ) (p i : ℕ) (r : Placing w₀ t s base p₀ w p i) (h : i < length t) where
+module _ (w₀ t s : List ℕ) (base p₀ : ℕ) (w : List ℕ) (i : ℕ) (r : Placing w₀ t s base p₀ w i) (h : i < length t) where
   abbrev g : ℕ
   g = get_or t i 0
 
@@ -55,23 +54,23 @@ module _ (w₀ t s : List ℕ) (base p₀ : ℕ) (w : List ℕ) (p i : ℕ) (r :
       (placed-words s base (g / 65536) (g / 256 % 256) (g % 256) (ltb-true _ _ (and_l (ltb (g / 65536) 3) (tidy (drop (suc i) t)) judged)))
 
   pub again : (a b : ℕ) → a ≡ operand s base (g / 256 % 256) → b ≡ cond (eqb (g / 65536) 2) 0 (operand s base (g % 256))
-      → Placing w₀ t s base p₀ (set (set (set w p (g / 65536)) (p + 1) a) (p + 2) b) (p + 3) (i + 1)
+      → let p = p₀ + 3 * i in Placing w₀ t s base p₀ (set (set (set w p (g / 65536)) (p + 1) a) (p + 2) b) (i + 1)
   again a b ea eb =
+      let p = p₀ + 3 * i in
+      let next : p₀ + 3 * (i + 1) ≡ p + 3 = omega arith in
       record {
         good = rw (add-one i) (and_r (ltb (g / 65536) 3) (tidy (drop (suc i) t)) judged);
         same =
-            rw (add-one i, add-one p, add-two p, add-three p, ea, eb)
+            rw (next, add-one i, add-one p, add-two p, add-three p, ea, eb)
             (sym (ap (λ (l : List ℕ). sets w p l) cell-words) ∙ r.same);
         size = simp length-set r.size;
-        step = omega (arith, r.step);
-        upto = omega arith;
       }
 
 -- where the template ends
-pub done : (w₀ t s : List ℕ) (base p₀ : ℕ) (w : List ℕ) (p i : ℕ) → Placing w₀ t s base p₀ w p i → length t ≤ i
+pub done : (w₀ t s : List ℕ) (base p₀ : ℕ) (w : List ℕ) (i : ℕ) → Placing w₀ t s base p₀ w i → length t ≤ i
     → w ≡ sets w₀ p₀ (words_of (cell s base (gates_in t)))
 unfolding words_of
-done w₀ t s base p₀ w p i r h = rw (drop_of_length-le t h) at r.same
+done w₀ t s base p₀ w i r h = rw (drop_of_length-le t h) at r.same
 
 -- gates after gates: q is where the second ones are stored
 pub followed-by : (A B : List Gate) (w₀ w w' : List ℕ) (p q : ℕ) → w ≡ sets w₀ p (words_of A) → q ≡ p + 3 * length A

@@ -50,18 +50,15 @@ fn place(words: &mut [u32], inputs: u32, base: u32, template: &[u32], slots: [u3
     ensures { words.new ≡ sets words.old (3 * (base - inputs))
         (words_of (cell slots base (gates_in template.now))) }
 {
-    let mut p = 3 * wide(base - inputs);
-    let mut i = 0;
-    while i < template.len() {
-        let g = template[i];
+    let start = 3 * wide(base - inputs);
+    for (i, &g) in template.iter().enumerate() {
         let k = g / 65536;
         let a = operand(g / 256 % 256, base, slots);
         let b = second(k, g % 256, base, slots);
+        let p = start + 3 * i;
         words[p] = k;
         words[p + 1] = a;
         words[p + 2] = b;
-        i += 1;
-        p += 3;
     }
 }
 
@@ -70,13 +67,7 @@ fn along(slots: [u32; 8], steps: [u32; 8], i: u32) -> [u32; 8]
     requires { (Below 41943040 slots) × (Below 65536 steps) × (i ≤ 384) }
     ensures { result ≡ Arrays.along slots steps i }
 {
-    let mut here = slots;
-    let mut k: usize = 0;
-    while k < 8 {
-        here[k] = slots[k] + steps[k] * i;
-        k += 1;
-    }
-    here
+    std::array::from_fn(|k| slots[k] + steps[k] * i)
 }
 
 // n cells, each with its slots a step on.
@@ -97,13 +88,9 @@ fn cells(
         (words_of (Arrays.cells (gates_in template.now) slots steps base n)) }
 {
     let size = template.len() as u32;
-    let mut at = base;
-    let mut i = 0;
-    while i < n {
+    for i in 0..n {
         let here = along(slots, steps, i);
-        place(words, inputs, at, template, here);
-        at += size;
-        i += 1;
+        place(words, inputs, base + size * i, template, here);
     }
 }
 
@@ -135,20 +122,11 @@ fn array(words: &mut [u32], inputs: u32, template: &[u32], s: Section)
     requires fits { Fits inputs s (length words.old) }
     ensures { words.new ≡ sets words.old (3 * (s.base - inputs)) (words_of (in_array (gates_in template.now) s)) }
 {
-    let zeros = s.zeros;
-    let n = s.cells;
-    let m = s.lanes;
-    let slots = s.slots;
-    let outer = s.outer;
-    let inner = s.inner;
-    let step = zeros + s.size * n;
-    let mut at = s.base;
-    let mut j = 0;
-    while j < m {
-        let here = along(slots, outer, j);
-        lane(words, inputs, at, zeros, template, n, here, inner);
-        at += step;
-        j += 1;
+    let step = s.zeros + s.size * s.cells;
+    for j in 0..s.lanes {
+        let at = s.base + step * j;
+        let here = along(s.slots, s.outer, j);
+        lane(words, inputs, at, s.zeros, template, s.cells, here, s.inner);
     }
 }
 

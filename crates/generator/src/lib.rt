@@ -4,9 +4,8 @@
 mod cells;
 mod templates;
 
-ghost use Rattle.std.specs.Prelude.{◌≡◌, [], ◌∷◌, ◌+◌, ◌*◌, ◌≤◌, length};
+ghost use Rattle.std.specs.Prelude.{◌≡◌, [], ◌∷◌, ◌+◌, ◌*◌, ◌≤◌, length, Ok};
 ghost use Rattle.std.proofs.lemmas.List.Edits.{sets};
-ghost use Rattle.refusals.specs.declared.Outcome.TheVariants.{Taken};
 ghost use Rattle.refusals.specs.Checks as Checks;
 ghost use Rattle.refusals.specs.Numbers.{said};
 ghost use Rattle.gates.specs.Memory.{words_of};
@@ -19,37 +18,27 @@ ghost use Rattle.generator.specs.Generation as Generation;
 ghost use Rattle.generator.specs.Generation.{generator_checks, generated_code, generated_numbers, written_words, Carried};
 
 use dimensions::Dimensions;
-use refusals::{Outcome, Refusal};
+use refusals::Refusal;
 use sections::{Addresses, Section};
 
-// How many gates were written, or why none.
-#[derive(Clone, Copy)]
-pub enum Generated {
-    Of(usize),
-    Refused(Refusal),
-}
-
 // Writes the circuit of these dimensions from the front of the words; later words stay as they are. Refused, it changes no word.
-pub fn generate(d: Dimensions, words: &mut [u32]) -> Generated
+pub fn generate(d: Dimensions, words: &mut [u32]) -> Result<usize, Refusal>
     ensures value { result ≡ Generation.generated d words.old }
     ensures words_after { words.new ≡ written_words d words.old }
     ensures carried { Carried d result words.new }
     ensures result_value { generated_code result ∷ generated_numbers result ≡ said (Checks.outcome (generator_checks d words.old))
         (length (gates_on d) ∷ []) }
 {
-    match d.check() {
-        Outcome::Taken => {}
-        Outcome::Refused(refusal) => return Generated::Refused(refusal),
-    }
+    d.check()?;
     if words.len() < 3 * d.ceiling() {
-        return Generated::Refused(Refusal::GateBuffer);
+        return Err(Refusal::GateBuffer);
     }
-    Generated::Of(write(words, d))
+    Ok(write(words, d))
 }
 
 // Writes the circuit, and says how many gates it has.
 fn write(words: &mut [u32], d: Dimensions) -> usize
-    requires { (Checks.outcome (size_checks d) ≡ Taken) × (3 * ceiling d ≤ length words.old) }
+    requires { (Checks.outcome (size_checks d) ≡ Ok tt) × (3 * ceiling d ≤ length words.old) }
     ensures value { result ≡ length (circuit (addresses_on d)) }
     ensures words_after { words.new ≡ sets words.old 0 (words_of (circuit (addresses_on d))) }
 {
@@ -62,16 +51,14 @@ fn write(words: &mut [u32], d: Dimensions) -> usize
 
 // Writes the first `count` sections of the circuit.
 fn sections(words: &mut [u32], d: Dimensions, inputs: u32, count: u32)
-    requires d_value { (Checks.outcome (size_checks d) ≡ Taken) × (3 * ceiling d ≤ length words.old) }
+    requires d_value { (Checks.outcome (size_checks d) ≡ Ok tt) × (3 * ceiling d ≤ length words.old) }
     requires inputs_value { (inputs ≡ (addresses_on d).inputs) × (count ≤ 41 + d.n) }
     ensures { words.new ≡ sets words.old 0 (words_of (rows (gates_at d) count)) }
 {
-    let mut k = 0;
-    while k < count {
+    for k in 0..count {
         let s = Section::at(d, k);
         let first = s.template as usize;
         let end = first + s.size as usize;
         cells::section(words, inputs, first, end, s);
-        k += 1;
     }
 }

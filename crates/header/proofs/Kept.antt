@@ -11,6 +11,7 @@ use lib.Dec.{eqb, ltb}
 use lib.ListN.{length, drop, take, get_or, drop_of_length-le, get_or-eq_default}
 use lib.Seq.{drop-drop, get_or-drop}
 use borrow.Author.Tests.{eqb-true, eqb-false, ltb-true, ltb-false}
+use Rattle.std.specs.Prelude.{Err}
 use Rattle.words.proofs.Truth.{on}
 use Rattle.lexer.specs.Bytes.{is_line_feed, run, trimmed}
 use Rattle.lexer.specs.Remarks.{without_remarks}
@@ -20,9 +21,7 @@ use Rattle.lexer.specs.Blanks.{start, further}
 use Rattle.lexer.proofs.Runs.{end_ge}
 use Rattle.lexer.proofs.Kept.{part_kept_from, kept-is, first-kept, line-run, line-take, line-drop, other-kept, remark_kept}
 use Rattle.refusals.specs.declared.Refusal.TheVariants.{Text}
-use Rattle.header.specs.Header.{past_remarks, sizes_of, headed, header_of}
-use Rattle.header.specs.declared.Header.{Header}
-use Rattle.header.specs.declared.HeaderNumbers.TheVariants.{Refused}
+use Rattle.header.specs.Header.{HeaderLine, past_remarks, sizes_of, headed, header_of}
 use Rattle.header.proofs.Lines.{other-line, last_line, remark_line, no_line, header_at}
 
 abbrev in_line : ℕ → Bool
@@ -93,20 +92,20 @@ module _ (least : ℕ) (text : List ℕ) where
     pub sizes : (header_of least (without_remarks text)).sizes ≡ (header_of least text).sizes
     pub rest : drop (header_of least (without_remarks text)).end (without_remarks text) ≡ part_kept_from further (drop (header_of least text).end text)
 
-  same : (v : List ℕ) (g h : Header) → without_remarks text ≡ v → header_of least v ≡ g → header_of least text ≡ h
+  same : (v : List ℕ) (g h : HeaderLine) → without_remarks text ≡ v → header_of least v ≡ g → header_of least text ≡ h
       → g.sizes ≡ h.sizes → drop g.end v ≡ part_kept_from further (drop h.end text) → Same
   same v g h w eg eh s r =
       let e : header_of least (without_remarks text) ≡ g = ap (header_of least) w ∙ eg in
       record {
-        sizes = ap (λ (x : Header). x.sizes) e ∙ s ∙ sym (ap (λ (x : Header). x.sizes) eh);
-        rest = ap₂ (λ (x : Header) (l : List ℕ). drop x.end l) e w ∙ r ∙ sym (ap (λ (x : Header). part_kept_from further (drop x.end text)) eh);
+        sizes = ap (λ (x : HeaderLine). x.sizes) e ∙ s ∙ sym (ap (λ (x : HeaderLine). x.sizes) eh);
+        rest = ap₂ (λ (x : HeaderLine) (l : List ℕ). drop x.end l) e w ∙ r ∙ sym (ap (λ (x : HeaderLine). part_kept_from further (drop x.end text)) eh);
       }
 
   -- a text of remarks alone
   none : NoLine text 0 → Same
   unfolding header_of past_remarks cut trimmed run parts_from not_empty part_kept_from
   none (e, k) =
-      same [] (record { sizes = Refused Text; end = 0 }) (record { sizes = Refused Text; end = length text })
+      same [] (record { sizes = Err Text; end = 0 }) (record { sizes = Err Text; end = length text })
       (kept-is text ∙ k) refl (ap (headed least text) e) refl (sym (rw (drop_of_length-le {A = ℕ} text {i = length text} (omega arith))))
 
   -- a text whose header's line is at h

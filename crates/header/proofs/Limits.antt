@@ -6,6 +6,8 @@ use Prim.Native.Nat.{ℕ, ◌≤◌}
 use native.Mathlib.Omega.{arith}
 use lib.Dec.{eqb, ltb}
 use borrow.Author.Tests.{lt-ltb, le-ltb, ltb-true, ltb-false}
+use Rattle.std.specs.Prelude.{Result, Ok, Err, Some, None}
+use Rattle.refusals.specs.declared.Refusal.{Refusal}
 use Rattle.words.proofs.Truth.{on, or_l, or_r}
 use Rattle.lexer.specs.Spelling.{bytes}
 use Rattle.words.specs.Sameness.{same}
@@ -13,12 +15,9 @@ use Rattle.lexer.specs.Bytes.{is_blank, is_tail, trimmed}
 use Rattle.lexer.specs.Pieces.{Piece, lines_from, parts_from}
 use Rattle.numbers.specs.Numbers.{Number, number, malformed, number_read}
 use Rattle.numbers.specs.CappedNumbers.{held, number_held}
-use Rattle.numbers.specs.declared.Number.TheVariants as L
 use Rattle.numbers.proofs.Decimals.{held-value, held_none}
 use Rattle.dimensions.specs.Sizes.{most_variables, most_rows}
 use Rattle.refusals.specs.declared.Refusal.TheVariants.{Variables, RowCount, Text}
-use Rattle.header.specs.declared.HeaderNumbers.{HeaderNumbers}
-use Rattle.header.specs.declared.HeaderNumbers.TheVariants.{Of, Refused}
 use Rattle.header.specs.Header.{past_remarks, beyond, judged_sizes, two_numbers, header_parts, headed, header_of}
 
 -- what is not beyond its limits is within them
@@ -58,22 +57,24 @@ judged-held least s t v w h =
     (λ a. rw (n_held, a))
     (λ a. on (beyond least most_rows t w)
     (λ b. rw (n_held, m-held, a, b))
-    (λ b. rw (n_held, m-held, a, b) (ap₂ Of (held-within 1 most_variables s v (omega arith) a) (held-within least most_rows t w (omega arith) b))))
+    (λ b. rw (n_held, m-held, a, b)
+    (let pair : ℕ → ℕ → Result (ℕ × ℕ) Refusal = λ x y. Ok (x, y) in
+    ap₂ pair (held-within 1 most_variables s v (omega arith) a) (held-within least most_rows t w (omega arith) b))))
 
 -- ---- two parts as they are read
 
 module _ (least : ℕ) (n m : List ℕ) where
-  pub no_n : number_held (number_read n) ≡ L.Malformed → judged_sizes least (number_read n) (number_read m) ≡ Refused Text
+  pub no_n : number_held (number_read n) ≡ None → judged_sizes least (number_read n) (number_read m) ≡ Err Text
   no_n e = rw (held_none (number_read n) e)
 
-  pub no_m : number_held (number_read m) ≡ L.Malformed → judged_sizes least (number_read n) (number_read m) ≡ Refused Text
+  pub no_m : number_held (number_read m) ≡ None → judged_sizes least (number_read n) (number_read m) ≡ Err Text
   no_m e = ap (judged_sizes least (number_read n)) (held_none (number_read m) e) ∙ go (number_read n)
     where
-      go : (x : Number) → judged_sizes least x malformed ≡ Refused Text
+      go : (x : Number) → judged_sizes least x malformed ≡ Err Text
       go malformed = refl
       go (number s v) = refl
 
-  pub both : least ≤ 1000 → (s t : Bool) (v w : ℕ) → number_held (number_read n) ≡ L.Value s v → number_held (number_read m) ≡ L.Value t w
+  pub both : least ≤ 1000 → (s t : Bool) (v w : ℕ) → number_held (number_read n) ≡ Some (s, v) → number_held (number_read m) ≡ Some (t, w)
       → judged_sizes least (number s v) (number t w) ≡ judged_sizes least (number_read n) (number_read m)
   both h s t v w e f =
       let x = held-value (number_read n) s v e in
@@ -83,8 +84,8 @@ module _ (least : ℕ) (n m : List ℕ) where
 
 -- ---- whatever holds of refusals 1, 2 and 5 and of n and m within their limits holds of a header
 
-module _ (least : ℕ) (P : HeaderNumbers → Type 0) (text-refused : P (Refused Text)) (n-refused : P (Refused Variables)) (m-refused : P (Refused RowCount))
-    (taken : (n m : ℕ) → (1 ≤ n) × (n ≤ most_variables) → (least ≤ m) × (m ≤ most_rows) → P (Of n m)) where
+module _ (least : ℕ) (P : Result (ℕ × ℕ) Refusal → Type 0) (text-refused : P (Err Text)) (n-refused : P (Err Variables)) (m-refused : P (Err RowCount))
+    (taken : (n m : ℕ) → (1 ≤ n) × (n ≤ most_variables) → (least ≤ m) × (m ≤ most_rows) → P (Ok (n, m))) where
   judged_either : (x y : Number) → P (judged_sizes least x y)
   judged_either malformed y = text-refused
   judged_either (number s n) malformed = text-refused

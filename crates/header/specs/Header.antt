@@ -1,6 +1,7 @@
 -- The header of a text: `c` lines may come before it, and nothing else; n and m are judged in it (document 01, "DIMACS" and "Turned back").
 -- `least` is the least m that is taken: 1 in a station's text, 0 in that of the public rest rules (document 02, "Public rest rules").
-use Rattle.std.specs.Prelude.{ℕ, ◌≡◌, Bool, ◌&&◌, ◌||◌, cond, List, [], ◌∷◌, eqb, ltb, length}
+use Rattle.refusals.specs.declared.Refusal.{Refusal}
+use Rattle.std.specs.Prelude.{ℕ, ◌≡◌, Bool, ◌&&◌, ◌||◌, cond, List, [], ◌∷◌, eqb, ltb, length, Result, Ok, Err}
 use Rattle.lexer.specs.Spelling.{bytes}
 use Rattle.words.specs.Sameness.{same}
 use Rattle.lexer.specs.Bytes.{is_blank, is_tail, trimmed}
@@ -11,8 +12,6 @@ use Rattle.dimensions.specs.Sizes.{most_variables, most_rows}
 use Rattle.refusals.specs.Numbers.{number_of as refusal_number}
 use Rattle.refusals.specs.Checks.{Check, check, outcome, given}
 use Rattle.refusals.specs.declared.Refusal.TheVariants.{Variables, RowCount, Text}
-use Rattle.header.specs.declared.HeaderNumbers.{HeaderNumbers}
-use Rattle.header.specs.declared.HeaderNumbers.TheVariants.{Of, Refused}
 use Rattle.header.specs.declared.Header.{Header}
 
 -- the lines from the first that is no remark on
@@ -29,42 +28,61 @@ abbrev pub limit_checks : ℕ → Bool → ℕ → Bool → ℕ → List Check
 limit_checks least s n t m = check (beyond 1 most_variables s n) Variables ∷ check (beyond least most_rows t m) RowCount ∷ []
 
 -- n and m must both be well-formed; n is judged first, then m
-abbrev pub judged_sizes : ℕ → Number → Number → HeaderNumbers
-judged_sizes least malformed m = Refused Text
-judged_sizes least (number s n) malformed = Refused Text
-judged_sizes least (number s n) (number t m) = given (outcome (limit_checks least s n t m)) (Of n m) Refused
+abbrev pub judged_sizes : ℕ → Number → Number → Result (ℕ × ℕ) Refusal
+judged_sizes least malformed m = Err Text
+judged_sizes least (number s n) malformed = Err Text
+judged_sizes least (number s n) (number t m) = given (outcome (limit_checks least s n t m)) (Ok (n, m)) Err
 
 -- n and m, and no more
-abbrev pub two_numbers : ℕ → List Piece → HeaderNumbers
-two_numbers least [] = Refused Text
-two_numbers least (n ∷ []) = Refused Text
+abbrev pub two_numbers : ℕ → List Piece → Result (ℕ × ℕ) Refusal
+two_numbers least [] = Err Text
+two_numbers least (n ∷ []) = Err Text
 two_numbers least (n ∷ (m ∷ [])) = judged_sizes least (number_read n.bytes) (number_read m.bytes)
-two_numbers least (n ∷ (m ∷ (x ∷ xs))) = Refused Text
+two_numbers least (n ∷ (m ∷ (x ∷ xs))) = Err Text
 
 -- `p` at the line's first byte, `cnf`, n and m
-abbrev pub header_parts : ℕ → List Piece → HeaderNumbers
-header_parts least [] = Refused Text
-header_parts least (p ∷ []) = Refused Text
+abbrev pub header_parts : ℕ → List Piece → Result (ℕ × ℕ) Refusal
+header_parts least [] = Err Text
+header_parts least (p ∷ []) = Err Text
 header_parts least (p ∷ (f ∷ ps)) =
-    cond (eqb p.at 0 && same p.bytes (bytes "p") && same f.bytes (bytes "cnf")) (two_numbers least ps) (Refused Text)
+    cond (eqb p.at 0 && same p.bytes (bytes "p") && same f.bytes (bytes "cnf")) (two_numbers least ps) (Err Text)
 
 -- a header's line: parts set off by spaces and tabs; spaces, tabs and CRs may follow the last
-abbrev pub sizes_of : ℕ → List ℕ → HeaderNumbers
+abbrev pub sizes_of : ℕ → List ℕ → Result (ℕ × ℕ) Refusal
 sizes_of least line = header_parts least (parts_from is_blank (trimmed is_tail line) 0)
 
+-- what the line of a header says, n and m or a refusal, and the place past it
+pub record HeaderLine : Type 0 where
+  pub sizes : Result (ℕ × ℕ) Refusal
+  pub end : ℕ
+
 -- the header is the first of some lines, and the clauses start after it
-abbrev pub headed : ℕ → List ℕ → List Piece → Header
-headed least text [] = record { sizes = Refused Text; end = length text }
+abbrev pub headed : ℕ → List ℕ → List Piece → HeaderLine
+headed least text [] = record { sizes = Err Text; end = length text }
 headed least text (l ∷ ls) = record { sizes = sizes_of least l.bytes; end = behind l }
 
 -- a text's header is the first line that is no remark
-unfoldable pub header_of : ℕ → List ℕ → Header
+unfoldable pub header_of : ℕ → List ℕ → HeaderLine
 header_of least text = headed least text (past_remarks (lines_from text 0))
 
+-- sizes with a place
+abbrev pub sizes_before : Result (ℕ × ℕ) Refusal → ℕ → Result Header Refusal
+sizes_before (Ok (n, m)) end = Ok (record { n = n; m = m; end = end })
+sizes_before (Err r) end = Err r
+
+-- a header as it is read: n, m and the place, or the refusal
+abbrev pub header_read : HeaderLine → Result Header Refusal
+header_read h = sizes_before h.sizes h.end
+
+-- n and m of what was read
+abbrev pub sizes_found : Result Header Refusal → Result (ℕ × ℕ) Refusal
+sizes_found (Ok h) = Ok (h.n, h.m)
+sizes_found (Err r) = Err r
+
 -- what reading a header says: 0, n and m of "`p cnf n m`", or 1, 2 or 5 of "Turned back because of the input"
-abbrev pub sizes_said : HeaderNumbers → List ℕ
-sizes_said (Of n m) = 0 ∷ (n ∷ (m ∷ []))
-sizes_said (Refused r) = refusal_number r ∷ []
+abbrev pub sizes_said : Result (ℕ × ℕ) Refusal → List ℕ
+sizes_said (Ok (n, m)) = 0 ∷ (n ∷ (m ∷ []))
+sizes_said (Err r) = refusal_number r ∷ []
 
 -- the number and the values of a text's header
 abbrev pub header_said : ℕ → List ℕ → List ℕ

@@ -18,8 +18,7 @@ ghost use Rattle.tables.specs.Tables.{lent_tables};
 ghost use Rattle.lent.specs.Lent.{numbers_or};
 ghost use Rattle.host_circuits.specs.Circuits.{sizes_given, read_stored};
 
-use generator::Generated;
-use refusals::Outcome;
+use tables::Tables;
 
 // The gate ceiling, the words that the generator needs, input wires and state wires; 1 or 2 where it is refused.
 pub fn forkhemit_sizes(
@@ -33,9 +32,8 @@ pub fn forkhemit_sizes(
     ensures sizes_after { sizes.new ≡ sizes_given (host_dimensions n left_rows right_rows public_rows) sizes.old }
 {
     let d = codes::dimensions(n, left_rows, right_rows, public_rows);
-    match d.check() {
-        Outcome::Taken => {}
-        Outcome::Refused(refusal) => return refusals::number(refusal),
+    if let Err(refusal) = d.check() {
+        return u8::from(refusal);
     }
     let ceiling = d.ceiling() as u64;
     let words = 3 * ceiling;
@@ -68,11 +66,11 @@ pub fn forkhemit_generate(
 {
     let d = codes::dimensions(n, left_rows, right_rows, public_rows);
     match generator::generate(d, gates) {
-        Generated::Of(k) => {
+        Ok(k) => {
             *count = [k as u64];
             return 0;
         }
-        Generated::Refused(refusal) => return refusals::number(refusal),
+        Err(refusal) => return u8::from(refusal),
     }
 }
 
@@ -96,7 +94,12 @@ pub fn forkhemit_pack(
         (run_in run.now) bytes.old }
 {
     let d = codes::dimensions(n, left_rows, right_rows, public_rows);
-    codes::code(wires::pack(d, left, right, public, stored::load(*run), bytes))
+    let tables = Tables {
+        left,
+        right,
+        public,
+    };
+    codes::code(wires::pack(d, tables, stored::load(*run), bytes))
 }
 
 // Fills the front of the wires with the inputs and then each gate's value; 9 or 10 where it is refused, and then no byte changes.
@@ -112,9 +115,11 @@ pub fn forkhemit_read_back(n: u64, bytes: &[u8], run: &mut [u32; 101]) -> u8
     ensures value { result ≡ code_of (read_back (as_byte n) bytes.now).outcome }
     ensures run_after { run.new ≡ read_stored (read_back (as_byte n) bytes.now) run.old }
 {
-    let read = readback::read_back(codes::byte(n), bytes);
-    let outcome = read.outcome;
-    let next = read.run;
-    lent::store_if(outcome, next, run);
-    codes::code(outcome)
+    match readback::read_back(codes::byte(n), bytes) {
+        Ok(next) => {
+            *run = stored::words(next);
+            0
+        }
+        Err(refusal) => u8::from(refusal),
+    }
 }

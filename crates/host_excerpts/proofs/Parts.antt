@@ -7,10 +7,9 @@ use native.Mathlib.Nat.{zero-add}
 use lib.ListN.{length, drop}
 use lib.Seq.{sets-eq}
 use borrow.Author.Tests.{lt-ltb, le-ltb}
+use Rattle.std.specs.Prelude.{Ok, Err}
 use Rattle.refusals.specs.Checks.{Check, outcome}
-use Rattle.refusals.specs.Numbers.{code_of}
-use Rattle.refusals.specs.declared.Outcome.{Outcome}
-use Rattle.refusals.specs.declared.Outcome.TheVariants.{Taken, Refused}
+use Rattle.refusals.specs.Numbers.{Outcome, code_of}
 use Rattle.refusals.specs.declared.Refusal.{Refusal}
 use Rattle.refusals.specs.declared.Refusal.TheVariants.{LineBuffer}
 use Rattle.refusals.proofs.Outcomes.{outcome-taken, outcome-refused}
@@ -22,7 +21,7 @@ abbrev pub Given : Outcome → List ℕ → List ℕ → List ℕ → ℕ → Li
 Given o part bytes number code bytes' number' = (code ≡ code_of o) × ((bytes' ≡ part_after o part bytes) × (number' ≡ length_after o part number))
 
 module _ (part bytes number : List ℕ) where
-  pub no_room : length bytes < length part → (code : ℕ) → code ≡ code_of (Refused LineBuffer)
+  pub no_room : length bytes < length part → (code : ℕ) → code ≡ code_of (Err LineBuffer)
       → Given (outcome (room_checks part bytes)) part bytes number code bytes number
   no_room h code e = rw (lt-ltb (length bytes) (length part) h) (e, (λ i. bytes, λ i. number))
 
@@ -42,13 +41,13 @@ module _ (checks : List Check) (part bytes number : List ℕ) where
   abbrev all : Outcome
   all = outcome (checks ++ room_checks part bytes)
 
-  pub refused_call : (q : Refusal) → outcome checks ≡ Refused q → (code : ℕ) → code ≡ code_of (Refused q) → Given all part bytes number code bytes number
+  pub refused_call : (q : Refusal) → outcome checks ≡ Err q → (code : ℕ) → code ≡ code_of (Err q) → Given all part bytes number code bytes number
   refused_call q e code h =
       subst (λ (o : Outcome). Given o part bytes number code bytes number) (sym (outcome-refused checks (room_checks part bytes) q e))
       (h, (λ i. bytes, λ i. number))
 
   -- the part as it is given, and what giving it leaves
-  pub taken_call : outcome checks ≡ Taken → (given : List ℕ) → given ≡ part → (code : ℕ) (bytes' number' : List ℕ)
+  pub taken_call : outcome checks ≡ Ok tt → (given : List ℕ) → given ≡ part → (code : ℕ) (bytes' number' : List ℕ)
       → Given (outcome (room_checks given bytes)) given bytes number code bytes' number' → Given all part bytes number code bytes' number'
   taken_call e given q code bytes' number' h =
       subst (λ (o : Outcome). Given o part bytes number code bytes' number') (sym (outcome-taken checks (room_checks part bytes) e))

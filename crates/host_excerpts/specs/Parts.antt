@@ -1,7 +1,7 @@
 -- A clause's own bytes in the bytes that a host lends.
+use Rattle.refusals.specs.Numbers.{Outcome}
 use Rattle.std.specs.Prelude.{ℕ, List, [], ◌∷◌, ◌++◌, ltb, length}
 use Rattle.refusals.specs.Checks.{Check, check, outcome, given}
-use Rattle.refusals.specs.declared.Outcome.{Outcome}
 use Rattle.refusals.specs.declared.Refusal.TheVariants.{LineBuffer}
 use Rattle.dimensions.specs.declared.Dimensions.{Dimensions}
 use Rattle.tables.specs.Tables.{Tables}

@@ -12,8 +12,8 @@ ghost use Rattle.codes.specs.Codes.{host_dimensions};
 ghost use Rattle.lent.specs.Lent.{numbers_or};
 ghost use Rattle.host_excerpts.specs.Parts.{room_checks, part_after, length_after, excerpt_in};
 
-use excerpts::Placed;
-use refusals::{Outcome, Refusal};
+use refusals::Refusal;
+use tables::Tables;
 
 // The station, start and length of the clause of a row, from 1; 5 for an overlong text, the tables' 1, 2, 4 or 3, the left text's 1, 2 or
 // 5, the right text's, 6 or 17 where it is refused.
@@ -36,8 +36,13 @@ pub fn forkhemit_clause(
         (lent_tables left right public) left_text.now right_text.now row)) place.old }
 {
     let d = codes::dimensions(n, left_rows, right_rows, public_rows);
-    match excerpts::clause_place(d, left, right, public, left_text, right_text, row) {
-        Placed::Of(found) => {
+    let tables = Tables {
+        left,
+        right,
+        public,
+    };
+    match excerpts::clause_place(d, tables, left_text, right_text, row) {
+        Ok(found) => {
             *place = [
                 found.station as u64,
                 found.start as u64,
@@ -45,7 +50,7 @@ pub fn forkhemit_clause(
             ];
             return 0;
         }
-        Placed::Refused(refusal) => return refusals::number(refusal),
+        Err(refusal) => return u8::from(refusal),
     }
 }
 
@@ -58,7 +63,7 @@ fn give(part: &[u8], bytes: &mut [u8], length: &mut [u64; 1]) -> u8
         length.old }
 {
     if bytes.len() < part.len() {
-        return refusals::number(Refusal::LineBuffer);
+        return u8::from(Refusal::LineBuffer);
     }
     bytes[..part.len()].copy_from_slice(part);
     *length = [part.len() as u64];
@@ -94,10 +99,14 @@ pub fn forkhemit_excerpt<'a>(
         right_text.now row) length.old }
 {
     let d = codes::dimensions(n, left_rows, right_rows, public_rows);
-    match excerpts::check_excerpt(d, left, right, public, left_text, right_text, row) {
-        Outcome::Taken => {}
-        Outcome::Refused(refusal) => return refusals::number(refusal),
+    let tables = Tables {
+        left,
+        right,
+        public,
+    };
+    if let Err(refusal) = excerpts::check_excerpt(d, tables, left_text, right_text, row) {
+        return u8::from(refusal);
     }
-    let part = excerpts::clause_bytes(d, left, right, public, left_text, right_text, row);
+    let part = excerpts::clause_bytes(d, tables, left_text, right_text, row);
     give(part, bytes, length)
 }

@@ -1,12 +1,11 @@
 -- What one giant step of a run in lent words gives and leaves there, with what it tells.
+use Rattle.refusals.specs.Numbers.{Outcome}
 use Rattle.std.specs.Prelude.{ℕ, List}
 use Rattle.refusals.specs.Checks.{given}
-use Rattle.refusals.specs.declared.Outcome.{Outcome}
 use Rattle.dimensions.specs.declared.Dimensions.{Dimensions}
 use Rattle.tables.specs.Tables.{Tables}
-use Rattle.explained.specs.declared.Explained.{Explained}
 use Rattle.explained.specs.declared.Told.{Told}
-use Rattle.explained.specs.Explanation.{explained, told_numbers}
+use Rattle.explained.specs.Explanation.{Explained, explained, told_numbers}
 use Rattle.stored.specs.Words.{run_in}
 use Rattle.lent.specs.Lent.{stored_if}
 

@@ -7,21 +7,9 @@ ghost use Rattle.std.specs.Prelude.{◌≡◌};
 ghost use Rattle.refusals.specs.Numbers.{code_of};
 ghost use Rattle.tables.specs.Tables.{lent_tables};
 ghost use Rattle.codes.specs.Codes.{host_dimensions};
-ghost use Rattle.host_explained.specs.Explanations.{explain_in, run_after, numbers_if, numbers_after};
+ghost use Rattle.host_explained.specs.Explanations.{explain_in, run_after, numbers_after};
 
-use explained::Told;
-use refusals::Outcome;
-
-// The four numbers of what is told where the call was taken; else those that were lent.
-fn numbers_if(outcome: Outcome, told: Told, lent: [u64; 4]) -> [u64; 4]
-    ensures { result ≡ numbers_if outcome told lent }
-{
-    match outcome {
-        Outcome::Taken => {}
-        Outcome::Refused(_) => return lent,
-    }
-    explained::numbers(told)
-}
+use tables::Tables;
 
 // One giant step of the run in the lent words and what it tells: rule, row, variable, value; 1, 2, 4, 3, 12 or 13 where it is refused.
 pub fn forkhemit_step_explained(
@@ -44,12 +32,18 @@ pub fn forkhemit_step_explained(
         (lent_tables left right public) run.old) explanation.old }
 {
     let d = codes::dimensions(n, left_rows, right_rows, public_rows);
-    let stepped = explained::step_explained(d, left, right, public, stored::load(*run));
-    let outcome = stepped.outcome;
-    let next = stepped.run;
-    let told = stepped.told;
-    lent::store_if(outcome, next, run);
-    let numbers = numbers_if(outcome, told, *explanation);
-    *explanation = numbers;
-    codes::code(outcome)
+    let tables = Tables {
+        left,
+        right,
+        public,
+    };
+    let mut next = stored::load(*run);
+    match explained::step_explained(d, tables, &mut next) {
+        Ok(told) => {
+            *run = stored::words(next);
+            *explanation = explained::numbers(told);
+            0
+        }
+        Err(refusal) => u8::from(refusal),
+    }
 }

@@ -8,15 +8,15 @@ ghost use Rattle.lent.specs.Lent.{numbers_or};
 ghost use Rattle.qdimacs.specs.Text.{game_text};
 ghost use Rattle.game.specs.Game.{opening_numbers, winner_numbers, game_answer, game_code, game_numbers};
 
-use game::{GameAnswer, Opening, Winner};
+use game::Winner;
 
 // A side, the first variable from 1 and its value; two zeros where the winner does not move first.
-fn with_opening(side: u64, opening: Opening) -> [u64; 3]
+fn with_opening(side: u64, opening: Option<(u8, bool)>) -> [u64; 3]
     ensures { result ≡ side ∷ opening_numbers opening }
 {
     match opening {
-        Opening::Fixes(v, b) => [side, v as u64 + 1, b as u64],
-        Opening::Nothing => [side, 0, 0],
+        Some((v, b)) => [side, v as u64 + 1, b as u64],
+        None => [side, 0, 0],
     }
 }
 
@@ -37,11 +37,11 @@ pub fn forkhemit_game(text: &[u8], answer: &mut [u64; 3]) -> u8
     ensures answer_after { answer.new ≡ numbers_or (game_numbers (game_answer (game_text text.now))) answer.old }
 {
     match game::answer(text) {
-        GameAnswer::Won(winner) => {
+        Ok(winner) => {
             let given = numbers(winner);
             *answer = given;
             return 0;
         }
-        GameAnswer::Refused(refusal) => return refusals::number(refusal),
+        Err(refusal) => return u8::from(refusal),
     }
 }

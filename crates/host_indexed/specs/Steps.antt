@@ -2,10 +2,8 @@
 use Rattle.std.specs.Prelude.{ℕ, List, get_or}
 use Rattle.dimensions.specs.declared.Dimensions.{Dimensions}
 use Rattle.tables.specs.Tables.{Tables}
-use Rattle.indexed.specs.declared.SteppedIndexed.{SteppedIndexed}
-use Rattle.indexed.specs.Entries.{stepped_indexed}
-use Rattle.indexed.specs.declared.Continued.{Continued}
-use Rattle.indexed.specs.Continuing.{continued}
+use Rattle.indexed.specs.Entries.{SteppedIndexed, stepped_indexed}
+use Rattle.indexed.specs.Continuing.{Continued, continued}
 use Rattle.stored.specs.Words.{run_in}
 
 -- index, run and number in lent words; the number is the one word of its array

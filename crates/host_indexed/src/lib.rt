@@ -9,14 +9,16 @@ ghost use Rattle.refusals.specs.Numbers.{code_of};
 ghost use Rattle.tables.specs.Tables.{lent_tables};
 ghost use Rattle.tables.specs.Acceptance.{table_checks};
 ghost use Rattle.indexed.specs.Entries.{index_after, counted, counted_code, counted_numbers};
-ghost use Rattle.indexed.specs.Continuing.{continued_code, continued_numbers};
+ghost use Rattle.indexed.specs.Continuing.{continued_code, continued_numbers, taken_outcome, taken_numbers};
 ghost use Rattle.codes.specs.Codes.{host_dimensions};
 ghost use Rattle.stored.specs.Words.{run_in};
 ghost use Rattle.lent.specs.Lent.{numbers_or, stored_if};
 ghost use Rattle.host_indexed.specs.Steps.{indexed_step_in, continue_in};
 
-use indexed::{Continued, Counted};
-use refusals::Outcome;
+use indexed::StepsTaken;
+use refusals::Refusal;
+use state::Run;
+use tables::Tables;
 
 // The index of three tables; 1, 2, 4 or 3 where it is refused.
 pub fn forkhemit_index(
@@ -35,7 +37,12 @@ pub fn forkhemit_index(
         index.old }
 {
     let d = codes::dimensions(n, left_rows, right_rows, public_rows);
-    codes::code(indexed::index(d, left, right, public, index))
+    let tables = Tables {
+        left,
+        right,
+        public,
+    };
+    codes::code(indexed::index(d, tables, index))
 }
 
 // How many rows are unsatisfied under the T and F of the run in the lent words; 1, 2, 4, 3, 12 or 13 where it is refused.
@@ -56,12 +63,17 @@ pub fn forkhemit_unsatisfied(
         (lent_tables left right public) (run_in run.now))) number.old }
 {
     let d = codes::dimensions(n, left_rows, right_rows, public_rows);
-    match indexed::unsatisfied(d, left, right, public, stored::load(*run)) {
-        Counted::Of(rows) => {
+    let tables = Tables {
+        left,
+        right,
+        public,
+    };
+    match indexed::unsatisfied(d, tables, stored::load(*run)) {
+        Ok(rows) => {
             *number = [rows as u64];
             return 0;
         }
-        Counted::Refused(refusal) => return refusals::number(refusal),
+        Err(refusal) => return u8::from(refusal),
     }
 }
 
@@ -91,33 +103,37 @@ pub fn forkhemit_step_indexed(
         index.now run.old number.old).number ∷ [] }
 {
     let d = codes::dimensions(n, left_rows, right_rows, public_rows);
-    let held = stored::load(*run);
-    let kept = number[0];
-    let stepped = indexed::step_indexed(d, left, right, public, index, held, kept);
-    let outcome = stepped.outcome;
-    let next = stepped.run;
-    lent::store_if(outcome, next, run);
-    *number = [stepped.number];
+    let tables = Tables {
+        left,
+        right,
+        public,
+    };
+    let mut held = stored::load(*run);
+    let outcome = indexed::step_indexed(d, tables, index, &mut held, &mut number[0]);
+    lent::store_if(outcome, held, run);
     codes::code(outcome)
 }
 
 // Stores the run that was continued, writes how many steps it took and 1 if it is closed, else 0, and gives 0; the refusal's number where
 // it was refused, and then nothing is written.
-pub fn give_continued(done: Continued, run: &mut [u32; 101], continued: &mut [u64; 2]) -> u8
-    ensures value { result ≡ continued_code done }
-    ensures run_after { run.new ≡ stored_if done.outcome done.run run.old }
-    ensures continued_after { continued.new ≡ numbers_or (continued_numbers done) continued.old }
+pub fn give_continued(
+    done: Result<StepsTaken, Refusal>,
+    last: Run,
+    run: &mut [u32; 101],
+    continued: &mut [u64; 2],
+) -> u8
+    ensures value { result ≡ code_of (taken_outcome done) }
+    ensures run_after { run.new ≡ stored_if (taken_outcome done) last run.old }
+    ensures continued_after { continued.new ≡ numbers_or (taken_numbers done) continued.old }
 {
-    let outcome = done.outcome;
-    let last = done.run;
-    match outcome {
-        Outcome::Taken => {}
-        Outcome::Refused(refusal) => return refusals::number(refusal),
+    match done {
+        Ok(taken) => {
+            *run = stored::words(last);
+            *continued = [taken.steps, taken.closed as u64];
+            0
+        }
+        Err(refusal) => u8::from(refusal),
     }
-    let closed = done.closed as u64;
-    *run = stored::words(last);
-    *continued = [done.steps, closed];
-    0
 }
 
 // Giant steps of the run in the lent words through the one that closes it, at most a given number, by the indexed run; the numbers are how
@@ -146,10 +162,12 @@ pub fn forkhemit_continue(
         (lent_tables left right public) times run.old)) continued.old }
 {
     let d = codes::dimensions(n, left_rows, right_rows, public_rows);
-    let start = stored::load(*run);
-    give_continued(
-        indexed::continue_indexed(d, left, right, public, times, start),
-        run,
-        continued,
-    )
+    let tables = Tables {
+        left,
+        right,
+        public,
+    };
+    let mut held = stored::load(*run);
+    let done = indexed::continue_indexed(d, tables, times, &mut held);
+    give_continued(done, held, run, continued)
 }

@@ -104,10 +104,15 @@ pub fn forkhemit_replace_indexed(
 {
     let d = codes::dimensions(n, left_rows, right_rows, public_rows);
     let held = stored::load(*run);
-    let kept = number[0];
     let wanted = condition_of(station, row, positive, negative);
-    let done = late_indexed::replace_indexed(d, left, right, public, index, held, kept, wanted);
-    let outcome = done.outcome;
-    *number = [done.number];
-    codes::code(outcome)
+    codes::code(late_indexed::replace_indexed(
+        d,
+        left,
+        right,
+        public,
+        index,
+        held,
+        &mut number[0],
+        wanted,
+    ))
 }

@@ -14,9 +14,6 @@ ghost use Rattle.lent.specs.Lent.{numbers_or};
 ghost use Rattle.codes.specs.Codes.{as_byte, host_dimensions, variable_checks};
 ghost use Rattle.host_lines.specs.Answers.{answer_from, text_given, length_given};
 
-use bristol::{WrittenLine, WrittenLines};
-use lines::Budget;
-use refusals::Outcome;
 use solver::Answer;
 
 // The budget of a line, digits and LF, at most 100 bytes; 8 where it is refused, and then no number is written.
@@ -25,11 +22,11 @@ pub fn forkhemit_read_budget(line: &[u8], budget: &mut [u64; 1]) -> u8
     ensures budget_after { budget.new ≡ numbers_or (budget_numbers (budget_of line.now)) budget.old }
 {
     match lines::read_budget(line) {
-        Budget::Of(count) => {
+        Ok(count) => {
             *budget = [count];
             return 0;
         }
-        Budget::Refused(refusal) => return refusals::number(refusal),
+        Err(refusal) => return u8::from(refusal),
     }
 }
 
@@ -54,15 +51,15 @@ pub fn forkhemit_write_line(
 {
     let d = codes::dimensions(n, left_rows, right_rows, public_rows);
     match bristol::write_line(d, gates, line as usize, bytes) {
-        WrittenLine::Line(k) => {
+        Ok(Some(k)) => {
             *length = [k as u64];
             return 0;
         }
-        WrittenLine::Past => {
+        Ok(None) => {
             *length = [0];
             return 0;
         }
-        WrittenLine::Refused(refusal) => return refusals::number(refusal),
+        Err(refusal) => return u8::from(refusal),
     }
 }
 
@@ -88,11 +85,11 @@ pub fn forkhemit_write_lines(
 {
     let d = codes::dimensions(n, left_rows, right_rows, public_rows);
     match bristol::write_lines(d, gates, line as usize, bytes) {
-        WrittenLines::Lines(count, size) => {
+        Ok((count, size)) => {
             *written = [count as u64, size as u64];
             return 0;
         }
-        WrittenLines::Refused(refusal) => return refusals::number(refusal),
+        Err(refusal) => return u8::from(refusal),
     }
 }
 
@@ -111,9 +108,8 @@ pub fn forkhemit_answer(
     ensures length_after { length.new ≡ length_given (as_byte n) (answer_text (as_byte n) (answer_from count verdict model)) length.old }
 {
     let k = codes::byte(n);
-    match codes::check_variables(k) {
-        Outcome::Taken => {}
-        Outcome::Refused(refusal) => return refusals::number(refusal),
+    if let Err(refusal) = codes::check_variables(k) {
+        return u8::from(refusal);
     }
     let answer = Answer {
         count,

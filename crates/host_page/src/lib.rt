@@ -11,8 +11,6 @@ ghost use Rattle.page.specs.Entries.{page_checks, page_after, model_on};
 ghost use Rattle.stored.specs.Words.{run_in};
 ghost use Rattle.lent.specs.Lent.{numbers_or};
 
-use verdicts::Modelled;
-
 // Writes the page of the model of the run in the lent words, 80 bytes a pilot, over the front of the lent bytes; 12, 14, 25 or 26 where it
 // is refused, and then no byte changes.
 pub fn forkhemit_page(run: &[u32; 101], pilots: u64, watches: u64, page: &mut [u8]) -> u8
@@ -36,10 +34,10 @@ pub fn forkhemit_read_page(
     ensures model_after { model.new ≡ numbers_or (model_numbers (model_on n pilots watches page.now)) model.old }
 {
     match page::read(n as usize, pilots as usize, watches as usize, page) {
-        Modelled::Model(word) => {
+        Ok(word) => {
             *model = [word as u64];
             return 0;
         }
-        Modelled::Refused(refusal) => return refusals::number(refusal),
+        Err(refusal) => return u8::from(refusal),
     }
 }

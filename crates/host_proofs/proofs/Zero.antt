@@ -3,10 +3,9 @@ use mathlib.Core.Path.{◌≡◌, refl, sym, subst, ◌∙◌}
 use mathlib.Core.Bool.{Bool, false}
 use mathlib.Core.List.{List, ◌++◌}
 use Prim.Native.Nat.{ℕ}
-use Rattle.refusals.specs.Numbers.{code_of}
+use Rattle.std.specs.Prelude.{Ok, Err}
+use Rattle.refusals.specs.Numbers.{Outcome, code_of}
 use Rattle.refusals.specs.Checks.{outcome}
-use Rattle.refusals.specs.declared.Outcome.{Outcome}
-use Rattle.refusals.specs.declared.Outcome.TheVariants.{Taken, Refused}
 use Rattle.refusals.proofs.Numbers.{number-positive}
 use Rattle.refusals.proofs.Outcomes.{outcome_parts}
 use Rattle.dimensions.specs.declared.Dimensions.{Dimensions}
@@ -32,6 +31,6 @@ module _ (n left right public : ℕ) (tables : Tables) (text : List ℕ) where
       subst (λ (d : Dimensions). all_true a (rows_of d tables) ≡ false) (sizes-same n left right public (sym (sizes-alike n left right public) ∙ sized))
       (accepted-none held tables text taken a)
     where
-      go : (o : Outcome) → code_of o ≡ 0 → o ≡ Taken
-      go Taken h = refl
-      go (Refused r) h = absurd (number-positive r h)
+      go : (o : Outcome) → code_of o ≡ 0 → o ≡ Ok tt
+      go (Ok _) h = refl
+      go (Err r) h = absurd (number-positive r h)

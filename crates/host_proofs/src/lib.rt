@@ -9,6 +9,8 @@ ghost use Rattle.tables.specs.Tables.{lent_tables};
 ghost use Rattle.drat.specs.Text.{proof_checks};
 ghost use Rattle.codes.specs.Codes.{host_dimensions};
 
+use tables::Tables;
+
 // Whether a DRAT text proves that no assignment makes all rows of the three tables true: if not, the tables' 1, 2, 4 or 3, then 18, 19 or
 // 20.
 pub fn forkhemit_check_proof(
@@ -25,5 +27,10 @@ pub fn forkhemit_check_proof(
         text.now)) }
 {
     let d = codes::dimensions(n, left_rows, right_rows, public_rows);
-    codes::code(drat::check_proof(d, left, right, public, text))
+    let tables = Tables {
+        left,
+        right,
+        public,
+    };
+    codes::code(drat::check_proof(d, tables, text))
 }

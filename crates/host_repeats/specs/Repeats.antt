@@ -4,8 +4,7 @@ use Rattle.words.specs.Booleans.{digit}
 use Rattle.refusals.specs.Checks.{given}
 use Rattle.dimensions.specs.declared.Dimensions.{Dimensions}
 use Rattle.tables.specs.Tables.{Tables}
-use Rattle.repeats.specs.declared.Repeated.{Repeated}
-use Rattle.repeats.specs.Repeating.{repeated}
+use Rattle.repeats.specs.Repeating.{Repeated, repeated}
 use Rattle.stored.specs.Words.{run_in}
 use Rattle.lent.specs.Lent.{stored_if}
 

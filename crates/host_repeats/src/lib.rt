@@ -11,7 +11,7 @@ ghost use Rattle.refusals.specs.Numbers.{code_of};
 ghost use Rattle.tables.specs.Tables.{lent_tables};
 ghost use Rattle.host_repeats.specs.Repeats.{repeat_in, repeat_stored, repeat_numbers};
 
-use refusals::Outcome;
+use tables::Tables;
 
 // Repeats the circuit, which it writes over the front of the gate words, on the run until that is closed, at most so many times. The bytes
 // then hold the last repeat's inputs, the wires its wires, and the numbers are how many repeats there were and the last mark; 1, 2, 4, 3,
@@ -47,16 +47,18 @@ pub fn forkhemit_repeat(
         repeated.old }
 {
     let d = codes::dimensions(n, left_rows, right_rows, public_rows);
-    let start = stored::load(*run);
-    let done = repeats::repeat(d, left, right, public, times, gates, bytes, wires, start);
-    let outcome = done.outcome;
-    let last = done.run;
-    match outcome {
-        Outcome::Taken => {}
-        Outcome::Refused(refusal) => return refusals::number(refusal),
+    let tables = Tables {
+        left,
+        right,
+        public,
+    };
+    let mut last = stored::load(*run);
+    match repeats::repeat(d, tables, times, gates, bytes, wires, &mut last) {
+        Ok(ending) => {
+            *run = stored::words(last);
+            *repeated = [ending.repeats, ending.mark as u64];
+            0
+        }
+        Err(refusal) => u8::from(refusal),
     }
-    let mark = done.mark as u64;
-    *run = stored::words(last);
-    *repeated = [done.repeats, mark];
-    0
 }

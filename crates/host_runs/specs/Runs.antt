@@ -2,8 +2,7 @@
 use Rattle.std.specs.Prelude.{ℕ, List}
 use Rattle.dimensions.specs.declared.Dimensions.{Dimensions}
 use Rattle.tables.specs.Tables.{Tables}
-use Rattle.solver.specs.declared.Stepped.{Stepped}
-use Rattle.solver.specs.Entries.{stepped}
+use Rattle.solver.specs.Entries.{Stepped, stepped}
 use Rattle.stored.specs.Words.{run_in}
 use Rattle.lent.specs.Lent.{stored_if}
 

@@ -19,8 +19,7 @@ ghost use Rattle.host_runs.specs.Runs.{step_in, step_stored};
 ghost use Rattle.host_runs.specs.Rows.{judged_row, judged_numbers};
 
 use state::Run;
-use tables::Look;
-use verdicts::Modelled;
+use tables::Tables;
 use words::Row;
 
 // Whether three tables are accepted: 1, 2, 4 or 3 if not.
@@ -37,16 +36,21 @@ pub fn forkhemit_accept(
         (lent_tables left right public))) }
 {
     let d = codes::dimensions(n, left_rows, right_rows, public_rows);
-    codes::code(tables::accept(d, left, right, public))
+    let tables = Tables {
+        left,
+        right,
+        public,
+    };
+    codes::code(tables::accept(d, tables))
 }
 
 // The variable to look at as a number: from 1, or 0 where there is none.
-fn look_number(look: Look) -> u64
+fn look_number(look: Option<u8>) -> u64
     ensures { result ≡ look_number look }
 {
     match look {
-        Look::Variable(variable) => variable as u64 + 1,
-        Look::None => 0,
+        Some(variable) => variable as u64 + 1,
+        None => 0,
     }
 }
 
@@ -87,8 +91,13 @@ pub fn forkhemit_count_free(
         (run_in run.now) counts.old }
 {
     let d = codes::dimensions(n, left_rows, right_rows, public_rows);
+    let tables = Tables {
+        left,
+        right,
+        public,
+    };
     let run = stored::load(*run);
-    codes::code(free_counts::count_free(d, left, right, public, run, counts))
+    codes::code(free_counts::count_free(d, tables, run, counts))
 }
 
 // The fresh run of n variables; 1 where it is refused, and then no word changes.
@@ -119,9 +128,13 @@ pub fn forkhemit_step(
         run.old) run.old }
 {
     let d = codes::dimensions(n, left_rows, right_rows, public_rows);
-    let stepped = solver::step_lent(d, left, right, public, stored::load(*run));
-    let outcome = stepped.outcome;
-    let next = stepped.run;
+    let tables = Tables {
+        left,
+        right,
+        public,
+    };
+    let mut next = stored::load(*run);
+    let outcome = solver::step(d, tables, &mut next);
     lent::store_if(outcome, next, run);
     codes::code(outcome)
 }
@@ -132,10 +145,10 @@ pub fn forkhemit_model(run: &[u32; 101], model: &mut [u64; 1]) -> u8
     ensures model_after { model.new ≡ numbers_or (model_numbers (model_of (run_in run.now))) model.old }
 {
     match verdicts::model(stored::load(*run)) {
-        Modelled::Model(word) => {
+        Ok(word) => {
             *model = [word as u64];
             return 0;
         }
-        Modelled::Refused(refusal) => return refusals::number(refusal),
+        Err(refusal) => return u8::from(refusal),
     }
 }

@@ -9,15 +9,17 @@ ghost use Rattle.solver.specs.Entries.{solved, solved_code, solved_numbers};
 ghost use Rattle.codes.specs.Codes.{host_dimensions};
 ghost use Rattle.lent.specs.Lent.{numbers_or};
 
-use solver::Solved;
+use refusals::Refusal;
+use solver::Answer;
+use tables::Tables;
 
 // Writes the answer's count, verdict and model, and gives 0; the refusal's number where there is no answer.
-pub fn give(res: Solved, answer: &mut [u64; 3]) -> u8
+pub fn give(res: Result<Answer, Refusal>, answer: &mut [u64; 3]) -> u8
     ensures value { result ≡ solved_code res }
     ensures answer_after { answer.new ≡ numbers_or (solved_numbers res) answer.old }
 {
     match res {
-        Solved::Of(given) => {
+        Ok(given) => {
             let verdict = given.verdict;
             *answer = [
                 given.count,
@@ -26,7 +28,7 @@ pub fn give(res: Solved, answer: &mut [u64; 3]) -> u8
             ];
             return 0;
         }
-        Solved::Refused(refusal) => return refusals::number(refusal),
+        Err(refusal) => return u8::from(refusal),
     }
 }
 
@@ -48,7 +50,12 @@ pub fn forkhemit_solve(
         (lent_tables left right public) budget)) answer.old }
 {
     let d = codes::dimensions(n, left_rows, right_rows, public_rows);
-    give(solver::solve(d, left, right, public, budget), answer)
+    let tables = Tables {
+        left,
+        right,
+        public,
+    };
+    give(solver::solve(d, tables, budget), answer)
 }
 
 // The answer of a fresh run under a budget by the indexed run: count, verdict, model; 1, 2, 4 or 3 where it is refused.
@@ -69,8 +76,10 @@ pub fn forkhemit_solve_indexed(
         (lent_tables left right public) budget)) answer.old }
 {
     let d = codes::dimensions(n, left_rows, right_rows, public_rows);
-    give(
-        indexed::solve_indexed(d, left, right, public, budget),
-        answer,
-    )
+    let tables = Tables {
+        left,
+        right,
+        public,
+    };
+    give(indexed::solve_indexed(d, tables, budget), answer)
 }

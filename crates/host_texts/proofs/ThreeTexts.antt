@@ -3,31 +3,31 @@ use mathlib.Core.Path.{◌≡◌}
 use mathlib.Core.Bool.{true, false, not, ◌||◌}
 use Prim.Native.Nat.{ℕ}
 use lib.Dec.{eqb}
+use Rattle.std.specs.Prelude.{Ok, Err}
 use Rattle.refusals.specs.declared.Refusal.{Refusal}
 use Rattle.refusals.specs.declared.Refusal.TheVariants.{RowBuffer, TextsDiffer}
-use Rattle.refusals.specs.declared.Outcome.TheVariants.{Taken, Refused}
 use Rattle.host_texts.specs.Texts.{Texts, has_no_room, lent_outcome}
 
 module _ (t : Texts) (left right public : ℕ) where
-  pub left-refused : (q : Refusal) → t.left.outcome ≡ Refused q → Refused q ≡ lent_outcome t left right public
+  pub left-refused : (q : Refusal) → t.left.outcome ≡ Err q → Err q ≡ lent_outcome t left right public
   left-refused q e = rw e
 
-  module _ (left-taken : t.left.outcome ≡ Taken) where
-    pub right_refused : (q : Refusal) → t.right.outcome ≡ Refused q → Refused q ≡ lent_outcome t left right public
+  module _ (left-taken : t.left.outcome ≡ Ok tt) where
+    pub right_refused : (q : Refusal) → t.right.outcome ≡ Err q → Err q ≡ lent_outcome t left right public
     right_refused q e = rw (left-taken, e)
 
-    module _ (right_taken : t.right.outcome ≡ Taken) where
-      pub public_refused : (q : Refusal) → t.public.outcome ≡ Refused q → Refused q ≡ lent_outcome t left right public
+    module _ (right_taken : t.right.outcome ≡ Ok tt) where
+      pub public_refused : (q : Refusal) → t.public.outcome ≡ Err q → Err q ≡ lent_outcome t left right public
       public_refused q e = rw (left-taken, right_taken, e)
 
-      module _ (public_taken : t.public.outcome ≡ Taken) where
-        pub no_room : has_no_room t left right public ≡ true → Refused RowBuffer ≡ lent_outcome t left right public
+      module _ (public_taken : t.public.outcome ≡ Ok tt) where
+        pub no_room : has_no_room t left right public ≡ true → Err RowBuffer ≡ lent_outcome t left right public
         no_room h = rw (left-taken, right_taken, public_taken, h)
 
         module _ (room : has_no_room t left right public ≡ false) where
           pub differ : not (eqb t.left.n t.right.n) || not (eqb t.left.n t.public.n) ≡ true
-              → Refused TextsDiffer ≡ lent_outcome t left right public
+              → Err TextsDiffer ≡ lent_outcome t left right public
           differ h = rw (left-taken, right_taken, public_taken, room, h)
 
-          pub agree : not (eqb t.left.n t.right.n) || not (eqb t.left.n t.public.n) ≡ false → Taken ≡ lent_outcome t left right public
+          pub agree : not (eqb t.left.n t.right.n) || not (eqb t.left.n t.public.n) ≡ false → Ok tt ≡ lent_outcome t left right public
           agree h = rw (left-taken, right_taken, public_taken, room, h)

@@ -5,12 +5,13 @@
 ghost use Rattle.std.specs.Prelude.{◌≡◌};
 ghost use Rattle.tables.specs.Tables.{all_tables};
 ghost use Rattle.refusals.specs.Numbers.{code_of};
+ghost use Rattle.dimacs.specs.Text.{as_read};
 ghost use Rattle.host_texts.specs.Texts.{all_texts, texts_of, lent_outcome, read_outcome, tables_read, sizes_read};
 
 use dimacs::Table;
-use refusals::{Outcome, Refusal};
+use refusals::Refusal;
 
-// What three texts are refused with, left before right before public; then 4 where their rows have no room in the lent words; then 6.
+// What three texts that were read are refused with: 4 where their rows have no room in the lent words; then 6.
 fn check_texts(
     left: Table,
     right: Table,
@@ -18,34 +19,19 @@ fn check_texts(
     left_words: usize,
     right_words: usize,
     public_words: usize,
-) -> Outcome
-    ensures { result ≡ lent_outcome (all_texts left right public) left_words right_words public_words }
+) -> Result<(), Refusal>
+    ensures { result ≡ lent_outcome (all_texts (as_read left) (as_read right) (as_read public)) left_words right_words public_words }
 {
-    let left_outcome = left.outcome;
-    match left_outcome {
-        Outcome::Taken => {}
-        Outcome::Refused(refusal) => return Outcome::Refused(refusal),
-    }
-    let right_outcome = right.outcome;
-    match right_outcome {
-        Outcome::Taken => {}
-        Outcome::Refused(refusal) => return Outcome::Refused(refusal),
-    }
-    let public_outcome = public.outcome;
-    match public_outcome {
-        Outcome::Taken => {}
-        Outcome::Refused(refusal) => return Outcome::Refused(refusal),
-    }
     if (left_words < 2 * (left.rows as usize))
         | (right_words < 2 * (right.rows as usize))
         | (public_words < 2 * (public.rows as usize))
     {
-        return Outcome::Refused(Refusal::RowBuffer);
+        return Err(Refusal::RowBuffer);
     }
     if (left.n != right.n) | (left.n != public.n) {
-        return Outcome::Refused(Refusal::TextsDiffer);
+        return Err(Refusal::TextsDiffer);
     }
-    Outcome::Taken
+    Ok(())
 }
 
 // Reads three texts into tables, with n and the row counts; the left text's 1, 2 or 5, the right text's, the public one's, then 4 or 6
@@ -70,12 +56,20 @@ pub fn forkhemit_read_tables(
     ensures sizes_after { sizes.new ≡ sizes_read (texts_of left_text.now right_text.now public_text.now)
         (all_tables left.old right.old public.old) sizes.old }
 {
-    let l = dimacs::read(left_text, 1);
-    let r = dimacs::read(right_text, 1);
-    let p = dimacs::read(public_text, 0);
-    match check_texts(l, r, p, left.len(), right.len(), public.len()) {
-        Outcome::Taken => {}
-        Outcome::Refused(refusal) => return refusals::number(refusal),
+    let l = match dimacs::read(left_text, 1) {
+        Ok(table) => table,
+        Err(refusal) => return u8::from(refusal),
+    };
+    let r = match dimacs::read(right_text, 1) {
+        Ok(table) => table,
+        Err(refusal) => return u8::from(refusal),
+    };
+    let p = match dimacs::read(public_text, 0) {
+        Ok(table) => table,
+        Err(refusal) => return u8::from(refusal),
+    };
+    if let Err(refusal) = check_texts(l, r, p, left.len(), right.len(), public.len()) {
+        return u8::from(refusal);
     }
     let left_words = l.words;
     let right_words = r.words;

@@ -15,6 +15,8 @@ ghost use Rattle.stored.specs.Words.{run_in};
 ghost use Rattle.lent.specs.Lent.{numbers_or, stored_if};
 ghost use Rattle.host_runs.specs.Runs.{step_stored};
 
+use tables::Tables;
+
 // One step of the run in the lent words with the weighted choice; 1, 2, 4, 3, 12 or 13 where it is refused, and then no word changes.
 pub fn forkhemit_step_weighted(
     n: u64,
@@ -33,9 +35,13 @@ pub fn forkhemit_step_weighted(
         (lent_tables left right public) (run_in run.old)) run.old }
 {
     let d = codes::dimensions(n, left_rows, right_rows, public_rows);
-    let stepped = weighted::step_weighted(d, left, right, public, stored::load(*run));
-    let outcome = stepped.outcome;
-    let next = stepped.run;
+    let tables = Tables {
+        left,
+        right,
+        public,
+    };
+    let mut next = stored::load(*run);
+    let outcome = weighted::step_weighted(d, tables, &mut next);
     lent::store_if(outcome, next, run);
     codes::code(outcome)
 }
@@ -60,10 +66,12 @@ pub fn forkhemit_solve_weighted(
         (lent_tables left right public) budget)) answer.old }
 {
     let d = codes::dimensions(n, left_rows, right_rows, public_rows);
-    host_solve::give(
-        weighted::solve_weighted(d, left, right, public, budget),
-        answer,
-    )
+    let tables = Tables {
+        left,
+        right,
+        public,
+    };
+    host_solve::give(weighted::solve_weighted(d, tables, budget), answer)
 }
 
 // Weighted steps of the run in the lent words through the one that closes it, at most a given number; the numbers are how many they were,
@@ -91,10 +99,12 @@ pub fn forkhemit_continue_weighted(
         continued.old }
 {
     let d = codes::dimensions(n, left_rows, right_rows, public_rows);
-    let start = stored::load(*run);
-    host_indexed::give_continued(
-        weighted::continue_weighted(d, left, right, public, times, start),
-        run,
-        continued,
-    )
+    let tables = Tables {
+        left,
+        right,
+        public,
+    };
+    let mut held = stored::load(*run);
+    let done = weighted::continue_weighted(d, tables, times, &mut held);
+    host_indexed::give_continued(done, held, run, continued)
 }

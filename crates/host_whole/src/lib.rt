@@ -10,6 +10,8 @@ ghost use Rattle.whole_budget.specs.WholeBudget.{solved_whole, gates_after_whole
 ghost use Rattle.codes.specs.Codes.{host_dimensions};
 ghost use Rattle.lent.specs.Lent.{numbers_or};
 
+use tables::Tables;
+
 // The answer of a fresh run by the circuit, which is written over the front of the gate words and applied as many times as the budget says,
 // closed or not: the budget, verdict, model. The bytes and the wires that it used are zeros then, so that no closing wire and no row is
 // left; 1, 2, 4, 3, 7, 23 or 10 where it is refused, and then nothing is written.
@@ -40,8 +42,13 @@ pub fn forkhemit_solve_whole(
         (lent_tables left right public) budget gates.old bytes.old wires.old)) answer.old }
 {
     let d = codes::dimensions(n, left_rows, right_rows, public_rows);
+    let tables = Tables {
+        left,
+        right,
+        public,
+    };
     host_solve::give(
-        whole_budget::solve_whole(d, left, right, public, budget, gates, bytes, wires),
+        whole_budget::solve_whole(d, tables, budget, gates, bytes, wires),
         answer,
     )
 }

@@ -5,9 +5,9 @@ use mathlib.Core.List.{List}
 use Prim.Native.Nat.{ℕ, ◌^◌, ◌<◌}
 use lib.Dec.{eqb}
 use borrow.Author.Tests.{eq-eqb, ne_eqb, eqb-true, not-false}
+use Rattle.std.specs.Prelude.{Ok, Err}
+use Rattle.refusals.specs.Numbers.{Outcome}
 use Rattle.refusals.specs.Checks.{outcome}
-use Rattle.refusals.specs.declared.Outcome.{Outcome}
-use Rattle.refusals.specs.declared.Outcome.TheVariants.{Taken, Refused}
 use Rattle.refusals.specs.declared.Refusal.TheVariants.{OtherVariables}
 use Rattle.refusals.specs.declared.Refusal.TheVariants as refusal
 use Rattle.refusals.proofs.Outcomes.{check_passed, checks-taken}
@@ -22,33 +22,32 @@ use Rattle.solver.specs.Step.{step}
 use Rattle.tally.specs.declared.Tally.{Tally}
 use Rattle.tally.specs.Tallies.{tally_of}
 use Rattle.tally.specs.RowsSeen.{surveyed}
-use Rattle.indexed.specs.declared.SteppedIndexed.{SteppedIndexed}
 use Rattle.indexed.specs.declared.tallied.TalliedRun.{TalliedRun}
 use Rattle.indexed.specs.Tallied.{Indexed, Exact, tallied_of, kept_checks, stepped_over}
-use Rattle.indexed.specs.Entries.{indexed_checks}
+use Rattle.indexed.specs.Entries.{SteppedIndexed, indexed_checks}
 use Rattle.indexed.proofs.Numbers.{tally_number}
 use Rattle.indexed.proofs.TallyAfter.{survey_exact}
 use Rattle.indexed.proofs.Running.{of_run}
 use Rattle.indexed.proofs.Entries.{over-taken}
 
 module _ (n : ℕ) (run : Run) (exact right : Bool) where
-  pub refuse_formed : well_formed run ≡ false → Refused refusal.State ≡ outcome (kept_checks n run exact right)
+  pub refuse_formed : well_formed run ≡ false → Err refusal.State ≡ outcome (kept_checks n run exact right)
   refuse_formed e = rw e
 
   module _ (formed : well_formed run ≡ true) where
-    pub refuse_exact : exact ≡ false → Refused refusal.State ≡ outcome (kept_checks n run exact right)
+    pub refuse_exact : exact ≡ false → Err refusal.State ≡ outcome (kept_checks n run exact right)
     refuse_exact e = rw (formed, e)
 
     module _ (sets : exact ≡ true) where
-      pub refuse_right : right ≡ false → Refused refusal.State ≡ outcome (kept_checks n run exact right)
+      pub refuse_right : right ≡ false → Err refusal.State ≡ outcome (kept_checks n run exact right)
       refuse_right e = rw (formed, sets, e)
 
       module _ (number : right ≡ true) where
-        pub refuse_other : (run.n ≡ n → ⊥) → Refused OtherVariables ≡ outcome (kept_checks n run exact right)
+        pub refuse_other : (run.n ≡ n → ⊥) → Err OtherVariables ≡ outcome (kept_checks n run exact right)
         refuse_other h = rw (formed, sets, number, ne_eqb run.n n h)
 
         -- the run's own n: the call is taken
-        pub take-kept : run.n ≡ n → Taken ≡ outcome (kept_checks n run exact right)
+        pub take-kept : run.n ≡ n → Ok tt ≡ outcome (kept_checks n run exact right)
         take-kept h = rw (formed, sets, number, eq-eqb run.n n h)
 
   -- what passes is a well-formed run of n, an exact index and the right number
@@ -59,7 +58,7 @@ module _ (n : ℕ) (run : Run) (exact right : Bool) where
     pub same-n : run.n ≡ n
 
   -- where none of the checks refuses, the run is well-formed and of n variables, the index is exact and the number right
-  pub kept : outcome (kept_checks n run exact right) ≡ Taken → Kept
+  pub kept : outcome (kept_checks n run exact right) ≡ Ok tt → Kept
   kept e =
       let e₁ = checks-taken (not (well_formed run)) refusal.State _ e in
       let e₂ = checks-taken (not exact) refusal.State _ e₁ in
@@ -86,7 +85,7 @@ module _ (n : ℕ) (words : List ℕ) (m : ℕ) (sets : List ℕ) (x : Indexed n
       q ∙ ap₂ (λ (b : Bool) (k : ℕ). outcome (kept_checks n run b (eqb number k))) (ap (λ (l : List ℕ). same index l) x.indexed)
       (ap (λ (y : Tally). y.number) tally_exact ∙ tally_number n x.most run.t run.f rows x.low)
 
-  module _ (taken : o ≡ Taken) where
+  module _ (taken : o ≡ Ok tt) where
     passed : Kept n run (same index sets) (eqb number tally.number)
     passed = kept n run (same index sets) (eqb number tally.number) (sym q ∙ taken)
 

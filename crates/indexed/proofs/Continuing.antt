@@ -1,14 +1,13 @@
 -- What continuing a run gives: it computes from the outcome of its checks.
-use mathlib.Core.Path.{◌≡◌, refl, sym, ap, ap₂, ◌∙◌}
+use mathlib.Core.Path.{◌≡◌, refl, ap, ◌∙◌, subst⁻¹}
 use mathlib.Core.Bool.{Bool, true, false}
 use mathlib.Core.List.{List, [], ◌∷◌, ◌++◌}
 use Prim.Native.Nat.{ℕ, ◌≤◌}
+use Rattle.std.specs.Prelude.{Result, Ok, Err}
 use Rattle.refusals.specs.Checks.{outcome, given}
-use Rattle.refusals.specs.Numbers.{said}
-use Rattle.refusals.specs.declared.Outcome.{Outcome}
-use Rattle.refusals.specs.declared.Outcome.TheVariants.{Taken, Refused}
+use Rattle.refusals.specs.Numbers.{Outcome, code_of, said}
 use Rattle.refusals.specs.declared.Refusal.{Refusal}
-use Rattle.refusals.proofs.Outcomes.{given-said}
+use Rattle.words.specs.Booleans.{digit}
 use Rattle.words.specs.declared.Row.{Row}
 use Rattle.dimensions.specs.declared.Dimensions.{Dimensions}
 use Rattle.tables.specs.Tables.{Tables}
@@ -25,10 +24,11 @@ use Rattle.scan.specs.Rules.{rule}
 use Rattle.solver.specs.Step.{Ruling, always}
 use Rattle.solver.specs.Entries.{Ran, run_with, run_from, answer_of}
 use Rattle.solver.proofs.StepLaws.{fresh-well_formed}
-use Rattle.indexed.specs.declared.Continued.{Continued}
+use Rattle.indexed.specs.declared.StepsTaken.{StepsTaken}
 use Rattle.indexed.specs.declared.tallied.Reached.{Reached}
 use Rattle.indexed.specs.Tallied.{reached_by}
-use Rattle.indexed.specs.Continuing.{continued_by, not_continued, continued_with, continued, continued_code, continued_numbers, ran_numbers}
+use Rattle.indexed.specs.Continuing.{Continued, continued_by, not_continued, continued_with, continued, ran_numbers, steps_taken}
+use Rattle.indexed.specs.Continuing.{continued_numbers, taken_outcome, taken_numbers}
 
 -- ---- the fresh run
 
@@ -50,8 +50,31 @@ fresh-answer n rows budget run e r q v w =
 
 -- ---- any run, by any ruling
 
-abbrev says : Continued → List ℕ
-says c = continued_code c ∷ continued_numbers c
+-- what a call says: its number, then its values
+abbrev pub says : Result StepsTaken Refusal → List ℕ
+says r = code_of (taken_outcome r) ∷ taken_numbers r
+
+-- outcome, run and numbers of what a call returned and left
+module _ (c : Continued) where
+  outcome_told : taken_outcome (steps_taken c) ≡ c.outcome
+  outcome_told = go c.outcome
+    where
+      go : (o : Outcome) → taken_outcome (given o (Ok (record { steps = c.steps; closed = c.closed })) Err) ≡ o
+      go (Ok _) = refl
+      go (Err r) = refl
+
+  numbers_told : taken_numbers (steps_taken c) ≡ continued_numbers c
+  numbers_told = go c.outcome
+    where
+      go : (o : Outcome) → taken_numbers (given o (Ok (record { steps = c.steps; closed = c.closed })) Err)
+          ≡ given o (c.steps ∷ (digit c.closed ∷ [])) (λ r. [])
+      go (Ok _) = refl
+      go (Err r) = refl
+
+  -- all three at once
+  pub told : (r : Result StepsTaken Refusal) → r ≡ steps_taken c → (last : Run) → last ≡ c.run
+      → (taken_outcome r ≡ c.outcome) × (last ≡ c.run) × (taken_numbers r ≡ continued_numbers c)
+  told r e last h = (ap taken_outcome e ∙ outcome_told, h, ap taken_numbers e ∙ numbers_told)
 
 module _ (ruling : Ruling) (d : Dimensions) (tables : Tables) (times : ℕ) (run : Run) where
   abbrev checked : Outcome
@@ -60,28 +83,31 @@ module _ (ruling : Ruling) (d : Dimensions) (tables : Tables) (times : ℕ) (run
   abbrev ran : Ran
   ran = run_with ruling d.n (always (rows_of d tables)) times (state_of run)
 
-  -- what is given says its number and its values
-  with-said : (c : Continued) → c ≡ given checked (continued_by d.n ran) (not_continued run)
-      → (c ≡ continued_with ruling d tables times run) × (says c ≡ said checked (ran_numbers ran))
+  -- what a call in place hands back: its result, and the run that it leaves
+  abbrev pub Hands : Result StepsTaken Refusal → Run → Type 0
+  Hands r next =
+      (r ≡ steps_taken (continued_with ruling d tables times run)) × (next ≡ (continued_with ruling d tables times run).run)
+      × (says r ≡ said checked (ran_numbers ran))
+
+  -- by an outcome of the checks
+  by-checks : (o : Outcome) → o ≡ checked → let c = given o (continued_by d.n ran) (not_continued run) in Hands (steps_taken c) c.run
   unfolding continued_with
-  with-said c e = (e, ap says e ∙ given-said says checked (continued_by d.n ran) (not_continued run) _ refl (λ q. refl))
+  by-checks o e =
+      let is : given o (continued_by d.n ran) (not_continued run) ≡ continued_with ruling d tables times run =
+      ap (λ (x : Outcome). given x (continued_by d.n ran) (not_continued run)) e in
+      (ap steps_taken is, ap (λ (c : Continued). c.run) is, says-by o ∙ ap (λ (x : Outcome). said x (ran_numbers ran)) e)
+    where
+      says-by : (x : Outcome) → says (steps_taken (given x (continued_by d.n ran) (not_continued run))) ≡ said x (ran_numbers ran)
+      says-by (Ok _) = refl
+      says-by (Err q) = refl
 
-  -- a given outcome leads to what the checks lead to
-  by-checks : (o : Outcome) → o ≡ checked → given o (continued_by d.n ran) (not_continued run) ≡ given checked (continued_by d.n ran) (not_continued run)
-  by-checks o e = ap (λ (x : Outcome). given x (continued_by d.n ran) (not_continued run)) e
+  -- where the checks take the call, what the steps reach is given
+  pub continue-taken-with : Ok tt ≡ checked → let c = continued_by d.n ran in Hands (steps_taken c) c.run
+  continue-taken-with = by-checks (Ok tt)
 
-  module _ (o : Outcome) (e : o ≡ checked) where
-    -- where the checks take the call, what the steps reach is given
-    pub continue-taken-with : o ≡ Taken → (c : Continued) → c ≡ continued_by d.n ran
-        → (c ≡ continued_with ruling d tables times run) × (says c ≡ said checked (ran_numbers ran))
-    continue-taken-with t c q = with-said c (q ∙ by-checks Taken (sym t ∙ e))
-
-    -- where they refuse it, the run as it was, with no step
-    pub continue-refused-with : (q : Refusal) → o ≡ Refused q
-        → let c : Continued = record { outcome = o; run = run; steps = 0; closed = false } in
-        (c ≡ continued_with ruling d tables times run) × (says c ≡ said checked (ran_numbers ran))
-    continue-refused-with q t =
-        with-said _ (ap (λ (x : Outcome). record { outcome = x; run = run; steps = 0; closed = false }) t ∙ by-checks (Refused q) (sym t ∙ e))
+  -- where they refuse it, the run as it was
+  pub continue-refused-with : (q : Refusal) → Err q ≡ checked → Hands (Err q) run
+  continue-refused-with q = by-checks (Err q)
 
 -- ---- by giant steps
 
@@ -92,19 +118,18 @@ module _ (d : Dimensions) (tables : Tables) (times : ℕ) (run : Run) where
   abbrev reached : Ran
   reached = run_from d.n (always (rows_of d tables)) times (state_of run)
 
-  module _ (o : Outcome) (e : o ≡ asked) where
-    -- the run that the steps reach, and whether it is closed
-    pub continue-taken : o ≡ Taken → (r : Reached) → r ≡ reached_by d.n reached → (b : Bool) → b ≡ if_open r.run.standing false true
-        → let c : Continued = record { outcome = o; run = r.run; steps = r.steps; closed = b } in
-        (c ≡ continued d tables times run) × (says c ≡ said asked (ran_numbers reached))
-    unfolding run_of continued
-    continue-taken t r q b h =
-        continue-taken-with rule d tables times run o e t _
-        (ap₂ (λ (x : Outcome) (y : Bool). record { outcome = x; run = r.run; steps = r.steps; closed = y }) t h
-        ∙ ap (λ (x : Reached). record { outcome = Taken; run = x.run; steps = x.steps; closed = if_open x.run.standing false true }) q)
+  abbrev HandsOn : Result StepsTaken Refusal → Run → Type 0
+  HandsOn r next = (r ≡ steps_taken (continued d tables times run)) × (next ≡ (continued d tables times run).run) × (says r ≡ said asked (ran_numbers reached))
 
-    pub continue-refused : (q : Refusal) → o ≡ Refused q
-        → let c : Continued = record { outcome = o; run = run; steps = 0; closed = false } in
-        (c ≡ continued d tables times run) × (says c ≡ said asked (ran_numbers reached))
-    unfolding continued
-    continue-refused = continue-refused-with rule d tables times run o e
+  -- the run that the steps reach, how many they are and whether it is closed
+  pub continue-taken : Ok tt ≡ asked → (r : Reached) → r ≡ reached_by d.n reached → (b : Bool) → b ≡ if_open r.run.standing false true
+      → HandsOn (Ok (record { steps = r.steps; closed = b })) r.run
+  unfolding run_of continued
+  continue-taken e r q b h =
+      subst⁻¹ (λ (y : Bool). HandsOn (Ok (record { steps = r.steps; closed = y })) r.run) h
+      (subst⁻¹ (λ (x : Reached). HandsOn (Ok (record { steps = x.steps; closed = if_open x.run.standing false true })) x.run) q
+      (continue-taken-with rule d tables times run e))
+
+  pub continue-refused : (q : Refusal) → Err q ≡ asked → HandsOn (Err q) run
+  unfolding continued
+  continue-refused = continue-refused-with rule d tables times run

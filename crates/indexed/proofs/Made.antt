@@ -3,8 +3,8 @@ use mathlib.Core.Path.{◌≡◌, sym, ap, ap₂, ◌∙◌}
 use mathlib.Core.List.{List}
 use Prim.Native.Nat.{ℕ, min, ◌^◌, ◌<◌}
 use native.Mathlib.Omega.{arith}
+use Rattle.std.specs.Prelude.{Ok}
 use Rattle.refusals.specs.Checks.{outcome}
-use Rattle.refusals.specs.declared.Outcome.TheVariants.{Taken}
 use Rattle.words.specs.declared.Row.{Row}
 use Rattle.dimensions.specs.declared.Dimensions.{Dimensions}
 use Rattle.dimensions.specs.Sizes.{row_count}
@@ -26,7 +26,7 @@ use Rattle.indexed.proofs.TallyAfter.{survey_exact}
 
 module _ (d : Dimensions) (tables : Tables) where
   -- as code makes them
-  pub gathered-made : outcome (table_checks d tables) ≡ Taken → (words : List ℕ) → words ≡ gathered d tables → (m : ℕ) → m ≡ row_count d
+  pub gathered-made : outcome (table_checks d tables) ≡ Ok tt → (words : List ℕ) → words ≡ gathered d tables → (m : ℕ) → m ≡ row_count d
       → (index : List ℕ) → index ≡ index_of (rows_from words 0 (min m 384))
       → (rows_from words 0 (row_count d) ≡ rows_of d tables) × (index ≡ index_of (rows_of d tables))
   gathered-made ok words e m many index q = (
@@ -40,7 +40,7 @@ module _ (d : Dimensions) (tables : Tables) where
     made-rows = ap (λ (k : ℕ). rows_from words 0 k) many ∙ rows_are
 
     -- the gathered words and their index are what a run with an index asks for
-    pub made : outcome (table_checks d tables) ≡ Taken → (index : List ℕ) → index ≡ index_of (rows_of d tables) → Indexed d.n words m index
+    pub made : outcome (table_checks d tables) ≡ Ok tt → (index : List ℕ) → index ≡ index_of (rows_of d tables) → Indexed d.n words m index
     made ok index q =
         let a = (accepted d tables ok).size in
         record {
@@ -52,7 +52,7 @@ module _ (d : Dimensions) (tables : Tables) where
         }
 
     -- the number that a survey gives
-    pub counted_is : (ok : outcome (table_checks d tables) ≡ Taken) (index : List ℕ) → index ≡ index_of (rows_of d tables) → (t f : ℕ) → t < 2 ^ 32 → f < 2 ^ 32
+    pub counted_is : (ok : outcome (table_checks d tables) ≡ Ok tt) (index : List ℕ) → index ≡ index_of (rows_of d tables) → (t f : ℕ) → t < 2 ^ 32 → f < 2 ^ 32
         → (tally : Tally) → tally ≡ surveyed words index m t f → tally.number ≡ unsatisfied_rows d.n (rows_of d tables) t f
     counted_is ok index q t f ht hf tally e =
         let x = made ok index q in

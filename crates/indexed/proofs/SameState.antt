@@ -5,9 +5,9 @@ use mathlib.Core.List.{List, ◌++◌}
 use Prim.Native.Nat.{ℕ}
 use lib.Dec.{eqb}
 use borrow.Author.Tests.{eq-eqb}
+use Rattle.std.specs.Prelude.{Ok, Err}
+use Rattle.refusals.specs.Numbers.{Outcome}
 use Rattle.refusals.specs.Checks.{outcome}
-use Rattle.refusals.specs.declared.Outcome.{Outcome}
-use Rattle.refusals.specs.declared.Outcome.TheVariants.{Taken, Refused}
 use Rattle.refusals.proofs.Outcomes.{refused-taken, outcome-taken, outcome_parts}
 use Rattle.words.specs.declared.Row.{Row}
 use Rattle.words.specs.Sameness.{same}
@@ -20,14 +20,12 @@ use Rattle.state.specs.State.{state_of, run_of}
 use Rattle.state.specs.WellFormed.{well_formed, state_checks}
 use Rattle.state.proofs.Checks.{take-state}
 use Rattle.solver.specs.Step.{step}
-use Rattle.solver.specs.Entries.{stepped}
-use Rattle.solver.specs.declared.Stepped.{Stepped}
+use Rattle.solver.specs.Entries.{Stepped, stepped}
 use Rattle.solver.proofs.Entries.{step-taken}
 use Rattle.solver.proofs.HeldStep.{step_formed_run}
 use Rattle.occurrences.specs.Index.{index_of}
 use Rattle.tally.specs.Tallies.{unsatisfied_rows}
-use Rattle.indexed.specs.declared.SteppedIndexed.{SteppedIndexed}
-use Rattle.indexed.specs.Entries.{indexed_checks, number_after, stepped_by, stepped_indexed}
+use Rattle.indexed.specs.Entries.{SteppedIndexed, indexed_checks, number_after, stepped_by, stepped_indexed}
 use Rattle.indexed.specs.SameState.{SameState}
 use Rattle.indexed.proofs.Checks.{Kept, kept, take-kept}
 
@@ -41,31 +39,31 @@ module _ (d : Dimensions) (tables : Tables) (index : List ℕ) (run : Run) (numb
   abbrev next : SteppedIndexed
   next = stepped_indexed d tables index run number
 
-  checks_pass : (o : Outcome) → (stepped_by o d.n rows run number).outcome ≡ Taken → o ≡ Taken
-  checks_pass Taken e = refl
-  checks_pass (Refused r) e = absurd (refused-taken e)
+  checks_pass : (o : Outcome) → (stepped_by o d.n rows run number).outcome ≡ Ok tt → o ≡ Ok tt
+  checks_pass (Ok _) e = refl
+  checks_pass (Err r) e = absurd (refused-taken e)
 
-  module _ (taken : next.outcome ≡ Taken) where
-    all : outcome (table_checks d tables ++ indexed_checks d.n rows index run number) ≡ Taken
+  module _ (taken : next.outcome ≡ Ok tt) where
+    all : outcome (table_checks d tables ++ indexed_checks d.n rows index run number) ≡ Ok tt
     unfolding stepped_indexed
     all = checks_pass (outcome (table_checks d tables ++ indexed_checks d.n rows index run number)) taken
 
-    accepts : outcome (table_checks d tables) ≡ Taken
+    accepts : outcome (table_checks d tables) ≡ Ok tt
     accepts = (outcome_parts (table_checks d tables) (indexed_checks d.n rows index run number) all).0
 
     keeps : Kept d.n run exact (eqb number (unsatisfied_rows d.n rows run.t run.f))
     keeps = kept d.n run exact _ (outcome_parts (table_checks d tables) (indexed_checks d.n rows index run number) all).1
 
-    is : next ≡ record { outcome = Taken; run = run_of d.n (step d.n rows (state_of run)); number = number_after d.n rows run }
+    is : next ≡ record { outcome = Ok tt; run = run_of d.n (step d.n rows (state_of run)); number = number_after d.n rows run }
     unfolding stepped_indexed
     is = ap (λ (o : Outcome). stepped_by o d.n rows run number) all
 
     plain : next.run ≡ (stepped d tables run).run
     plain =
-        let e : Taken ≡ outcome (table_checks d tables ++ state_checks d run) =
+        let e : (Ok tt) ≡ outcome (table_checks d tables ++ state_checks d run) =
         take-state d run keeps.formed keeps.same-n ∙ sym (outcome-taken (table_checks d tables) (state_checks d run) accepts) in
         ap (λ (s : SteppedIndexed). s.run) is
-        ∙ ap (λ (s : Stepped). s.run) (step-taken d tables run Taken e refl (run_of d.n (step d.n rows (state_of run))) refl)
+        ∙ ap (λ (s : Stepped). s.run) (step-taken d tables run (Ok tt) e refl (run_of d.n (step d.n rows (state_of run))) refl)
 
     right : next.number ≡ unsatisfied_rows d.n rows next.run.t next.run.f
     unfolding run_of
@@ -78,10 +76,10 @@ module _ (d : Dimensions) (tables : Tables) (index : List ℕ) (run : Run) (numb
     unfolding run_of
     same-n-then = ap (λ (s : SteppedIndexed). s.run.n) is
 
-    again : (stepped_indexed d tables index next.run next.number).outcome ≡ Taken
+    again : (stepped_indexed d tables index next.run next.number).outcome ≡ Ok tt
     unfolding stepped_indexed
     again =
-        let e : outcome (table_checks d tables ++ indexed_checks d.n rows index next.run next.number) ≡ Taken =
+        let e : outcome (table_checks d tables ++ indexed_checks d.n rows index next.run next.number) ≡ Ok tt =
         outcome-taken (table_checks d tables) (indexed_checks d.n rows index next.run next.number) accepts
         ∙ sym (take-kept d.n next.run exact _ formed_then keeps.sets (eq-eqb _ _ right) same-n-then) in
         ap (λ (o : Outcome). (stepped_by o d.n rows next.run next.number).outcome) e

@@ -1,11 +1,9 @@
 -- What each entry of the indexed run gives: document 02, "Which rows does a variable touch".
 -- Ask: Does the run with an index cite the same `step` and `solved`?
-use Rattle.std.specs.Prelude.{ℕ, not, List, [], ◌∷◌, ◌++◌, eqb}
-use Rattle.refusals.specs.Numbers.{number_of, code_of}
+use Rattle.refusals.specs.declared.Refusal.{Refusal}
+use Rattle.std.specs.Prelude.{ℕ, not, List, [], ◌∷◌, ◌++◌, eqb, Result, Ok, Err}
+use Rattle.refusals.specs.Numbers.{Outcome, number_of}
 use Rattle.refusals.specs.Checks.{Check, check, outcome, given}
-use Rattle.refusals.specs.declared.Outcome.{Outcome}
-use Rattle.refusals.specs.declared.Outcome.TheVariants.{Taken}
-use Rattle.refusals.specs.declared.Outcome.TheVariants as outcomes
 use Rattle.refusals.specs.declared.Refusal.TheVariants.{OtherVariables}
 use Rattle.refusals.specs.declared.Refusal.TheVariants as refusal
 use Rattle.words.specs.declared.Row.{Row}
@@ -20,9 +18,6 @@ use Rattle.state.specs.WellFormed.{well_formed, state_checks}
 use Rattle.solver.specs.Step.{step}
 use Rattle.occurrences.specs.Index.{index_of}
 use Rattle.tally.specs.Tallies.{unsatisfied_rows}
-use Rattle.indexed.specs.declared.Counted.{Counted}
-use Rattle.indexed.specs.declared.Counted.TheVariants as counted'
-use Rattle.indexed.specs.declared.SteppedIndexed.{SteppedIndexed}
 
 -- ---- the index
 
@@ -33,22 +28,28 @@ index_after d tables index = given (outcome (table_checks d tables)) (index_of (
 -- ---- the number
 
 -- the rows unsatisfied under the run's T and F, whatever its standing: 1, 2, 4, 3, 12, 13
-unfoldable pub counted : Dimensions → Tables → Run → Counted
+unfoldable pub counted : Dimensions → Tables → Run → Result ℕ Refusal
 counted d tables run =
     given (outcome (table_checks d tables ++ state_checks d run))
-    (counted'.Of (unsatisfied_rows d.n (rows_of d tables) run.t run.f)) counted'.Refused
+    (Ok (unsatisfied_rows d.n (rows_of d tables) run.t run.f)) Err
 
 -- what counting returns: 0, or the refusal's number
-abbrev pub counted_code : Counted → ℕ
-counted_code (counted'.Of number) = 0
-counted_code (counted'.Refused r) = number_of r
+abbrev pub counted_code : Result ℕ Refusal → ℕ
+counted_code (Ok number) = 0
+counted_code (Err r) = number_of r
 
 -- the number of unsatisfied rows
-abbrev pub counted_numbers : Counted → List ℕ
-counted_numbers (counted'.Of number) = number ∷ []
-counted_numbers (counted'.Refused r) = []
+abbrev pub counted_numbers : Result ℕ Refusal → List ℕ
+counted_numbers (Ok number) = number ∷ []
+counted_numbers (Err r) = []
 
 -- ---- the step
+
+-- what the step is met by, the run after it and its number of unsatisfied rows; refused, both as they were
+pub record SteppedIndexed : Type 0 where
+  pub outcome : Outcome
+  pub run : Run
+  pub number : ℕ
 
 -- 12: the run is not well-formed, the index is not exactly the rows' sets, the number is not the run's; then 13
 abbrev pub indexed_checks : ℕ → List Row → List ℕ → Run → ℕ → List Check
@@ -67,18 +68,14 @@ number_after n rows run = let next = step n rows (state_of run) in unsatisfied_r
 abbrev pub stepped_by : Outcome → ℕ → List Row → Run → ℕ → SteppedIndexed
 stepped_by o n rows run number =
     given o
-    (record { outcome = Taken; run = run_of n (step n rows (state_of run)); number = number_after n rows run })
-    (λ r. record { outcome = outcomes.Refused r; run = run; number = number })
+    (record { outcome = Ok tt; run = run_of n (step n rows (state_of run)); number = number_after n rows run })
+    (λ r. record { outcome = Err r; run = run; number = number })
 
 -- the step's entry: 1, 2, 4, 3, 12, 13
 unfoldable pub stepped_indexed : Dimensions → Tables → List ℕ → Run → ℕ → SteppedIndexed
 stepped_indexed d tables index run number =
     let rows = rows_of d tables in
     stepped_by (outcome (table_checks d tables ++ indexed_checks d.n rows index run number)) d.n rows run number
-
--- what the step's entry returns, and the number that it leaves
-abbrev pub stepped_said : SteppedIndexed → List ℕ
-stepped_said s = code_of s.outcome ∷ (s.number ∷ [])
 
 -- 0 and one number, or a refusal's and another
 abbrev pub said_or : Outcome → ℕ → ℕ → List ℕ

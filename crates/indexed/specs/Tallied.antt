@@ -12,10 +12,9 @@ use Rattle.state.specs.WellFormed.{well_formed}
 use Rattle.solver.specs.Entries.{Ran}
 use Rattle.occurrences.specs.Index.{index_of}
 use Rattle.tally.specs.Tallies.{tally_of}
-use Rattle.indexed.specs.declared.SteppedIndexed.{SteppedIndexed}
 use Rattle.indexed.specs.declared.tallied.TalliedRun.{TalliedRun}
 use Rattle.indexed.specs.declared.tallied.Reached.{Reached}
-use Rattle.indexed.specs.Entries.{indexed_checks, stepped_by}
+use Rattle.indexed.specs.Entries.{SteppedIndexed, indexed_checks, stepped_by}
 
 -- m rows of n variables in words, each word below 2 ^ n, and their index
 pub record Indexed (n : ℕ) (words : List ℕ) (m : ℕ) (index : List ℕ) : Type 0 where

@@ -71,6 +71,7 @@ pub(crate) fn run_to_close(
     let tally = tally::survey(words, index, rows, run.t, run.f);
     let mut held = TalliedRun { run, tally };
     let mut steps = 0;
+    // A loop: the run says when it ends.
     while verdicts::goes_on(held.run, steps, times) {
         held = advance(words, rows, index, held);
         steps += 1;

@@ -19,6 +19,7 @@ pub fn read_line<I: Read>(input: &mut I, buf: &mut [u8]) -> usize
     ensures consumed { Consumes (I.remaining input.old) (I.remaining input.new) (take result buf.new) }
 {
     let mut done = 0;
+    // A loop: the input says when it ends.
     while done < buf.len() {
         let mut one = [0u8; 1];
         match input.read(&mut one) {
@@ -58,6 +59,7 @@ fn fill<F: Read + Drop>(file: &mut Option<F>, buf: &mut [u8], from: usize) -> us
     ensures closed { result < length buf.new → file.new ≡ None }
 {
     let mut done = from;
+    // A loop: how many bytes one read gives is known only after it.
     while done < buf.len() {
         match read_some(file, &mut buf[done..]) {
             Some(0) => {
@@ -226,6 +228,7 @@ pub fn read_on<R: rt::Files>(
         return nothing_read();
     }
     let mut files = begun;
+    // A loop: a file that fills its room ends it, and the place where the next begins is returned.
     while files.whole < 3 {
         let end = limit(files, buf.len());
         let n = fill(file, &mut buf[..end], files.public);

@@ -8,8 +8,8 @@ use lib.Dec.{eqb, ltb, leb}
 use lib.Bits.{bit_and}
 use lib.ListN.{get_or}
 use borrow.Author.Tests.{eq-eqb, ne_eqb, le-leb, lt-leb, leb-false, not-false}
+use Rattle.std.specs.Prelude.{Ok, Err}
 use Rattle.refusals.specs.Checks.{Check, check, outcome}
-use Rattle.refusals.specs.declared.Outcome.TheVariants.{Taken, Refused}
 use Rattle.refusals.specs.declared.Refusal.{Refusal}
 use Rattle.refusals.specs.declared.Refusal.TheVariants.{RowBit, NotPadding, Closed}
 use Rattle.refusals.proofs.Outcomes.{outcome-taken, outcome-refused, outcome_parts, check_passed, checks-taken}
@@ -77,7 +77,7 @@ module _ (d : Dimensions) (left right : List ℕ) (station number : ℕ) where
     read_right h = rw (own, lt-leb number d.left h)
 
 -- of accepted tables it is the definition's row
-module _ (d : Dimensions) (tables : Tables) (acc : outcome (table_checks d tables) ≡ Taken) (station number : ℕ) where
+module _ (d : Dimensions) (tables : Tables) (acc : outcome (table_checks d tables) ≡ Ok tt) (station number : ℕ) where
   own-padding : owns d station number ≡ true → read_padding d tables.left tables.right number ≡ padding_at d tables number
   own-padding own =
       let place = owned-place d station number own in
@@ -105,18 +105,18 @@ module _ (d : Dimensions) (tables : Tables) (run : Run) (c : Condition) where
   abbrev checks : List Check
   checks = condition_checks d tables run c
 
-  pub refuse_tables : (r : Refusal) → outcome (table_checks d tables) ≡ Refused r → Refused r ≡ outcome (late_checks d tables run c)
+  pub refuse_tables : (r : Refusal) → outcome (table_checks d tables) ≡ Err r → Err r ≡ outcome (late_checks d tables run c)
   refuse_tables r e = sym (outcome-refused (table_checks d tables) (state_checks d run ++ checks) r e)
 
-  module _ (acc : outcome (table_checks d tables) ≡ Taken) where
-    pub refuse_state : (r : Refusal) → outcome (state_checks d run) ≡ Refused r → Refused r ≡ outcome (late_checks d tables run c)
+  module _ (acc : outcome (table_checks d tables) ≡ Ok tt) where
+    pub refuse_state : (r : Refusal) → outcome (state_checks d run) ≡ Err r → Err r ≡ outcome (late_checks d tables run c)
     refuse_state r e = sym (outcome-taken (table_checks d tables) (state_checks d run ++ checks) acc ∙ outcome-refused (state_checks d run) checks r e)
 
     -- where the tables and what is asked of the run are taken, the condition decides
-    pub condition_decides : (asked : List Check) → outcome asked ≡ Taken → outcome (table_checks d tables ++ (asked ++ checks)) ≡ outcome checks
+    pub condition_decides : (asked : List Check) → outcome asked ≡ Ok tt → outcome (table_checks d tables ++ (asked ++ checks)) ≡ outcome checks
     condition_decides asked e = outcome-taken (table_checks d tables) (asked ++ checks) acc ∙ outcome-taken asked checks e
 
-    module _ (formed : outcome (state_checks d run) ≡ Taken) where
+    module _ (formed : outcome (state_checks d run) ≡ Ok tt) where
       -- the condition's checks by what the code reads
       decided : (p : Bool) → p ≡ owns d c.station c.replaced && read_padding d tables.left tables.right c.replaced
           → outcome (late_checks d tables run c)
@@ -128,18 +128,18 @@ module _ (d : Dimensions) (tables : Tables) (run : Run) (c : Condition) where
           (sym (e ∙ read-padding d tables acc c.station c.replaced))
 
       module _ (p : Bool) (read : p ≡ owns d c.station c.replaced && read_padding d tables.left tables.right c.replaced) where
-        pub refuse_padding : p ≡ false → Refused NotPadding ≡ outcome (late_checks d tables run c)
+        pub refuse_padding : p ≡ false → Err NotPadding ≡ outcome (late_checks d tables run c)
         refuse_padding e = sym (decided p read ∙ rw e)
 
         module _ (pad : p ≡ true) where
-          pub refuse_closed : if_open run.standing false true ≡ true → Refused Closed ≡ outcome (late_checks d tables run c)
+          pub refuse_closed : if_open run.standing false true ≡ true → Err Closed ≡ outcome (late_checks d tables run c)
           refuse_closed e = sym (decided p read ∙ rw (pad, e))
 
           module _ (running : if_open run.standing false true ≡ false) where
-            pub refuse_row : low_row d.n c.row ≡ false → Refused RowBit ≡ outcome (late_checks d tables run c)
+            pub refuse_row : low_row d.n c.row ≡ false → Err RowBit ≡ outcome (late_checks d tables run c)
             refuse_row e = sym (decided p read ∙ rw (pad, running, e))
 
-            pub take_condition : low_row d.n c.row ≡ true → Taken ≡ outcome (late_checks d tables run c)
+            pub take_condition : low_row d.n c.row ≡ true → Ok tt ≡ outcome (late_checks d tables run c)
             take_condition e = sym (decided p read ∙ rw (pad, running, e))
 
 -- ---- what is taken
@@ -153,8 +153,8 @@ pub record Fitting (d : Dimensions) (tables : Tables) (run : Run) (c : Condition
 
 -- with accepted tables and a well-formed run of their n
 pub record Allowed (d : Dimensions) (tables : Tables) (run : Run) (c : Condition) : Type 0 where
-  pub tables-taken : outcome (table_checks d tables) ≡ Taken
-  pub state-taken : outcome (state_checks d run) ≡ Taken
+  pub tables-taken : outcome (table_checks d tables) ≡ Ok tt
+  pub state-taken : outcome (state_checks d run) ≡ Ok tt
   pub fitting : Fitting d tables run c
 
 still_open : (s : Standing) → if_open s false true ≡ false → s ≡ Open
@@ -164,7 +164,7 @@ still_open Refuted e = absurd (true≢false e)
 
 module _ (d : Dimensions) (tables : Tables) (run : Run) (c : Condition) where
   -- where a condition passes its own checks, it replaces a padding row of its station's, the run is open, and the new row has no bit at or above n
-  pub condition_parts : outcome (condition_checks d tables run c) ≡ Taken → Fitting d tables run c
+  pub condition_parts : outcome (condition_checks d tables run c) ≡ Ok tt → Fitting d tables run c
   condition_parts e =
       let own = owns d c.station c.replaced in
       let pad = padding_at d tables c.replaced in
@@ -175,11 +175,11 @@ module _ (d : Dimensions) (tables : Tables) (run : Run) (c : Condition) where
         owned = and_l own pad spare;
         padded = and_r own pad spare;
         running = still_open run.standing (check_passed (if_open run.standing false true) Closed _ e₁);
-        low = not-false (low_row d.n c.row) (check_passed (not (low_row d.n c.row)) RowBit Taken e₂);
+        low = not-false (low_row d.n c.row) (check_passed (not (low_row d.n c.row)) RowBit (Ok tt) e₂);
       }
 
   -- a condition that passes all checks has accepted tables and a well-formed run beside it
-  pub late_parts : outcome (late_checks d tables run c) ≡ Taken → Allowed d tables run c
+  pub late_parts : outcome (late_checks d tables run c) ≡ Ok tt → Allowed d tables run c
   late_parts e =
       let first = outcome_parts (table_checks d tables) (state_checks d run ++ condition_checks d tables run c) e in
       let then = outcome_parts (state_checks d run) (condition_checks d tables run c) first.1 in
@@ -188,16 +188,16 @@ module _ (d : Dimensions) (tables : Tables) (run : Run) (c : Condition) where
   -- ---- the tables afterwards
 
   -- where it is taken, the tables have the row in its place
-  pub after-taken : outcome (late_checks d tables run c) ≡ Taken → tables_after d tables run c ≡ replaced_in d tables c
+  pub after-taken : outcome (late_checks d tables run c) ≡ Ok tt → tables_after d tables run c ≡ replaced_in d tables c
   unfolding tables_after
   after-taken e = rw e
 
   -- where it is refused, they are as they were
-  pub after-refused : (r : Refusal) → outcome (late_checks d tables run c) ≡ Refused r → tables_after d tables run c ≡ tables
+  pub after-refused : (r : Refusal) → outcome (late_checks d tables run c) ≡ Err r → tables_after d tables run c ≡ tables
   unfolding tables_after
   after-refused r e = rw e
 
-  module _ (e : outcome (late_checks d tables run c) ≡ Taken) where
+  module _ (e : outcome (late_checks d tables run c) ≡ Ok tt) where
     pub left-replaced : c.replaced ≤ d.left
         → (put_row tables.left (c.replaced - 1) c.row ≡ (tables_after d tables run c).left) × (tables.right ≡ (tables_after d tables run c).right)
     unfolding replaced_in

@@ -9,8 +9,8 @@ use lib.Dec.{eqb, ltb, leb}
 use lib.ListN.{length, set, take, length-set}
 use lib.Seq.{get_or-set_same, get_or-set_other, set-append_left}
 use borrow.Author.Tests.{ltb-true, leb-true, leb-false, not-false}
+use Rattle.std.specs.Prelude.{Ok}
 use Rattle.refusals.specs.Checks.{check, outcome}
-use Rattle.refusals.specs.declared.Outcome.TheVariants.{Taken}
 use Rattle.refusals.specs.declared.Refusal.TheVariants.{RowBit, RowBuffer}
 use Rattle.refusals.proofs.Outcomes.{outcome_parts, check_passed, checks-taken}
 use Rattle.words.specs.declared.Row.{Row}
@@ -104,7 +104,7 @@ module _ (d : Dimensions) (tables : Tables) (c : Condition) where
   rows_of_right = rows_from tables.right 0 d.right
 
   -- the rows afterwards are those before with one in the place of its number
-  pub rows_replaced : outcome (table_checks d tables) ≡ Taken → owns d c.station c.replaced ≡ true
+  pub rows_replaced : outcome (table_checks d tables) ≡ Ok tt → owns d c.station c.replaced ≡ true
       → rows_of d (replaced_in d tables c) ≡ set (rows_of d tables) (c.replaced - 1) c.row
   unfolding replaced_in
   rows_replaced acc own =
@@ -153,12 +153,12 @@ module _ (n rows : ℕ) (words : List ℕ) (i : ℕ) (r : Row) where
 
 module _ (d : Dimensions) (tables : Tables) (c : Condition) where
   -- by a row of words below 2 ^ n
-  pub accepted_still : outcome (table_checks d tables) ≡ Taken → low_row d.n c.row ≡ true → outcome (table_checks d (replaced_in d tables c)) ≡ Taken
+  pub accepted_still : outcome (table_checks d tables) ≡ Ok tt → low_row d.n c.row ≡ true → outcome (table_checks d (replaced_in d tables c)) ≡ Ok tt
   unfolding replaced_in
   accepted_still acc low =
       let words = (outcome_parts (size_checks d) (word_checks d tables) acc).1 in
       let none = or-three (high d.n d.left tables.left) (high d.n d.right tables.right) (high d.n d.public tables.public)
-      (check_passed (any_high d tables) RowBit Taken (checks-taken (any_short d tables) RowBuffer _ words)) in
+      (check_passed (any_high d tables) RowBit (Ok tt) (checks-taken (any_short d tables) RowBuffer _ words)) in
       let left = tables.left in
       let right = tables.right in
       let i = c.replaced - 1 in
@@ -173,5 +173,5 @@ module _ (d : Dimensions) (tables : Tables) (c : Condition) where
       (ap (λ (b : Bool). high d.n d.left left || b || high d.n d.public tables.public)
       (still_low d.n d.right right j c.row low none.1 ∙ sym none.1))))
     where
-      same : {b b' : Bool} → b ≡ any_short d tables → b' ≡ any_high d tables → outcome (size_checks d ++ (check b RowBuffer ∷ check b' RowBit ∷ [])) ≡ Taken
+      same : {b b' : Bool} → b ≡ any_short d tables → b' ≡ any_high d tables → outcome (size_checks d ++ (check b RowBuffer ∷ check b' RowBit ∷ [])) ≡ Ok tt
       same e e' = ap₂ (λ (x y : Bool). outcome (size_checks d ++ (check x RowBuffer ∷ check y RowBit ∷ []))) e e' ∙ acc

@@ -4,15 +4,16 @@
 ghost use Rattle.std.specs.Prelude.{◌≡◌, [], ◌∷◌, ◌&&◌, cond, ◌+◌, ◌-◌, ◌*◌, ◌<◌, leb, length};
 ghost use Rattle.refusals.specs.Checks.{outcome};
 ghost use Rattle.refusals.specs.Numbers.{code_of, said};
-ghost use Rattle.tables.specs.Tables.{all_tables, lent_tables};
+ghost use Rattle.tables.specs.Tables.{all_tables, lent_words};
 ghost use Rattle.tables.specs.Rows.{row_at, padding};
 ghost use Rattle.tables.specs.Acceptance.{low_row};
 ghost use Rattle.late.specs.Replacement as Replacement;
 ghost use Rattle.late.specs.Replacement.{late_checks, put_row, tables_after};
 
 use dimensions::Dimensions;
-use refusals::{Outcome, Refusal};
+use refusals::Refusal;
 use state::Run;
+use tables::Tables;
 use words::Row;
 
 // Who replaces which row by what: station 0 is the left one, 1 the right one; `replaced` is the old row's number, from 1 over all tables;
@@ -71,32 +72,30 @@ fn low(row: Row, n: u32) -> bool
 // Whether the row may be replaced: 1, 2, 4, 3, 12, 13, 15, 16, or 3 for the new row, if not.
 fn check_condition(
     d: Dimensions,
-    left: &[u32],
-    right: &[u32],
-    public: &[u32],
+    tables: Tables<'_>,
     run: Run,
     condition: Condition,
-) -> Outcome
-    ensures { result ≡ outcome (late_checks d (lent_tables left right public) run condition) }
+) -> Result<(), Refusal>
+    ensures { result ≡ outcome (late_checks d (lent_words tables) run condition) }
 {
-    match tables::accept(d, left, right, public) {
-        Outcome::Taken => {}
-        Outcome::Refused(refusal) => return Outcome::Refused(refusal),
-    }
-    match state::check_state(d, run) {
-        Outcome::Taken => {}
-        Outcome::Refused(refusal) => return Outcome::Refused(refusal),
-    }
-    if !replaceable(d, left, right, condition.station, condition.replaced) {
-        return Outcome::Refused(Refusal::NotPadding);
+    tables::accept(d, tables)?;
+    state::check_state(d, run)?;
+    if !replaceable(
+        d,
+        tables.left,
+        tables.right,
+        condition.station,
+        condition.replaced,
+    ) {
+        return Err(Refusal::NotPadding);
     }
     if verdicts::closed(run) {
-        return Outcome::Refused(Refusal::Closed);
+        return Err(Refusal::Closed);
     }
     if !low(condition.row, d.n as u32) {
-        return Outcome::Refused(Refusal::RowBit);
+        return Err(Refusal::RowBit);
     }
-    Outcome::Taken
+    Ok(())
 }
 
 // Puts the row in the place of row i from 0 of a table's words: two words change.
@@ -117,23 +116,29 @@ pub fn replace(
     public: &[u32],
     run: Run,
     condition: Condition,
-) -> Outcome
+) -> Result<(), Refusal>
     ensures value { result ≡ outcome (late_checks d (all_tables left.old right.old public.now) run condition) }
     ensures left_after { left.new ≡ (tables_after d (all_tables left.old right.old public.now) run condition).left }
     ensures right_after { right.new ≡ (tables_after d (all_tables left.old right.old public.now) run condition).right }
     ensures result_value { code_of result ∷ []
         ≡ said (outcome (late_checks d (all_tables left.old right.old public.now) run condition)) [] }
 {
-    match check_condition(d, left, right, public, run, condition) {
-        Outcome::Taken => {}
-        Outcome::Refused(refusal) => return Outcome::Refused(refusal),
-    }
+    check_condition(
+        d,
+        Tables {
+            left,
+            right,
+            public,
+        },
+        run,
+        condition,
+    )?;
     let number = condition.replaced;
     let left_rows = d.left as u64;
     if number <= left_rows {
         put(left, (number - 1) as usize, condition.row);
-        return Outcome::Taken;
+        return Ok(());
     }
     put(right, (number - 1 - left_rows) as usize, condition.row);
-    Outcome::Taken
+    Ok(())
 }

@@ -5,9 +5,9 @@ use mathlib.Core.List.{List, ◌++◌}
 use Prim.Native.Nat.{ℕ}
 use lib.Dec.{eqb}
 use borrow.Author.Tests.{eq-eqb}
+use Rattle.std.specs.Prelude.{Ok}
+use Rattle.refusals.specs.Numbers.{Outcome}
 use Rattle.refusals.specs.Checks.{Check, outcome, given}
-use Rattle.refusals.specs.declared.Outcome.{Outcome}
-use Rattle.refusals.specs.declared.Outcome.TheVariants.{Taken}
 use Rattle.refusals.proofs.Outcomes.{outcome-taken, outcome_parts}
 use Rattle.words.specs.declared.Row.{Row}
 use Rattle.words.specs.Sameness.{same}
@@ -31,7 +31,7 @@ use Rattle.late_indexed.specs.Replacement.{replace_checks, tables_then, index_th
 use Rattle.late_indexed.proofs.Replacing.{decided-alike}
 
 module _ (d : Dimensions) (tables : Tables) (index : List ℕ) (run : Run) (number : ℕ) (c : Condition)
-    (taken : outcome (replace_checks d tables index run number c) ≡ Taken) where
+    (taken : outcome (replace_checks d tables index run number c) ≡ Ok tt) where
   -- what the call hands on
   abbrev pub tables' : Tables
   tables' = tables_then d tables index run number c
@@ -48,10 +48,10 @@ module _ (d : Dimensions) (tables : Tables) (index : List ℕ) (run : Run) (numb
   abbrev asked : List Check
   asked = indexed_checks d.n (rows_of d tables) index run number
 
-  first : outcome (table_checks d tables) ≡ Taken
+  first : outcome (table_checks d tables) ≡ Ok tt
   first = (outcome_parts (table_checks d tables) (asked ++ condition_checks d tables run c) taken).0
 
-  behind : (outcome asked ≡ Taken) × (outcome (condition_checks d tables run c) ≡ Taken)
+  behind : (outcome asked ≡ Ok tt) × (outcome (condition_checks d tables run c) ≡ Ok tt)
   behind = outcome_parts asked (condition_checks d tables run c) (outcome_parts (table_checks d tables) (asked ++ condition_checks d tables run c) taken).1
 
   run-kept : Kept d.n run (same index (index_of (rows_of d tables))) (eqb number (unsatisfied_rows d.n (rows_of d tables) run.t run.f))
@@ -80,20 +80,20 @@ module _ (d : Dimensions) (tables : Tables) (index : List ℕ) (run : Run) (numb
   abbrev asked' : List Check
   asked' = indexed_checks d.n rows' index' run number'
 
-  accepted' : outcome (table_checks d tables') ≡ Taken
+  accepted' : outcome (table_checks d tables') ≡ Ok tt
   accepted' =
       ap (λ (t : Tables). outcome (table_checks d t)) tables_are ∙ accepted_still d tables c first (condition_parts d tables run c behind.1).low
 
-  kept' : outcome asked' ≡ Taken
+  kept' : outcome asked' ≡ Ok tt
   kept' =
       sym (take-kept d.n run (same index' (index_of rows')) _ run-kept.formed
       (ap (λ (x : List ℕ). same x (index_of rows')) index_are ∙ same_self (index_of rows')) (eq-eqb number' _ number_are) run-kept.same-n)
 
-  all' : outcome (table_checks d tables' ++ asked') ≡ Taken
+  all' : outcome (table_checks d tables' ++ asked') ≡ Ok tt
   all' = outcome-taken (table_checks d tables') asked' accepted' ∙ kept'
 
   -- the next step is taken
-  pub replaced_again : (stepped_indexed d tables' index' run number').outcome ≡ Taken
+  pub replaced_again : (stepped_indexed d tables' index' run number').outcome ≡ Ok tt
   unfolding stepped_indexed
   replaced_again = ap (λ (o : Outcome). (stepped_by o d.n rows' run number').outcome) all'
 

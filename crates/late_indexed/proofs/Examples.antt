@@ -5,10 +5,9 @@ use mathlib.Core.List.{List, [], ◌∷◌, ◌++◌}
 use Prim.Native.Nat.{ℕ}
 use lib.Dec.{eqb}
 use lib.ListN.{set, replicate}
+use Rattle.std.specs.Prelude.{Ok}
 use Rattle.refusals.specs.Checks.{outcome, given}
-use Rattle.refusals.specs.declared.Outcome.{Outcome}
-use Rattle.refusals.specs.declared.Outcome.TheVariants.{Taken}
-use Rattle.refusals.specs.Numbers.{code_of}
+use Rattle.refusals.specs.Numbers.{Outcome, code_of}
 use Rattle.words.specs.Sets.{bit, any, all, word_of}
 use Rattle.words.specs.Sameness.{same}
 use Rattle.dimensions.specs.declared.Dimensions.{Dimensions}
@@ -102,7 +101,7 @@ unfolding met
 moved = after-by (run 0) 2 (late 1 3 1 0) ∙ later
 
 -- the step after it is taken, over tables, index and number as they were handed on, and so is a second replacement of another padding row
-taken : outcome (replace_checks d tables index (run 0) 2 (late 1 3 1 0)) ≡ Taken
+taken : outcome (replace_checks d tables index (run 0) 2 (late 1 3 1 0)) ≡ Ok tt
 unfolding met
 taken = ap (λ (b : Bool). met b (run 0) 2 (late 1 3 1 0)) exact
 
@@ -113,11 +112,11 @@ handed = (
   number_then d tables index (run 0) 2 (late 1 3 1 0),
 )
 
-step_after : (stepped_indexed d handed.0 handed.1 (run 0) handed.2).outcome ≡ Taken
+step_after : (stepped_indexed d handed.0 handed.1 (run 0) handed.2).outcome ≡ Ok tt
 step_after = replaced_again d tables index (run 0) 2 (late 1 3 1 0) taken
 
 -- row 2 becomes (-2)
-second-after : outcome (replace_checks d handed.0 handed.1 (run 0) handed.2 (late 0 2 0 2)) ≡ Taken
+second-after : outcome (replace_checks d handed.0 handed.1 (run 0) handed.2 (late 0 2 0 2)) ≡ Ok tt
 unfolding tables_then padding bit any replaced_in run_of
 second-after =
     replaced-judged d tables index (run 0) 2 (late 1 3 1 0) taken (late 0 2 0 2)

@@ -9,9 +9,9 @@ use native.Mathlib.Omega.{arith}
 use lib.Dec.{eqb, ltb, leb}
 use lib.ListN.{length, get_or, set}
 use borrow.Author.Tests.{lt-ltb, le-leb, leb-true, leb-false, eqb-true}
+use Rattle.std.specs.Prelude.{Ok, Err}
+use Rattle.refusals.specs.Numbers.{Outcome}
 use Rattle.refusals.specs.Checks.{Check, outcome, given}
-use Rattle.refusals.specs.declared.Outcome.{Outcome}
-use Rattle.refusals.specs.declared.Outcome.TheVariants.{Taken, Refused}
 use Rattle.refusals.specs.declared.Refusal.{Refusal}
 use Rattle.refusals.proofs.Outcomes.{outcome_parts, outcome-refused}
 use Rattle.words.specs.declared.Row.{Row}
@@ -40,9 +40,8 @@ use Rattle.late.specs.declared.Condition.{Condition}
 use Rattle.late.specs.Replacement.{condition_checks, late_checks, replaced_in, tables_after}
 use Rattle.late.proofs.Rows.{owned-number, rows_replaced}
 use Rattle.late.proofs.Checks.{Fitting, condition_parts, condition_decides}
-use Rattle.late_indexed.specs.declared.ReplacedIndexed.{ReplacedIndexed}
 use Rattle.late_indexed.specs.OldRow.{old_row}
-use Rattle.late_indexed.specs.Replacement.{replace_checks, tables_then, index_then, number_then, replaced_indexed}
+use Rattle.late_indexed.specs.Replacement.{replace_checks, tables_then, index_then, number_then}
 
 -- ---- rows counted again
 
@@ -116,24 +115,23 @@ module _ (d : Dimensions) (tables : Tables) (index : List ℕ) (run : Run) (numb
   judged = outcome (replace_checks d tables index run number c)
 
   -- what a refusal leaves
-  pub all-kept : (o : Outcome) (r : Refusal) → o ≡ judged → o ≡ Refused r
-      → (◌≡◌ {A = ReplacedIndexed} (record { outcome = o; number = number }) (replaced_indexed d tables index run number c))
-      × (tables ≡ tables_then d tables index run number c) × (index ≡ index_then d tables index run number c)
+  pub all-kept : (r : Refusal) → Err r ≡ judged
+      → (number ≡ number_then d tables index run number c) × (tables ≡ tables_then d tables index run number c)
+      × (index ≡ index_then d tables index run number c)
   unfolding tables_then index_then number_then
-  all-kept o r e q =
-      let z : judged ≡ Refused r = sym e ∙ q in (ap₂ (λ (x : Outcome) (k : ℕ). record { outcome = x; number = k }) e (rw z), rw z, rw z)
+  all-kept r e = let z : judged ≡ Err r = sym e in (rw z, rw z, rw z)
 
   -- 1, 2, 4, 3, 12 and 13 decide first
-  pub first-refused : (r : Refusal) → Refused r ≡ outcome (table_checks d tables ++ asked) → Refused r ≡ judged
+  pub first-refused : (r : Refusal) → Err r ≡ outcome (table_checks d tables ++ asked) → Err r ≡ judged
   first-refused r e =
       let checks = condition_checks d tables run c in
       sym (ap outcome (sym (append_assoc (table_checks d tables) asked checks)) ∙ outcome-refused (table_checks d tables ++ asked) checks r (sym e))
 
-  module _ (e : outcome (table_checks d tables ++ asked) ≡ Taken) where
-    pub tables-taken : outcome (table_checks d tables) ≡ Taken
+  module _ (e : outcome (table_checks d tables ++ asked) ≡ Ok tt) where
+    pub tables-taken : outcome (table_checks d tables) ≡ Ok tt
     tables-taken = (outcome_parts (table_checks d tables) asked e).0
 
-    asked-taken : outcome asked ≡ Taken
+    asked-taken : outcome asked ≡ Ok tt
     asked-taken = (outcome_parts (table_checks d tables) asked e).1
 
     exact : Kept d.n run (same index (index_of rows)) (eqb number (unsatisfied_rows d.n rows run.t run.f))
@@ -145,7 +143,7 @@ module _ (d : Dimensions) (tables : Tables) (index : List ℕ) (run : Run) (numb
     number_is : number ≡ unsatisfied_rows d.n rows run.t run.f
     number_is = eqb-true number (unsatisfied_rows d.n rows run.t run.f) exact.number
 
-    state-taken : outcome (state_checks d run) ≡ Taken
+    state-taken : outcome (state_checks d run) ≡ Ok tt
     state-taken = sym (take-state d run exact.formed exact.same-n)
 
     -- so there is room for one more
@@ -165,7 +163,7 @@ module _ (d : Dimensions) (tables : Tables) (index : List ℕ) (run : Run) (numb
     unfolding tables_after tables_then
     tables-alike = ap (λ (o : Outcome). given o (replaced_in d tables c) (λ r. tables)) decided-alike
 
-    module _ (taken : outcome (late_checks d tables run c) ≡ Taken) where
+    module _ (taken : outcome (late_checks d tables run c) ≡ Ok tt) where
       fitting : Fitting d tables run c
       fitting = condition_parts d tables run c (sym (condition_decides d tables run c tables-taken (state_checks d run) state-taken) ∙ taken)
 
@@ -189,16 +187,12 @@ module _ (d : Dimensions) (tables : Tables) (index : List ℕ) (run : Run) (numb
           ∙ ap index_of rows_then ∙ rw (sym decided-alike ∙ taken)
 
       -- the number from the new one
-      number-then : number + digit (unmet 32 run.t run.f c.row) ≡ number_then d tables index run number c
+      pub number-after : number + digit (unmet 32 run.t run.f c.row) ≡ number_then d tables index run number c
       unfolding number_then
-      number-then =
+      number-after =
           let n = d.n in
           ap₂ (λ (k : ℕ) (b : Bool). k + digit (not b)) number_is
           (satisfied_width n 32 c.row run.t run.f (accepted d tables tables-taken).size.n-most (low-positive n c.row fitting.low)
           (low-negative n c.row fitting.low))
           ∙ sym (number-set n rows (c.replaced - 1) c.row run.t run.f place fitting.padded)
           ∙ ap (λ (rs : List Row). unsatisfied_rows n rs run.t run.f) rows_then ∙ rw (sym decided-alike ∙ taken)
-
-      pub answer-then : (o : Outcome) (k : ℕ) → o ≡ outcome (late_checks d tables run c) → k ≡ number + digit (unmet 32 run.t run.f c.row)
-          → ◌≡◌ {A = ReplacedIndexed} (record { outcome = o; number = k }) (replaced_indexed d tables index run number c)
-      answer-then o k q h = ap₂ (λ (x : Outcome) (j : ℕ). record { outcome = x; number = j }) (q ∙ decided-alike) (h ∙ number-then)

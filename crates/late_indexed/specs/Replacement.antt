@@ -1,6 +1,7 @@
 -- A late condition with an index and a number of unsatisfied rows beside the run (document 02, Req 06): both are those of the tables as
 -- they are afterwards.
 use Rattle.std.specs.Prelude.{ℕ, List, ◌++◌}
+use Rattle.refusals.specs.Numbers.{Outcome}
 use Rattle.refusals.specs.Checks.{Check, outcome, given}
 use Rattle.dimensions.specs.declared.Dimensions.{Dimensions}
 use Rattle.tables.specs.Tables.{Tables}
@@ -12,7 +13,6 @@ use Rattle.tally.specs.Tallies.{unsatisfied_rows}
 use Rattle.indexed.specs.Entries.{indexed_checks}
 use Rattle.late.specs.declared.Condition.{Condition}
 use Rattle.late.specs.Replacement.{condition_checks, replaced_in}
-use Rattle.late_indexed.specs.declared.ReplacedIndexed.{ReplacedIndexed}
 
 -- 1, 2, 4, 3; 12 for run, index and number; 13, 15, 16, and 3 for the new row
 abbrev pub replace_checks : Dimensions → Tables → List ℕ → Run → ℕ → Condition → List Check
@@ -34,6 +34,11 @@ unfoldable pub number_then : Dimensions → Tables → List ℕ → Run → ℕ 
 number_then d tables index run number c =
     given (outcome (replace_checks d tables index run number c))
     (unsatisfied_rows d.n (rows_of d (replaced_in d tables c)) run.t run.f) (λ r. number)
+
+-- what a replacement is met by, and the number of unsatisfied rows then; refused, the number as it was
+pub record ReplacedIndexed : Type 0 where
+  pub outcome : Outcome
+  pub number : ℕ
 
 -- outcome and number together
 abbrev pub replaced_indexed : Dimensions → Tables → List ℕ → Run → ℕ → Condition → ReplacedIndexed

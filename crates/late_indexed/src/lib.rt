@@ -13,16 +13,10 @@ ghost use Rattle.late_indexed.specs.Replacement.{replace_checks, tables_then, in
 
 use dimensions::Dimensions;
 use late::Condition;
-use refusals::Outcome;
+use refusals::Refusal;
 use state::Run;
+use tables::Tables;
 use words::Row;
-
-// What a replacement meets, and the number of unsatisfied rows then; refused, the number as it was.
-#[derive(Clone, Copy)]
-pub struct ReplacedIndexed {
-    pub outcome: Outcome,
-    pub number: u64,
-}
 
 // ---- the old row
 
@@ -67,39 +61,30 @@ pub fn replace_indexed(
     public: &[u32],
     index: &mut [u64; 384],
     run: Run,
-    number: u64,
+    number: &mut u64,
     condition: Condition,
-) -> ReplacedIndexed
-    ensures value { result ≡ replaced_indexed d (all_tables left.old right.old public.now) index.old run number condition }
-    ensures left_after { left.new ≡ (tables_then d (all_tables left.old right.old public.now) index.old run number condition).left }
-    ensures right_after { right.new ≡ (tables_then d (all_tables left.old right.old public.now) index.old run number condition).right }
-    ensures index_after { index.new ≡ index_then d (all_tables left.old right.old public.now) index.old run number condition }
-    ensures outcome_value { code_of result.outcome ∷ []
-        ≡ said (outcome (replace_checks d (all_tables left.old right.old public.now) index.old run number
+) -> Result<(), Refusal>
+    ensures value { result ≡ (replaced_indexed d (all_tables left.old right.old public.now) index.old run number.old condition).outcome }
+    ensures left_after { left.new
+        ≡ (tables_then d (all_tables left.old right.old public.now) index.old run number.old condition).left }
+    ensures right_after { right.new
+        ≡ (tables_then d (all_tables left.old right.old public.now) index.old run number.old condition).right }
+    ensures index_after { index.new ≡ index_then d (all_tables left.old right.old public.now) index.old run number.old condition }
+    ensures number_after { number.new
+        ≡ (replaced_indexed d (all_tables left.old right.old public.now) index.old run number.old condition).number }
+    ensures result_value { code_of result ∷ []
+        ≡ said (outcome (replace_checks d (all_tables left.old right.old public.now) index.old run number.old
         condition)) [] }
 {
-    match indexed::check_indexed(d, left, right, public, index, run, number) {
-        Outcome::Taken => {}
-        Outcome::Refused(refusal) => {
-            return ReplacedIndexed {
-                outcome: Outcome::Refused(refusal),
-                number,
-            };
-        }
-    }
+    let tables = Tables {
+        left,
+        right,
+        public,
+    };
+    indexed::check_indexed(d, tables, index, run, *number)?;
     let old = old_row(d, left, right, condition.replaced);
-    match late::replace(d, left, right, public, run, condition) {
-        Outcome::Taken => {}
-        Outcome::Refused(refusal) => {
-            return ReplacedIndexed {
-                outcome: Outcome::Refused(refusal),
-                number,
-            };
-        }
-    }
+    late::replace(d, left, right, public, run, condition)?;
     occurrences::replace_row(index, (condition.replaced - 1) as usize, old, condition.row);
-    ReplacedIndexed {
-        outcome: Outcome::Taken,
-        number: count_row(number, condition.row, run.t, run.f),
-    }
+    *number = count_row(*number, condition.row, run.t, run.f);
+    Ok(())
 }

@@ -8,9 +8,9 @@ use native.Mathlib.Omega.{arith}
 use lib.Dec.{ltb, leb}
 use lib.ListN.{length, length-append}
 use borrow.Author.Tests.{lt-ltb, le-ltb, le-leb, leb-true, leb-false}
+use Rattle.std.specs.Prelude.{Ok, Err}
+use Rattle.refusals.specs.Numbers.{Outcome}
 use Rattle.refusals.specs.Checks.{given}
-use Rattle.refusals.specs.declared.Outcome.{Outcome}
-use Rattle.refusals.specs.declared.Outcome.TheVariants.{Taken, Refused}
 use Rattle.refusals.specs.declared.Refusal.{Refusal}
 use Rattle.refusals.specs.declared.Refusal.TheVariants.{GateBuffer, Wires}
 use Rattle.words.proofs.Truth.{on, and_l, and_r}
@@ -74,7 +74,7 @@ module _ (d : Dimensions) (tables : Tables) (acc : Accepts d tables) (s : State)
       )
 
   -- a call with room for gate words, bytes and wires is taken
-  pub call_taken : room_for d gates bytes wires ≡ true → says ≡ Taken
+  pub call_taken : room_for d gates bytes wires ≡ true → says ≡ Ok tt
   unfolding allowed
   call_taken e =
       sym (state_decides d tables (length gates) (length bytes) (length wires) run acc
@@ -82,7 +82,7 @@ module _ (d : Dimensions) (tables : Tables) (acc : Accepts d tables) (s : State)
       ∙ fine d tables acc s formed
 
   -- any other is refused, by 7 or 10
-  pub call_refused : room_for d gates bytes wires ≡ false → (r : Refusal) × (says ≡ Refused r)
+  pub call_refused : room_for d gates bytes wires ≡ false → (r : Refusal) × (says ≡ Err r)
   unfolding allowed
   call_refused e =
       on enough_words
@@ -114,12 +114,12 @@ module _ (d : Dimensions) (tables : Tables) (budget : ℕ) (run : Run) (times : 
       given o asked (λ refusal. []) ++ cond r.mark [] (repeats_by d tables (budget - r.repeats) r.run more)
 
   -- a call that is taken
-  pub taken-goes : met ≡ Taken → repeats_by d tables budget run (Call times gates bytes wires ∷ more) ≡ further d tables more budget run asked
+  pub taken-goes : met ≡ Ok tt → repeats_by d tables budget run (Call times gates bytes wires ∷ more) ≡ further d tables more budget run asked
   unfolding repeats_by repeated
   taken-goes e = ap by e
 
   -- a refused one is as if it had not been made
-  pub refused-goes : (r : Refusal) → met ≡ Refused r
+  pub refused-goes : (r : Refusal) → met ≡ Err r
       → repeats_by d tables budget run (Call times gates bytes wires ∷ more) ≡ repeats_by d tables budget run more
   unfolding repeats_by repeated
   refused-goes r e = ap by e ∙ (let z : budget - 0 ≡ budget = omega arith in ap (λ (k : ℕ). repeats_by d tables k run more) z)
@@ -129,9 +129,9 @@ module _ (d : Dimensions) (tables : Tables) (budget : ℕ) (run : Run) (times : 
 module _ (d : Dimensions) where
   try_counts : (o : Outcome) (mark : Bool) (r : Repeat) (further again : List Repeat) (k j : ℕ) → k ≡ length further → j ≡ length again
       → given o (suc (cond mark 0 k)) (λ refusal. j) ≡ length (given o (r ∷ cond mark [] further) (λ refusal. again))
-  try_counts Taken true r further again k j p q = refl
-  try_counts Taken false r further again k j p q = ap suc p
-  try_counts (Refused x) mark r further again k j p q = q
+  try_counts (Ok _) true r further again k j p q = refl
+  try_counts (Ok _) false r further again k j p q = ap suc p
+  try_counts (Err x) mark r further again k j p q = q
 
   call_counts : (h : List Repeat) (mark : Bool) (later : List Repeat) (k : ℕ) → k ≡ length later → length h + cond mark 0 k ≡ length (h ++ cond mark [] later)
   call_counts h true later k p = omega (arith, length-append h [])
@@ -144,8 +144,8 @@ module _ (d : Dimensions) where
       → (let r = given o (repeated_by run h) (refused_with run) in
       r.repeats + cond r.mark 0 (count_by d tables (budget - r.repeats) r.run more)
       ≡ length (given o h (λ refusal. []) ++ cond r.mark [] (repeats_by d tables (budget - r.repeats) r.run more)))
-  call_says tables budget run more h Taken p q = call_counts h (closed (state_of (last_run run h))) _ _ p
-  call_says tables budget run more h (Refused r) p q = omega (arith, q)
+  call_says tables budget run more h (Ok _) p q = call_counts h (closed (state_of (last_run run h))) _ _ p
+  call_says tables budget run more h (Err r) p q = omega (arith, q)
 
   -- the numbers of repeats, added up, are how many repeats there are
   pub counts-add-up : (turns : List Turn) (tables : Tables) (budget : ℕ) (run : Run)

@@ -3,7 +3,7 @@
 use mathlib.Core.Path.{◌≡◌, refl, sym, ap, ap₂, ◌∙◌, fun_ext, subst}
 use mathlib.Core.Bool.{Bool, true, false, cond}
 use mathlib.Core.List.{List, [], ◌∷◌, ◌++◌}
-use Prim.Native.Nat.{ℕ, zero, suc, ◌+◌, ◌-◌, ◌*◌, ◌≤◌, ◌<◌, min}
+use Prim.Native.Nat.{ℕ, zero, suc, ◌+◌, ◌-◌, ◌*◌, ◌≤◌, min}
 use native.Mathlib.Omega.{arith}
 use lib.Dec.{leb}
 use lib.ListN.{length, replicate, length-map}
@@ -28,8 +28,8 @@ use Rattle.repeats.proofs.Applying.{short-turned, attempt_is}
 use Rattle.answers.specs.Printed.{answer_text}
 use Rattle.demand3.specs.Demand3.{history_of, Follows, answer_for, answer_in, circuit_text_of, Seen, seen}
 use Rattle.late_runs.specs.Schedule.{Dated, tables_with, tables_at}
-use Rattle.late_runs.specs.Host.{dated, Turn, Try, Call, Renew, repeats_by, count_by, room_for, attempts_in, conditions_in}
-use Rattle.late_runs.proofs.Schedule.{not-due, due-later, with-accepted, tables-accepted}
+use Rattle.late_runs.specs.Host.{Turn, Try, Call, Renew, repeats_by, count_by, room_for, attempts_in, conditions_in}
+use Rattle.late_runs.proofs.Schedule.{with-accepted, tables-accepted}
 use Rattle.late_runs.proofs.Demands.{history-late, end_late, secrecy_late}
 use Rattle.late_runs.proofs.Host.{open_replaces, at_once}
 use Rattle.late_runs.proofs.CircuitDates.{not_yet, shifted, first_date}

@@ -13,8 +13,7 @@ use Rattle.state.specs.WellFormed.{well_formed_state}
 use Rattle.solver.specs.Step.{always, step, after}
 use Rattle.solver.proofs.StepLaws.{step-well_formed}
 use Rattle.solver.proofs.RunLaws.{run_is_of}
-use Rattle.indexed.specs.declared.Continued.{Continued}
-use Rattle.indexed.specs.Continuing.{continued, continued_by}
+use Rattle.indexed.specs.Continuing.{Continued, continued, continued_by}
 use Rattle.indexed.proofs.Resuming.{state-continued}
 use Rattle.repeats.specs.Repeats.{Accepts}
 use Rattle.late_runs.specs.Host.{Step, Host, act, play}

@@ -5,9 +5,9 @@ use mathlib.Core.Bool.{Bool, true, false, not, ◌&&◌, cond, true≢false}
 use mathlib.Core.List.{List, [], ◌∷◌, ◌++◌}
 use Prim.Native.Nat.{ℕ, zero, suc, ◌-◌, ◌^◌, ◌≤◌, ◌<◌}
 use native.Mathlib.Omega.{arith}
+use Rattle.std.specs.Prelude.{Ok, Err}
+use Rattle.refusals.specs.Numbers.{Outcome}
 use Rattle.refusals.specs.Checks.{outcome, given}
-use Rattle.refusals.specs.declared.Outcome.{Outcome}
-use Rattle.refusals.specs.declared.Outcome.TheVariants.{Taken, Refused}
 use Rattle.refusals.specs.declared.Refusal.TheVariants.{RowBit, NotPadding, Closed}
 use Rattle.refusals.proofs.Outcomes.{outcome-taken}
 use Rattle.words.specs.declared.Row.{Row}
@@ -23,9 +23,8 @@ use Rattle.state.specs.declared.Standing.TheVariants.{Open, Satisfied, Refuted}
 use Rattle.state.specs.State.{State, fresh, run_of, state_of, if_open}
 use Rattle.state.specs.WellFormed.{well_formed_state, state_checks}
 use Rattle.state.proofs.HeldRun.{state-back}
-use Rattle.solver.specs.declared.Stepped.{Stepped}
 use Rattle.solver.specs.Step.{later, step, after}
-use Rattle.solver.specs.Entries.{run_from, answer_of, stepped}
+use Rattle.solver.specs.Entries.{Stepped, run_from, answer_of, stepped}
 use Rattle.truth.specs.Truth.{all_true}
 use Rattle.solver.proofs.StepLaws.{step-well_formed, fresh-well_formed}
 use Rattle.solver.proofs.RunLaws.{run_is_of}
@@ -52,12 +51,12 @@ module _ (d : Dimensions) (tables : Tables) (acc : Accepts d tables) (s : State)
   pub step_leaves : (stepped d tables run).run ≡ run_of d.n (step d.n (rows_of d tables) s)
   unfolding stepped
   step_leaves =
-      ap (λ (o : Outcome). (given o next (λ r. record { outcome = Refused r; run = run })).run)
+      ap (λ (o : Outcome). (given o next (λ r. record { outcome = Err r; run = run })).run)
       (outcome-taken (table_checks d tables) (state_checks d run) acc ∙ fine d tables acc s formed)
       ∙ ap (λ (x : State). run_of d.n (step d.n (rows_of d tables) x)) (state-back d.n s)
     where
       next : Stepped
-      next = record { outcome = Taken; run = run_of d.n (step d.n (rows_of d tables) (state_of run)) }
+      next = record { outcome = Ok tt; run = run_of d.n (step d.n (rows_of d tables) (state_of run)) }
 
   -- only 15, 16 and the new row's 3 are left to judge
   by_condition : (c : Condition) → tables_after d tables run c ≡ given (outcome (condition_checks d tables run c)) (replaced_in d tables c) (λ r. tables)
@@ -71,7 +70,7 @@ module _ (d : Dimensions) (tables : Tables) (acc : Accepts d tables) (s : State)
     -- what 15, 16 and 3 lead to
     abbrev judged : Bool → Bool → Bool → Tables
     judged padding closing low =
-        given (cond (not padding) (Refused NotPadding) (cond closing (Refused Closed) (cond (not low) (Refused RowBit) Taken)))
+        given (cond (not padding) (Err NotPadding) (cond closing (Err Closed) (cond (not low) (Err RowBit) (Ok tt))))
         (replaced_in d tables c) (λ r. tables)
 
     at_open : (padding low : Bool) → judged padding false low ≡ cond (padding && low) (replaced_in d tables c) tables

@@ -1,6 +1,6 @@
 -- Tables with late conditions stay accepted, keep their public rows, and their rows grow, whatever the conditions are. By induction on the conditions.
 use mathlib.Core.Path.{◌≡◌, refl, sym, ap, ◌∙◌, subst}
-use mathlib.Core.Bool.{true, false, ◌&&◌}
+use mathlib.Core.Bool.{true, false}
 use mathlib.Core.List.{List, [], ◌∷◌}
 use Prim.Native.Nat.{ℕ, suc, ◌-◌, ◌≤◌, ◌<◌}
 use native.Mathlib.Omega.{arith}
@@ -12,7 +12,7 @@ use Rattle.tables.specs.Tables.{Tables}
 use Rattle.tables.specs.Rows.{rows_of_public, rows_of, rows_from}
 use Rattle.tables.proofs.Accepted.{accepted}
 use Rattle.late.specs.declared.Condition.{Condition}
-use Rattle.late.specs.Replacement.{owns, padding_at, replaced_in}
+use Rattle.late.specs.Replacement.{owns, replaced_in}
 use Rattle.late.proofs.Rows.{rows_replaced, accepted_still, public_still}
 use Rattle.demand2.proofs.Growth.{Grows, grows_same, grows_on, set_grows}
 use Rattle.repeats.specs.Repeats.{Accepts}

@@ -1,8 +1,8 @@
 -- What a call leaves in the buffers that hosts lend: values over the front, or what was there.
+use Rattle.refusals.specs.Numbers.{Outcome}
 use Rattle.std.specs.Prelude.{ℕ, List, [], ◌∷◌}
 use Rattle.std.proofs.lemmas.List.Edits.{sets}
 use Rattle.refusals.specs.Checks.{given}
-use Rattle.refusals.specs.declared.Outcome.{Outcome}
 use Rattle.state.specs.declared.Run.{Run}
 use Rattle.stored.specs.Words.{run_words}
 

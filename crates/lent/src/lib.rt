@@ -1,40 +1,26 @@
 // Rows, a text and a run written into the buffers that hosts lend.
 #![tactic(auto)]
 
-ghost use Rattle.std.specs.Prelude.{◌≡◌, ◌*◌, min, take};
+ghost use Rattle.std.specs.Prelude.{◌≡◌, ◌*◌, take};
 ghost use Rattle.lent.specs.Lent.{front, stored_if};
 
-use refusals::Outcome;
+use refusals::Refusal;
 use state::Run;
 use text::Text;
-
-// The lesser of two lengths.
-fn least(a: usize, b: usize) -> usize
-    ensures { result ≡ min a b }
-{
-    if a < b {
-        return a;
-    }
-    b
-}
 
 // Writes the words over the front of the buffer, as many as it has room for.
 fn put_words(words: &[u32], lent: &mut [u32])
     ensures { lent.new ≡ front words.now lent.old }
 {
-    let end = least(words.len(), lent.len());
-    let mut i = 0;
-    while i < end {
-        lent[i] = words[i];
-        i += 1;
-    }
+    let end = words.len().min(lent.len());
+    lent[..end].copy_from_slice(&words[..end]);
 }
 
 // Writes the words of a table's rows over the front of the buffer.
 pub fn put_rows(words: [u32; 256], rows: u8, lent: &mut [u32])
     ensures { lent.new ≡ front (take (2 * rows) words) lent.old }
 {
-    let end = least(2 * (rows as usize), 256);
+    let end = (2 * rows as usize).min(256);
     put_words(&words[..end], lent);
 }
 
@@ -43,16 +29,16 @@ pub fn put_text(text: Text, lent: &mut [u8; 256])
     ensures { lent.new ≡ front (take text.length text.bytes) lent.old }
 {
     let whole = text.bytes;
-    let end = least(text.length, 256);
+    let end = text.length.min(256);
     lent[..end].copy_from_slice(&whole[..end]);
 }
 
 // Writes the run where the call was taken.
-pub fn store_if(outcome: Outcome, run: Run, lent: &mut [u32; 101])
+pub fn store_if(outcome: Result<(), Refusal>, run: Run, lent: &mut [u32; 101])
     ensures { lent.new ≡ stored_if outcome run lent.old }
 {
     match outcome {
-        Outcome::Taken => *lent = stored::words(run),
-        Outcome::Refused(_) => {}
+        Ok(()) => *lent = stored::words(run),
+        Err(_) => {}
     }
 }

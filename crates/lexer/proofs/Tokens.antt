@@ -4,18 +4,17 @@ use mathlib.Core.Bool.{Bool, false, not}
 use mathlib.Core.List.{List, [], ◌∷◌}
 use Prim.Native.Nat.{ℕ, suc, ◌+◌, ◌-◌, ◌≤◌, ◌<◌}
 use native.Mathlib.Omega.{arith}
-use lib.Dec.{eqb, ltb}
+use lib.Dec.{eqb}
 use lib.ListN.{length, drop, take, get_or, drop_of_length-le}
 use lib.Seq.{drop-cons, drop-drop}
-use borrow.Author.Tests.{eqb-true, ltb-true, ltb-false}
+use borrow.Author.Tests.{eqb-true}
+use Rattle.std.specs.Prelude.{Some}
 use Rattle.words.proofs.Truth.{on}
 use Rattle.lexer.specs.Bytes.{is_separator, run}
 use Rattle.lexer.specs.Pieces.{Piece, cut, not_empty}
 use Rattle.lexer.specs.Places.{run_end, part, first_of}
 use Rattle.lexer.specs.Blanks.{LinePlace, further, in_remark, place_behind, blanked, tokens_past, token_start}
-use Rattle.lexer.specs.declared.pieces.Piece.TheVariants.{At, Nothing}
-use Rattle.lexer.proofs.Runs.{end_le}
-use Rattle.lexer.proofs.Cuts.{run-over, no_run, skip-run, one_piece, behind-part, FoundBy}
+use Rattle.lexer.proofs.Cuts.{run-over, no_run, skip-run, one_piece, FoundBy, StartsAt, found_by}
 
 abbrev in_word : ℕ → Bool
 in_word b = not (is_separator b)
@@ -80,63 +79,34 @@ module _ (text : List ℕ) (at : ℕ) where
       no_run is_separator (get_or text (at + k) 0) (blanked (place_behind further (get_or text (at + k) 0)) (drop (suc (at + k)) text))
       (ap (run is_separator) (sym (behind-start ∙ ap (blanked further) (drop-cons text (at + k) 0 h))) ∙ run-over is_separator rest)
 
-  module _ (s e : ℕ) (hs : s ≡ token_start text at) (he : e ≡ run_end in_word text s) (h : s < length text) where
+  module _ (s : ℕ) (hs : s ≡ token_start text at) (h : s < length text) where
     stop : is_separator (get_or text s 0) ≡ false
     stop = ap (λ (x : ℕ). is_separator (get_or text x 0)) hs ∙ stops (rw hs at h)
 
     abbrev token : List ℕ → ℕ → List Piece
     token b j = record { at = s; bytes = take j b } ∷ not_empty (cut is_separator (s + j) (drop j b))
 
-    next : tokens_past text at ≡ record { at = s; bytes = part s e text } ∷ tokens_past text e
+    token_next : let e = run_end in_word text s in tokens_past text at ≡ record { at = s; bytes = part s e text } ∷ tokens_past text e
     unfolding tokens_past run_end blanked
-    next =
+    token_next =
         let k = run in_word (drop s text) in
         let b = blanked further (drop s text) in
         let one : not_empty (cut is_separator s b) ≡ token b (run in_word b)
         = rw (drop-cons text s 0 h) (one_piece is_separator s (get_or text s 0) (blanked (place_behind further (get_or text s 0)) (drop (suc s) text)) stop) in
-        let width : k ≡ e - s = omega (arith, he) in
+        let width : k ≡ s + k - s = omega arith in
         skip-token ∙ ap (tokens_past text) (sym hs) ∙ one
         ∙ ap (token b) (word-run (drop s text))
         ∙ ap₂ (λ (w : List ℕ) (l : List Piece). record { at = s; bytes = w } ∷ l)
         (word-take (drop s text) ∙ ap (λ (i : ℕ). take i (drop s text)) width)
-        (ap (λ (l : List ℕ). not_empty (cut is_separator (s + k) l)) (word-drop (drop s text) ∙ ap (blanked further) (drop-drop k s text))
-        ∙ ap (tokens_past text) (sym he))
-
-    within : e ≤ length text
-    within = omega (arith, he, end_le in_word text s (omega arith))
-
-    longer : s < e
-    unfolding run_end run
-    longer = omega (arith, let k : e ≡ s + suc (run in_word (drop (suc s) text)) = he ∙ rw (drop-cons text s 0 h, stop) in k)
-
-    pub first-at : first_of (tokens_past text at) ≡ At s e
-    first-at = ap first_of next ∙ ap (At s) (behind-part text s e (omega (arith, longer)) within)
-
-  pub first-none : length text ≤ token_start text at → first_of (tokens_past text at) ≡ Nothing
-  first-none h = ap first_of (no_token_lem h)
+        (ap (λ (l : List ℕ). not_empty (cut is_separator (s + k) l)) (word-drop (drop s text) ∙ ap (blanked further) (drop-drop k s text)))
 
   start_ge : at ≤ token_start text at
   unfolding token_start
   start_ge = omega arith
 
+  pub token_starts : StartsAt is_separator text (tokens_past text) at (token_start text at)
+  token_starts = record { past = start_ge; stop = stops; next = token_next _ refl; none = no_token_lem }
+
   -- what the answer says
-  pub found : (s e : ℕ) → first_of (tokens_past text at) ≡ At s e → FoundBy (tokens_past text) text at s e
-  found s e f =
-      let i = token_start text at in
-      let j = run_end in_word text i in
-      on (ltb i (length text))
-      (λ t. let h : i < length text = ltb-true i (length text) t in
-      let q = sym f ∙ first-at i j refl refl h in
-      let qs : s ≡ i = cc q in
-      let qe : e ≡ j = cc q in
-      let he : e ≡ run_end in_word text s = qe ∙ ap (run_end in_word text) (sym qs) in
-      let k : s < length text = omega arith in
-      record {
-        pieces = next s e qs he k;
-        past = omega (arith, start_ge);
-        filled = longer s e qs he k;
-        within = within s e qs he k;
-        ends = behind-part text s e (omega (arith, longer s e qs he k)) (within s e qs he k);
-      })
-      (λ t. let q = sym f ∙ first-none (ltb-false i (length text) t) in
-      absurd (let z : ◌≡◌ {A = ℕ} 0 1 = cc q in omega arith))
+  pub found : (s e : ℕ) → first_of (tokens_past text at) ≡ Some (s, e) → FoundBy (tokens_past text) text at s e
+  found = found_by is_separator text (tokens_past text) at (token_start text at) token_starts

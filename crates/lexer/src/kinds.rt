@@ -1,5 +1,5 @@
 // Kinds of bytes, and the runs of them in a text.
-ghost use Rattle.std.specs.Prelude.{◌≡◌, not, length};
+ghost use Rattle.std.specs.Prelude.{◌≡◌, not, length, drop};
 ghost use Rattle.lexer.specs.Bytes.{is_blank, is_tail, is_separator, trimmed};
 ghost use Rattle.lexer.specs.Kinds.{passes};
 ghost use Rattle.lexer.specs.Places.{run_end};
@@ -46,44 +46,32 @@ pub(crate) fn is_kind(kind: Kind, b: u8) -> bool
     }
 }
 
+// The bytes from `at` on: none past the end.
+fn from(text: &[u8], at: usize) -> &[u8]
+    ensures { result.now ≡ drop at text.now }
+{
+    text.get(at..).unwrap_or(&[])
+}
+
 // The first place from `at` on whose byte is not of the kind, or the end.
 pub fn skip(text: &[u8], at: usize, kind: Kind) -> usize
     ensures { result ≡ run_end (passes kind) text.now at }
 {
-    let mut i = at;
-    while i < text.len() {
-        if !is_kind(kind, text[i]) {
-            return i;
-        }
-        i += 1;
-    }
-    i
+    let rest = from(text, at);
+    at + rest.iter().take_while(|&&b| is_kind(kind, b)).count()
 }
 
 // The first place from `at` on whose byte is of the kind, or the end.
 pub fn find(text: &[u8], at: usize, kind: Kind) -> usize
     ensures { result ≡ run_end (λ b. not (passes kind b)) text.now at }
 {
-    let mut i = at;
-    while i < text.len() {
-        if is_kind(kind, text[i]) {
-            return i;
-        }
-        i += 1;
-    }
-    i
+    let rest = from(text, at);
+    at + rest.iter().take_while(|&&b| !is_kind(kind, b)).count()
 }
 
 // The text's length without the bytes of the kind at its end.
 pub fn trim(text: &[u8], kind: Kind) -> usize
     ensures { result ≡ length (trimmed (passes kind) text.now) }
 {
-    let mut end = text.len();
-    while 0 < end {
-        if !is_kind(kind, text[end - 1]) {
-            return end;
-        }
-        end -= 1;
-    }
-    end
+    text.len() - text.iter().rev().take_while(|&&b| is_kind(kind, b)).count()
 }

@@ -1,8 +1,8 @@
 -- A field read digit by digit: `field_after` is a field whose first digits gave v already, and one digit more changes v alone.
+use Rattle.std.specs.Prelude.{Option, Some, None}
 use mathlib.Core.Path.{◌≡◌, refl, sym, ap, ◌∙◌}
 use mathlib.Core.Bool.{Bool, true, false, ◌&&◌, cond}
 use mathlib.Core.List.{List, [], ◌∷◌}
-use mathlib.Core.Option.{some}
 use Prim.Native.Nat.{ℕ, ◌+◌, ◌-◌, ◌*◌, ◌^◌, ◌≤◌, ◌<◌}
 use native.Mathlib.Numerals.{add-one}
 use native.Mathlib.Omega.{arith}
@@ -13,7 +13,6 @@ use borrow.Author.Tests.{le-ltb, lt-ltb}
 use Rattle.words.proofs.Truth.{on}
 use Rattle.lexer.specs.Bytes.{run}
 use Rattle.numbers.specs.Numbers.{is_digit, digits_after}
-use Rattle.lines.specs.declared.FieldEnd.TheVariants.{Behind, Malformed}
 use Rattle.lines.specs.Numbers.{Field, field, no_field, bounded, closed_field, field_of}
 use Rattle.lines.specs.Places.{end_of_field, field_end_at}
 
@@ -59,7 +58,7 @@ field_digit v seen closing b bs e = rw (e, run) (go seen (take (run is_digit bs)
     go false ds rest = one false ds rest
 
 -- a byte that is no digit closes the field or spoils it
-field_closed : (v closing b : ℕ) (bs : List ℕ) → is_digit b ≡ false → field_after v true closing (b ∷ bs) ≡ cond (eqb b closing) (bounded (some v) bs) no_field
+field_closed : (v closing b : ℕ) (bs : List ℕ) → is_digit b ≡ false → field_after v true closing (b ∷ bs) ≡ cond (eqb b closing) (bounded (Some v) bs) no_field
 unfolding field_after run digits_after
 field_closed v closing b bs e = rw (e, run)
 
@@ -85,27 +84,27 @@ field_over v closing text h = go (take (run is_digit text) text) (drop (run is_d
 next-byte : (line : List ℕ) (i : ℕ) → i < length line → drop i line ≡ get_or line i 0 ∷ drop (i + 1) line
 next-byte line i h = drop-cons line i 0 h ∙ ap (λ (k : ℕ). get_or line i 0 ∷ drop k line) (sym (add-one i))
 
-place-behind : (line : List ℕ) (v i : ℕ) → i < length line → end_of_field line (field v (drop (i + 1) line)) ≡ Behind v (i + 1)
-place-behind line v i h = ap (Behind v) (let e = length-drop (i + 1) line in omega arith)
+place-behind : (line : List ℕ) (v i : ℕ) → i < length line → end_of_field line (field v (drop (i + 1) line)) ≡ Some (v, (i + 1))
+place-behind line v i h = (let f : ℕ → Option (ℕ × ℕ) = λ b. Some (v, b) in ap f (let e = length-drop (i + 1) line in omega arith))
 
 module _ (line : List ℕ) (at closing i v : ℕ) (low : i < length line)
     (inv : field_after v (ltb at i) closing (drop i line) ≡ field_of closing (drop at line)) where
   -- a byte that is no digit
   pub ends : is_digit (get_or line i 0) ≡ false → v < 2 ^ 64
-      → cond (ltb at i && eqb (get_or line i 0) closing) (Behind v (i + 1)) Malformed ≡ field_end_at line at closing
+      → cond (ltb at i && eqb (get_or line i 0) closing) (Some (v, (i + 1))) None ≡ field_end_at line at closing
   ends e h = go (ltb at i) (sym (ap (λ (l : List ℕ). field_after v (ltb at i) closing l) (next-byte line i low)) ∙ inv)
     where
       go : (seen : Bool) → field_after v seen closing (get_or line i 0 ∷ drop (i + 1) line) ≡ field_of closing (drop at line)
-          → cond (seen && eqb (get_or line i 0) closing) (Behind v (i + 1)) Malformed ≡ field_end_at line at closing
+          → cond (seen && eqb (get_or line i 0) closing) (Some (v, (i + 1))) None ≡ field_end_at line at closing
       go false k = ap (end_of_field line) (sym (field_empty v closing (get_or line i 0) (drop (i + 1) line) e) ∙ k)
       go true k =
           on (eqb (get_or line i 0) closing)
           (λ q.
-          let taken : cond (eqb (get_or line i 0) closing) (bounded (some v) (drop (i + 1) line)) no_field ≡ field v (drop (i + 1) line) =
+          let taken : cond (eqb (get_or line i 0) closing) (bounded (Some v) (drop (i + 1) line)) no_field ≡ field v (drop (i + 1) line) =
           rw q (rw (lt-ltb v (2 ^ 64) h)) in
           rw q (sym (place-behind line v i low) ∙ ap (end_of_field line) (sym (field_closed v closing (get_or line i 0) (drop (i + 1) line) e ∙ taken) ∙ k)))
           (λ q.
-          let spoilt : cond (eqb (get_or line i 0) closing) (bounded (some v) (drop (i + 1) line)) no_field ≡ no_field = rw q in
+          let spoilt : cond (eqb (get_or line i 0) closing) (bounded (Some v) (drop (i + 1) line)) no_field ≡ no_field = rw q in
           rw q (ap (end_of_field line) (sym (field_closed v closing (get_or line i 0) (drop (i + 1) line) e ∙ spoilt) ∙ k)))
 
   -- a digit
@@ -116,7 +115,7 @@ module _ (line : List ℕ) (at closing i v : ℕ) (low : i < length line)
       ∙ sym (field_digit v (ltb at i) closing (get_or line i 0) (drop (i + 1) line) e)
       ∙ sym (ap (λ (l : List ℕ). field_after v (ltb at i) closing l) (next-byte line i low)) ∙ inv
 
-  pub too_great : is_digit (get_or line i 0) ≡ true → at ≤ i → 2 ^ 64 ≤ v * 10 + (get_or line i 0 - 48) → Malformed ≡ field_end_at line at closing
+  pub too_great : is_digit (get_or line i 0) ≡ true → at ≤ i → 2 ^ 64 ≤ v * 10 + (get_or line i 0 - 48) → None ≡ field_end_at line at closing
   too_great e h k =
       ap (end_of_field line)
       (sym (field_over (v * 10 + (get_or line i 0 - 48)) closing (drop (i + 1) line) k)
@@ -125,7 +124,7 @@ module _ (line : List ℕ) (at closing i v : ℕ) (low : i < length line)
 
 -- no byte left
 pub runs-out : (line : List ℕ) (at closing i v : ℕ) → length line ≤ i → field_after v (ltb at i) closing (drop i line) ≡ field_of closing (drop at line)
-    → Malformed ≡ field_end_at line at closing
+    → None ≡ field_end_at line at closing
 runs-out line at closing i v h inv =
     ap (end_of_field line) (sym (ap (λ (l : List ℕ). field_after v (ltb at i) closing l) (drop_of_length-le line h) ∙ field_end v (ltb at i) closing) ∙ inv)
 

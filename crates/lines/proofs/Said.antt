@@ -3,11 +3,9 @@ use mathlib.Core.Path.{◌≡◌, refl, ap, ◌∙◌}
 use mathlib.Core.Bool.{Bool, true, false, cond}
 use mathlib.Core.List.{List, [], ◌∷◌}
 use Prim.Native.Nat.{ℕ}
+use Rattle.std.specs.Prelude.{Result, Ok, Err}
+use Rattle.refusals.specs.declared.Refusal.{Refusal}
 use Rattle.refusals.specs.declared.Refusal.TheVariants.{NumberLine}
-use Rattle.lines.specs.declared.Budget.{Budget}
-use Rattle.lines.specs.declared.Budget.TheVariants as budget
-use Rattle.lines.specs.declared.DimensionLine.{DimensionLine}
-use Rattle.lines.specs.declared.DimensionLine.TheVariants as dimension
 use Rattle.lines.specs.Numbers.{Field, field, no_field, field_of, short_line, on_field}
 use Rattle.lines.specs.Numbers.{on_budget, budget_of, budget_code, budget_numbers, on_dimension_line, dimension_line_of}
 use Rattle.lines.specs.Numbers.{dimension_line_said}
@@ -22,23 +20,23 @@ said_if : {A : Type 0} (says : A → List ℕ) (b : Bool) (x y : A) → says (co
 said_if says true x y = refl
 said_if says false x y = refl
 
-pub budget_said : (input : List ℕ) (r : Budget) → r ≡ budget_of input
+pub budget_said : (input : List ℕ) (r : Result ℕ Refusal) → r ≡ budget_of input
     → (r ≡ budget_of input) × (budget_code r ∷ budget_numbers r ≡ on_budget input (8 ∷ []) (λ v. 0 ∷ (v ∷ [])))
 budget_said input r e =
-    let says : Budget → List ℕ = λ x. budget_code x ∷ budget_numbers x in
-    let no = budget.Refused NumberLine in
-    (e, ap says e ∙ said_field says (field_of 10 input) no _ _ (λ v rest. said_if says (short_line input rest) (budget.Of v) no))
+    let says : Result ℕ Refusal → List ℕ = λ x. budget_code x ∷ budget_numbers x in
+    let no = Err NumberLine in
+    (e, ap says e ∙ said_field says (field_of 10 input) no _ _ (λ v rest. said_if says (short_line input rest) (Ok v) no))
 
-pub size-said : (input : List ℕ) (r : DimensionLine) → r ≡ dimension_line_of input
+pub size-said : (input : List ℕ) (r : Result (ℕ × ℕ × ℕ × ℕ) Refusal) → r ≡ dimension_line_of input
     → (r ≡ dimension_line_of input) × (dimension_line_said r
     ≡ on_dimension_line input (8 ∷ []) (λ n left right public. 0 ∷ (n ∷ (left ∷ (right ∷ (public ∷ []))))))
 size-said input r e =
-    let says : DimensionLine → List ℕ = dimension_line_said in
-    let no = dimension.Refused NumberLine in (
+    let says : Result (ℕ × ℕ × ℕ × ℕ) Refusal → List ℕ = dimension_line_said in
+    let no = Err NumberLine in (
       e,
       ap says e
           ∙ said_field says (field_of 32 input) no _ _ (λ n second.
           said_field says (field_of 32 second) no _ _ (λ left third.
           said_field says (field_of 32 third) no _ _ (λ right fourth.
-          said_field says (field_of 10 fourth) no _ _ (λ public rest. said_if says (short_line input rest) (dimension.Of n left right public) no)))),
+          said_field says (field_of 10 fourth) no _ _ (λ public rest. said_if says (short_line input rest) (Ok (n, left, right, public)) no)))),
     )

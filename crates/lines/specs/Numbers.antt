@@ -1,15 +1,32 @@
 -- The budget line and the dimension line: document 01, refusal 8.
 -- Ask: Which bytes may a line hold, and which come after it?
-use Rattle.std.specs.Prelude.{ℕ, ◌-◌, ◌^◌, Bool, cond, List, [], ◌∷◌, eqb, ltb, leb, length, take, drop}
-use Rattle.std.proofs.Math.Option.{Option, none, some}
+use Rattle.refusals.specs.declared.Refusal.{Refusal}
+use Rattle.std.specs.Prelude.{
+  ℕ,
+  ◌-◌,
+  ◌^◌,
+  Bool,
+  cond,
+  List,
+  [],
+  ◌∷◌,
+  eqb,
+  ltb,
+  leb,
+  length,
+  take,
+  drop,
+  Option,
+  Some,
+  None,
+  Result,
+  Ok,
+  Err,
+}
 use Rattle.refusals.specs.declared.Refusal.TheVariants.{NumberLine}
 use Rattle.refusals.specs.Numbers.{number_of}
 use Rattle.lexer.specs.Bytes.{run}
 use Rattle.numbers.specs.Numbers.{is_digit, digits_after}
-use Rattle.lines.specs.declared.Budget.{Budget}
-use Rattle.lines.specs.declared.Budget.TheVariants as budget
-use Rattle.lines.specs.declared.DimensionLine.{DimensionLine}
-use Rattle.lines.specs.declared.DimensionLine.TheVariants as dimension
 
 -- a number of 64 bits and the text after it, or none
 pub data Field : Type 0 where
@@ -18,8 +35,8 @@ pub data Field : Type 0 where
 
 -- a value of 64 bits
 abbrev pub bounded : Option ℕ → List ℕ → Field
-bounded (some v) rest = cond (ltb v (2 ^ 64)) (field v rest) no_field
-bounded none rest = no_field
+bounded (Some v) rest = cond (ltb v (2 ^ 64)) (field v rest) no_field
+bounded None rest = no_field
 
 -- digits, and the text after them, which is to start with the closing byte
 abbrev pub closed_field : ℕ → List ℕ → List ℕ → Field
@@ -45,18 +62,18 @@ abbrev pub on_budget {ℓ} : {A : Type ℓ} → List ℕ → A → (ℕ → A) �
 on_budget input a f = on_field (field_of 10 input) a (λ v rest. cond (short_line input rest) (f v) a)
 
 -- the budget, or 8
-abbrev pub budget_of : List ℕ → Budget
-budget_of input = on_budget input (budget.Refused NumberLine) budget.Of
+abbrev pub budget_of : List ℕ → Result ℕ Refusal
+budget_of input = on_budget input (Err NumberLine) Ok
 
 -- what the budget line's reader returns: 0, or 8 of "Turned back because of the input"
-abbrev pub budget_code : Budget → ℕ
-budget_code (budget.Of count) = 0
-budget_code (budget.Refused r) = number_of r
+abbrev pub budget_code : Result ℕ Refusal → ℕ
+budget_code (Ok count) = 0
+budget_code (Err r) = number_of r
 
 -- the budget
-abbrev pub budget_numbers : Budget → List ℕ
-budget_numbers (budget.Of count) = count ∷ []
-budget_numbers (budget.Refused r) = []
+abbrev pub budget_numbers : Result ℕ Refusal → List ℕ
+budget_numbers (Ok count) = count ∷ []
+budget_numbers (Err r) = []
 
 -- what the dimension line leads to: n, left, right and, by document 02 (Public rest rules), public with single spaces and LF
 abbrev pub on_dimension_line {ℓ} : {A : Type ℓ} → List ℕ → A → (ℕ → ℕ → ℕ → ℕ → A) → A
@@ -67,10 +84,10 @@ on_dimension_line input a f =
     on_field (field_of 10 fourth) a (λ public rest. cond (short_line input rest) (f n left right public) a))))
 
 -- the four numbers, or 8
-abbrev pub dimension_line_of : List ℕ → DimensionLine
-dimension_line_of input = on_dimension_line input (dimension.Refused NumberLine) dimension.Of
+abbrev pub dimension_line_of : List ℕ → Result (ℕ × ℕ × ℕ × ℕ) Refusal
+dimension_line_of input = on_dimension_line input (Err NumberLine) (λ (a : ℕ) (b : ℕ) (c : ℕ) (d : ℕ). Ok (a, b, c, d))
 
 -- what reading the dimension line says: 0 and its numbers, or 8
-abbrev pub dimension_line_said : DimensionLine → List ℕ
-dimension_line_said (dimension.Of n left right public) = 0 ∷ (n ∷ (left ∷ (right ∷ (public ∷ []))))
-dimension_line_said (dimension.Refused r) = number_of r ∷ []
+abbrev pub dimension_line_said : Result (ℕ × ℕ × ℕ × ℕ) Refusal → List ℕ
+dimension_line_said (Ok (n, left, right, public)) = 0 ∷ (n ∷ (left ∷ (right ∷ (public ∷ []))))
+dimension_line_said (Err r) = number_of r ∷ []

@@ -9,14 +9,13 @@ use borrow.Author.Tests.{lt-ltb, le-ltb, ltb-true, ltb-false}
 use lib.Dec.{ltb}
 use lib.ListN.{length, take, drop, length-append}
 use lib.Seq.{take_at, take-length, length-take-le}
+use Rattle.std.specs.Prelude.{Result, Ok, Err}
 use Rattle.io.specs.Counts.{IsPrefixLen}
 use Rattle.words.proofs.Truth.{on}
 use Rattle.refusals.specs.declared.Refusal.{Refusal}
 use Rattle.refusals.specs.declared.Refusal.TheVariants.{GateBuffer}
-use Rattle.refusals.specs.declared.Outcome.{Outcome}
-use Rattle.refusals.specs.declared.Outcome.TheVariants.{Taken, Refused}
 use Rattle.refusals.specs.Checks.{check, outcome, given}
-use Rattle.refusals.specs.Numbers.{number_of}
+use Rattle.refusals.specs.Numbers.{Outcome, number_of}
 use Rattle.refusals.proofs.Outcomes.{outcome-refused, outcome_parts, check_passed}
 use Rattle.text.specs.declared.Text.{Text}
 use Rattle.text.specs.Texts.{text_of}
@@ -24,7 +23,6 @@ use Rattle.text.specs.Refused.{refused_line}
 use Rattle.text.proofs.Appending.{text_back}
 use Rattle.text.proofs.Decimals.{decimal-length}
 use Rattle.dimensions.specs.declared.Dimensions.{Dimensions}
-use Rattle.dimensions.specs.declared.CheckedDimensions.TheVariants as sized'
 use Rattle.dimensions.specs.Sizes.{dimensions, row_count, size_checks, sized, ceiling, input_wires}
 use Rattle.dimensions.proofs.Limits.{within}
 use Rattle.gates.specs.Memory.{gates_of, words_of, over}
@@ -32,10 +30,7 @@ use Rattle.gates.proofs.InMemory.{words-length, gates_words, accepted-words}
 use Rattle.netlist.specs.Netlist.{gates_on}
 use Rattle.netlist.proofs.Counts.{gates_length}
 use Rattle.netlist.proofs.EveryState.{gates_accepted}
-use Rattle.generator.specs.declared.Generated.TheVariants as generated'
 use Rattle.generator.specs.Generation.{generator_checks, generated, written_words}
-use Rattle.bristol.specs.declared.WrittenLines.{WrittenLines}
-use Rattle.bristol.specs.declared.WrittenLines.TheVariants as lines
 use Rattle.bristol.specs.Text.{circuit_text}
 use Rattle.bristol.specs.Writing.{circuit_checks, written_lines, filled_lines}
 use Rattle.bristol.proofs.Requests.{take-circuit}
@@ -72,13 +67,13 @@ line_copied text front lent out k e h o = (
 -- ---- a circuit's text
 
 -- how many bytes were written, and one more
-size_in : WrittenLines → ℕ
-size_in (lines.Lines k n) = suc n
-size_in (lines.Refused r) = zero
+size_in : Result (ℕ × ℕ) Refusal → ℕ
+size_in (Ok (k, n)) = suc n
+size_in (Err r) = zero
 
-module _ (d : Dimensions) (ws : List ℕ) (e : outcome (circuit_checks d ws) ≡ Taken) (lent : List ℕ)
+module _ (d : Dimensions) (ws : List ℕ) (e : outcome (circuit_checks d ws) ≡ Ok tt) (lent : List ℕ)
     (room : length (circuit_text d (gates_of ws)) ≤ length lent) where
-  pub text_put : (k n : ℕ) (out : List ℕ) → written_lines d ws 0 lent ≡ lines.Lines k n → out ≡ filled_lines d ws 0 lent
+  pub text_put : (k n : ℕ) (out : List ℕ) → written_lines d ws 0 lent ≡ Ok (k, n) → out ≡ filled_lines d ws 0 lent
       → Put (circuit_text d (gates_of ws)) lent n out
   unfolding size_in
   text_put k n out w o =
@@ -86,7 +81,7 @@ module _ (d : Dimensions) (ws : List ℕ) (e : outcome (circuit_checks d ws) ≡
       (omega (arith, ap size_in (sym w ∙ p.0)), o ∙ p.1)
 
   -- it is never refused
-  pub text_taken : (r : Refusal) → written_lines d ws 0 lent ≡ lines.Refused r → ⊥
+  pub text_taken : (r : Refusal) → written_lines d ws 0 lent ≡ Err r → ⊥
   unfolding size_in
   text_taken r w = omega (arith, ap size_in (sym w ∙ (lines_whole d ws e lent room).0))
 
@@ -104,27 +99,27 @@ module _ (d : Dimensions) (words : List ℕ) (h : length words ≡ 16383) where
 
   -- ---- dimensions that are refused
 
-  pub circuit-refused : (r : Refusal) → generated d words ≡ generated'.Refused r → refused_line r ≡ text_for d
+  pub circuit-refused : (r : Refusal) → generated d words ≡ Err r → refused_line r ≡ text_for d
   circuit-refused r g = go (outcome (generator_checks d words)) refl g
     where
-      go : (o : Outcome) → outcome (generator_checks d words) ≡ o → given o (generated'.Of (length (gates_on d))) generated'.Refused
-          ≡ generated'.Refused r → refused_line r ≡ text_for d
-      go Taken e f = absurd (let z : ◌≡◌ {A = ℕ} 0 1 = cc in omega arith)
-      go (Refused q) e f =
+      go : (o : Outcome) → outcome (generator_checks d words) ≡ o → given o (Ok (length (gates_on d))) Err
+          ≡ Err r → refused_line r ≡ text_for d
+      go (Ok _) e f = absurd (let z : ◌≡◌ {A = ℕ} 0 1 = cc in omega arith)
+      go (Err q) e f =
           let same : r ≡ q = cc in
           ap refused_line same ∙ ap (λ (o : Outcome). given o (circuit_text d (gates_on d)) refused_line) (sym e ∙ same-checks)
 
   -- ---- dimensions that are served
 
-  module _ (t : outcome (generator_checks d words) ≡ Taken) where
-    checked : outcome (list_checks d) ≡ Taken
+  module _ (t : outcome (generator_checks d words) ≡ Ok tt) where
+    checked : outcome (list_checks d) ≡ Ok tt
     checked = sym same-checks ∙ t
 
-    both-taken : (outcome (size_checks d) ≡ Taken) × (outcome (check (ltb 5461 (ceiling d)) GateBuffer ∷ []) ≡ Taken)
+    both-taken : (outcome (size_checks d) ≡ Ok tt) × (outcome (check (ltb 5461 (ceiling d)) GateBuffer ∷ []) ≡ Ok tt)
     both-taken = outcome_parts (size_checks d) (check (ltb 5461 (ceiling d)) GateBuffer ∷ []) checked
 
     few : ceiling d ≤ 5461
-    few = ltb-false 5461 (ceiling d) (check_passed (ltb 5461 (ceiling d)) GateBuffer Taken both-taken.1)
+    few = ltb-false 5461 (ceiling d) (check_passed (ltb 5461 (ceiling d)) GateBuffer (Ok tt) both-taken.1)
 
     circuit-short : length (circuit_text d (gates_on d)) ≤ 131072
     circuit-short =
@@ -132,7 +127,7 @@ module _ (d : Dimensions) (words : List ℕ) (h : length words ≡ 16383) where
         served_short d (gates_on d) few (omega (arith, few, gates_length d.n (row_count d) w.n_least (omega (arith, w.left_least))))
         (sym (accepted-words (input_wires d) (gates_on d)) ∙ gates_accepted d both-taken.0)
 
-    circuit-taken : outcome (circuit_checks d (words_of (gates_on d))) ≡ Taken
+    circuit-taken : outcome (circuit_checks d (words_of (gates_on d))) ≡ Ok tt
     circuit-taken = sym (take-circuit d (words_of (gates_on d)) both-taken.0 (ap not (gates_accepted d both-taken.0)))
 
     circuit_text_lem : circuit_text d (gates_of (words_of (gates_on d))) ≡ text_for d
@@ -141,18 +136,18 @@ module _ (d : Dimensions) (words : List ℕ) (h : length words ≡ 16383) where
 -- what holds of the words that the generator leaves: the first of them are the circuit, whose text is the one wanted and has room
 pub record Served (d : Dimensions) (k : ℕ) (words : List ℕ) : Type 0 where
   pub within : 3 * k ≤ length words
-  pub circuit : outcome (circuit_checks d (take (3 * k) words)) ≡ Taken
+  pub circuit : outcome (circuit_checks d (take (3 * k) words)) ≡ Ok tt
   pub text : circuit_text d (gates_of (take (3 * k) words)) ≡ text_for d
   pub short : length (circuit_text d (gates_of (take (3 * k) words))) ≤ 131072
 
-pub served : (d : Dimensions) (words left : List ℕ) (k : ℕ) → length words ≡ 16383 → generated d words ≡ generated'.Of k
+pub served : (d : Dimensions) (words left : List ℕ) (k : ℕ) → length words ≡ 16383 → generated d words ≡ Ok k
     → left ≡ written_words d words → Served d k left
 served d words left k h g l = go (outcome (generator_checks d words)) refl g l
   where
-    go : (o : Outcome) → outcome (generator_checks d words) ≡ o → given o (generated'.Of (length (gates_on d))) generated'.Refused ≡ generated'.Of k
+    go : (o : Outcome) → outcome (generator_checks d words) ≡ o → given o (Ok (length (gates_on d))) Err ≡ Ok k
         → left ≡ given o (over (words_of (gates_on d)) words) (λ r. words) → Served d k left
-    go (Refused q) t g l = absurd (let z : ◌≡◌ {A = ℕ} 0 1 = cc in omega arith)
-    go Taken t g l =
+    go (Err q) t g l = absurd (let z : ◌≡◌ {A = ℕ} 0 1 = cc in omega arith)
+    go (Ok _) t g l =
         let count : length (gates_on d) ≡ k = cc in
         let size : length (words_of (gates_on d)) ≡ 3 * k = omega (arith, words-length (gates_on d), count) in
         let front : take (3 * k) left ≡ words_of (gates_on d) =
@@ -173,20 +168,20 @@ module _ (n left right public : ℕ) where
   named = dimensions n left right public
 
   -- numbers that are dimensions
-  pub sized_of : (d : Dimensions) → sized n left right public ≡ sized'.Of d → text_for d ≡ text_for named
+  pub sized_of : (d : Dimensions) → sized n left right public ≡ Ok d → text_for d ≡ text_for named
   sized_of d e = go (outcome (size_checks named)) e
     where
-      go : (o : Outcome) → given o (sized'.Of named) sized'.Refused ≡ sized'.Of d → text_for d ≡ text_for named
-      go Taken f = let same : d ≡ named = cc in ap text_for same
-      go (Refused q) f = absurd (let z : ◌≡◌ {A = ℕ} 0 1 = cc in omega arith)
+      go : (o : Outcome) → given o (Ok named) Err ≡ Ok d → text_for d ≡ text_for named
+      go (Ok _) f = let same : d ≡ named = cc in ap text_for same
+      go (Err q) f = absurd (let z : ◌≡◌ {A = ℕ} 0 1 = cc in omega arith)
 
   -- and numbers that are not
-  pub sized-refused : (r : Refusal) → sized n left right public ≡ sized'.Refused r → refused_line r ≡ text_for named
+  pub sized-refused : (r : Refusal) → sized n left right public ≡ Err r → refused_line r ≡ text_for named
   sized-refused r e = go (outcome (size_checks named)) refl e
     where
-      go : (o : Outcome) → outcome (size_checks named) ≡ o → given o (sized'.Of named) sized'.Refused ≡ sized'.Refused r → refused_line r ≡ text_for named
-      go Taken t f = absurd (let z : ◌≡◌ {A = ℕ} 0 1 = cc in omega arith)
-      go (Refused q) t f =
+      go : (o : Outcome) → outcome (size_checks named) ≡ o → given o (Ok named) Err ≡ Err r → refused_line r ≡ text_for named
+      go (Ok _) t f = absurd (let z : ◌≡◌ {A = ℕ} 0 1 = cc in omega arith)
+      go (Err q) t f =
           let same : r ≡ q = cc in
           ap refused_line same
           ∙ ap (λ (o : Outcome). given o (circuit_text named (gates_on named)) refused_line)

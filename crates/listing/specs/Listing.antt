@@ -1,10 +1,9 @@
 -- What the circuit program prints for a line of standard input: document 01, "Programs", refusals 8, then 1, 2, 7.
 -- Ask: Does the circuit program answer 8, then 1, 2, 7?
-use Rattle.std.specs.Prelude.{ℕ, List, [], ◌∷◌, ◌++◌, ltb}
+use Rattle.refusals.specs.declared.Refusal.{Refusal}
+use Rattle.std.specs.Prelude.{ℕ, List, [], ◌∷◌, ◌++◌, ltb, Result, Ok, Err}
 use Rattle.refusals.specs.Checks.{Check, check, outcome, given}
 use Rattle.refusals.specs.declared.Refusal.TheVariants.{GateBuffer}
-use Rattle.lines.specs.declared.DimensionLine.{DimensionLine}
-use Rattle.lines.specs.declared.DimensionLine.TheVariants as dimension
 use Rattle.lines.specs.Numbers.{dimension_line_of}
 use Rattle.dimensions.specs.declared.Dimensions.{Dimensions}
 use Rattle.dimensions.specs.Sizes.{dimensions, size_checks, ceiling}
@@ -21,9 +20,9 @@ abbrev pub text_for : Dimensions → List ℕ
 text_for d = given (outcome (list_checks d)) (circuit_text d (gates_on d)) refused_line
 
 -- what is printed for four numbers, or for the lack of them
-abbrev pub size_text : DimensionLine → List ℕ
-size_text (dimension.Of n left right public) = text_for (dimensions n left right public)
-size_text (dimension.Refused r) = refused_line r
+abbrev pub size_text : Result (ℕ × ℕ × ℕ × ℕ) Refusal → List ℕ
+size_text (Ok (n, left, right, public)) = text_for (dimensions n left right public)
+size_text (Err r) = refused_line r
 
 -- what is printed for a line
 abbrev pub listed : List ℕ → List ℕ

@@ -1,9 +1,8 @@
 // The circuit program's one function: a line of standard input goes in, what is printed comes out.
 #![tactic(auto)]
 
-ghost use Rattle.std.specs.Prelude.{◌≡◌, ◌≤◌, length};
+ghost use Rattle.std.specs.Prelude.{◌≡◌, ◌≤◌, length, Ok};
 ghost use Rattle.refusals.specs.Checks.{outcome};
-ghost use Rattle.refusals.specs.declared.Outcome.TheVariants.{Taken};
 ghost use Rattle.gates.specs.Memory.{gates_of, over};
 ghost use Rattle.bristol.specs.Text.{circuit_text};
 ghost use Rattle.bristol.specs.Writing.{circuit_checks};
@@ -11,10 +10,7 @@ ghost use Rattle.text.specs.Refused.{refused_line};
 ghost use Rattle.io.specs.Counts.{IsPrefixLen};
 ghost use Rattle.listing.specs.Listing.{text_for, listed};
 
-use bristol::WrittenLines;
-use dimensions::{CheckedDimensions, Dimensions};
-use generator::Generated;
-use lines::DimensionLine;
+use dimensions::Dimensions;
 use refusals::Refusal;
 
 // Three words for each gate of the greatest ceiling that is served, 5,461 gates.
@@ -37,12 +33,12 @@ fn put_refusal(refusal: Refusal, bytes: &mut [u8; ROOM]) -> usize
 
 // Puts a circuit's text there.
 fn put_text(d: Dimensions, gates: &[u32], bytes: &mut [u8; ROOM]) -> usize
-    requires gates_value { outcome (circuit_checks d gates.now) ≡ Taken }
+    requires gates_value { outcome (circuit_checks d gates.now) ≡ Ok tt }
     requires gates_len_bound { length (circuit_text d (gates_of gates.now)) ≤ 131072 }
     ensures value { result ≡ length (circuit_text d (gates_of gates.now)) }
     ensures bytes_after { bytes.new ≡ over (circuit_text d (gates_of gates.now)) bytes.old }
 {
-    let WrittenLines::Lines(_, length) = bristol::write_lines(d, gates, 0, bytes) else {
+    let Ok((_, length)) = bristol::write_lines(d, gates, 0, bytes) else {
         return 0; // never so: the text has room
     };
     length
@@ -55,8 +51,8 @@ fn put_circuit(d: Dimensions, bytes: &mut [u8; ROOM]) -> usize
 {
     let mut words = [0u32; WORDS];
     match generator::generate(d, &mut words) {
-        Generated::Of(count) => put_text(d, &words[..3 * count], bytes),
-        Generated::Refused(refusal) => put_refusal(refusal, bytes),
+        Ok(count) => put_text(d, &words[..3 * count], bytes),
+        Err(refusal) => put_refusal(refusal, bytes),
     }
 }
 
@@ -68,10 +64,10 @@ pub fn list(line: &[u8], bytes: &mut [u8; ROOM]) -> usize
     ensures prefix_len { IsPrefixLen result bytes.new }
 {
     match lines::read_dimensions(line) {
-        DimensionLine::Of(n, left, right, public) => match Dimensions::new(n, left, right, public) {
-            CheckedDimensions::Of(d) => put_circuit(d, bytes),
-            CheckedDimensions::Refused(refusal) => put_refusal(refusal, bytes),
+        Ok((n, left, right, public)) => match Dimensions::new(n, left, right, public) {
+            Ok(d) => put_circuit(d, bytes),
+            Err(refusal) => put_refusal(refusal, bytes),
         },
-        DimensionLine::Refused(refusal) => put_refusal(refusal, bytes),
+        Err(refusal) => put_refusal(refusal, bytes),
     }
 }

@@ -7,7 +7,7 @@ use Prim.Native.Nat.{ℕ, ◌+◌, ◌/◌, ◌≤◌}
 use native.Mathlib.Omega.{arith}
 use lib.ListN.{length}
 use borrow.Author.Tests.{le-ltb}
-use Rattle.refusals.specs.declared.Outcome.TheVariants.{Taken}
+use Rattle.std.specs.Prelude.{Ok}
 use Rattle.refusals.specs.Checks.{outcome}
 use Rattle.dimensions.specs.declared.Dimensions.{Dimensions}
 use Rattle.dimensions.specs.Sizes.{ceiling, input_wires}
@@ -32,7 +32,7 @@ module _ (d : Dimensions) (gates : List ℕ) (carries : CarriesOut d gates) wher
 
   -- the evaluator takes the gates on any bytes that are wires, those of no state too
   pub any-inputs : (inputs wires : List ℕ) → length inputs ≡ input_wires d → bits inputs ≡ true → input_wires d + ceiling d ≤ length wires
-      → outcome (evaluation_checks gates inputs wires) ≡ Taken
+      → outcome (evaluation_checks gates inputs wires) ≡ Ok tt
   any-inputs inputs wires l b h =
       rw (l, carries.taken, le-ltb (length wires) (input_wires d + length gates / 3) (ceiling-enough wires h), b)
 

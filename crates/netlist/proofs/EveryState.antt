@@ -10,7 +10,7 @@ use lib.Dec.{leb}
 use lib.ListN.{length, take, drop, length-append, length-map}
 use lib.Seq.{take_at, drop-append-le}
 use borrow.Author.Tests.{leb-true}
-use Rattle.refusals.specs.declared.Outcome.TheVariants.{Taken}
+use Rattle.std.specs.Prelude.{Ok}
 use Rattle.refusals.specs.Checks.{outcome}
 use Rattle.words.specs.Booleans.{digit}
 use Rattle.words.specs.Sets.{any}
@@ -56,7 +56,7 @@ room_for n h =
     (λ e. let x = any_e (λ b. leb n (2 ^ b)) 5 e in leb-true n (2 ^ digits_for n) (lowest_hit (λ b. leb n (2 ^ b)) 5 x.0 x.1 x.2).1)
     (λ e. let q : digits_for n ≡ 5 = lowest-none (λ b. leb n (2 ^ b)) 5 (any_none (λ b. leb n (2 ^ b)) 5 e) in rw q h)
 
-module _ (d : Dimensions) (fits : outcome (size_checks d) ≡ Taken) where
+module _ (d : Dimensions) (fits : outcome (size_checks d) ≡ Ok tt) where
   a-row : 0 < row_count d
   a-row = omega (arith, (within d fits).left_least)
 
@@ -116,7 +116,7 @@ module _ (d : Dimensions) (fits : outcome (size_checks d) ≡ Taken) where
 
     -- the evaluator takes the packed bytes, and fills the buffer's front
     pub evaluated : (wires : List ℕ) → input_wires d + length (gates_on d) ≤ length wires
-        → (outcome (evaluation_checks (words_of (gates_on d)) (bytes_of bits) wires) ≡ Taken)
+        → (outcome (evaluation_checks (words_of (gates_on d)) (bytes_of bits) wires) ≡ Ok tt)
         × (filled_wires (words_of (gates_on d)) (bytes_of bits) wires ≡ over (bytes_of (wires_of bits (gates_on d))) wires)
     evaluated wires h =
         let l = input_length d tables s in

@@ -1,7 +1,6 @@
 -- The circuit's output values, and what is asked of a circuit in memory: document 01, "Circuit".
 -- Ask: Are the last wires the next state and its closing bit?
-use Rattle.std.specs.Prelude.{ℕ, ◌+◌, ◌*◌, ◌-◌, ◌/◌, ◌≤◌, ◌≡◌, Bool, true, false, List, [], ◌∷◌, ◌++◌, length, take, drop}
-use Rattle.refusals.specs.declared.Outcome.TheVariants.{Taken}
+use Rattle.std.specs.Prelude.{ℕ, ◌+◌, ◌*◌, ◌-◌, ◌/◌, ◌≤◌, ◌≡◌, Bool, true, false, List, [], ◌∷◌, ◌++◌, length, take, drop, Ok}
 use Rattle.refusals.specs.Checks.{outcome}
 use Rattle.words.specs.declared.Row.{Row}
 use Rattle.dimensions.specs.declared.Dimensions.{Dimensions}
@@ -36,5 +35,5 @@ pub record CarriesOut (d : Dimensions) (gates : List ℕ) : Type 0 where
   pub taken : accepted (input_wires d) gates ≡ true
   pub steps : (tables : Tables) (s : State) (wires : List ℕ) → well_formed_state d.n s ≡ true
       → input_wires d + length gates / 3 ≤ length wires
-      → (outcome (evaluation_checks gates (bytes_of (input_bits d tables s)) wires) ≡ Taken)
+      → (outcome (evaluation_checks gates (bytes_of (input_bits d tables s)) wires) ≡ Ok tt)
       × (outputs_in d gates (filled_wires gates (bytes_of (input_bits d tables s)) wires) ≡ bytes_of (output_bits d.n (rows_of d tables) s))

@@ -1,6 +1,5 @@
 -- What a token means as a number: an optional minus and no leading zeros, -0 malformed (document 01, "DIMACS").
-use Rattle.std.specs.Prelude.{ℕ, zero, suc, ◌+◌, ◌-◌, ◌*◌, Bool, true, false, ◌&&◌, cond, List, [], ◌∷◌, eqb, leb}
-use Rattle.std.proofs.Math.Option.{Option, none, some}
+use Rattle.std.specs.Prelude.{ℕ, zero, suc, ◌+◌, ◌-◌, ◌*◌, Bool, true, false, ◌&&◌, cond, List, [], ◌∷◌, eqb, leb, Option, Some, None}
 
 -- 0 to 9
 abbrev pub is_digit : ℕ → Bool
@@ -13,25 +12,25 @@ pub data Number : Type 0 where
 
 -- digits that follow a value read so far, however many; none where some byte is no digit
 unfoldable pub digits_after : ℕ → List ℕ → Option ℕ
-digits_after v [] = some v
-digits_after v (b ∷ bs) = cond (is_digit b) (digits_after (v * 10 + (b - 48)) bs) none
+digits_after v [] = Some v
+digits_after v (b ∷ bs) = cond (is_digit b) (digits_after (v * 10 + (b - 48)) bs) None
 
 -- one or more digits, with no leading zero
 unfoldable pub decimal_of : List ℕ → Option ℕ
-decimal_of [] = none
+decimal_of [] = None
 decimal_of (b ∷ []) = digits_after 0 (b ∷ [])
-decimal_of (b ∷ (d ∷ ds)) = cond (eqb b 48) none (digits_after 0 (b ∷ (d ∷ ds)))
+decimal_of (b ∷ (d ∷ ds)) = cond (eqb b 48) None (digits_after 0 (b ∷ (d ∷ ds)))
 
 -- a number without a minus
 abbrev pub positive : Option ℕ → Number
-positive (some v) = number false v
-positive none = malformed
+positive (Some v) = number false v
+positive None = malformed
 
 -- -0 is malformed
 abbrev pub negative : Option ℕ → Number
-negative (some zero) = malformed
-negative (some (suc v)) = number true (suc v)
-negative none = malformed
+negative (Some zero) = malformed
+negative (Some (suc v)) = number true (suc v)
+negative None = malformed
 
 -- an optional minus, then digits
 unfoldable pub number_read : List ℕ → Number

@@ -7,20 +7,6 @@ ghost use Rattle.std.specs.Prelude.{◌≡◌, ◌+◌, ◌*◌, ◌-◌, ◌≤
 ghost use Rattle.numbers.specs.Numbers.{is_digit, decimal_of, number_read};
 ghost use Rattle.numbers.specs.CappedNumbers.{leading_zero, held, digits_held, number_held};
 
-// Whether the number has a minus, and its value; 1000 is held for every greater one.
-#[derive(Clone, Copy)]
-pub enum Number {
-    Value(bool, u32),
-    Malformed,
-}
-
-// The value of a row of digits, or none.
-#[derive(Clone, Copy)]
-enum Digits {
-    Value(u32),
-    Malformed,
-}
-
 // A value with one digit more.
 fn with_digit(v: u32, b: u8) -> u32
     requires v_bound { v ≤ 1000 }
@@ -42,53 +28,36 @@ pub fn is_digit(b: u8) -> bool
 fn leading_zero(word: &[u8]) -> bool
     ensures { result ≡ leading_zero word.now }
 {
-    if word.len() < 2 {
-        return false;
-    }
-    word[0] == b'0'
+    1 < word.len() && word[0] == b'0'
 }
 
 // The value of one or more digits with no leading zero.
-fn read_digits(word: &[u8]) -> Digits
+fn read_digits(word: &[u8]) -> Option<u32>
     ensures { result ≡ digits_held (decimal_of word.now) }
 {
-    if word.len() == 0 {
-        return Digits::Malformed;
-    }
-    if leading_zero(word) {
-        return Digits::Malformed;
+    if word.is_empty() || leading_zero(word) {
+        return None;
     }
     let mut v = 0;
-    let mut i = 0;
-    while i < word.len() {
-        let b = word[i];
+    for &b in word {
         if !is_digit(b) {
-            return Digits::Malformed;
+            return None;
         }
         v = with_digit(v, b);
-        i += 1;
     }
-    Digits::Value(v)
+    Some(v)
 }
 
 // The number that a token is.
-pub fn read_number(word: &[u8]) -> Number
+pub fn read_number(word: &[u8]) -> Option<(bool, u32)>
     ensures { result ≡ number_held (number_read word.now) }
 {
-    if word.len() == 0 {
-        return Number::Malformed;
-    }
-    if word[0] != b'-' {
-        let Digits::Value(v) = read_digits(word) else {
-            return Number::Malformed;
-        };
-        return Number::Value(false, v);
-    }
-    let Digits::Value(v) = read_digits(&word[1..]) else {
-        return Number::Malformed;
+    let Some(digits) = word.strip_prefix(b"-") else {
+        return Some((false, read_digits(word)?));
     };
+    let v = read_digits(digits)?;
     if v == 0 {
-        return Number::Malformed;
+        return None;
     }
-    Number::Value(true, v)
+    Some((true, v))
 }

@@ -5,8 +5,8 @@ use Prim.Native.Nat.{ℕ, zero, suc, ◌+◌, ◌*◌, ◌≤◌, ◌<◌, min}
 use native.Mathlib.Omega.{arith}
 use lib.ListN.{length, get_or, drop, replicate, length-append, length-replicate, get_or-append}
 use lib.Seq.{sets, sets-eq, length-sets, length-take-le, get_or-take, get_or-append-add}
+use Rattle.std.specs.Prelude.{Ok}
 use Rattle.refusals.specs.Checks.{outcome}
-use Rattle.refusals.specs.declared.Outcome.TheVariants.{Taken}
 use Rattle.words.specs.declared.Row.{Row}
 use Rattle.dimensions.specs.declared.Dimensions.{Dimensions}
 use Rattle.dimensions.specs.Sizes.{row_count}
@@ -91,7 +91,7 @@ pub gathered-length : (d : Dimensions) (tables : Tables) → length (gathered d 
 unfolding gathered
 gathered-length d tables = length-sets {A = ℕ} (replicate 768 0) 0 (all_words d tables) ∙ length-replicate {A = ℕ} 768 0
 
-module _ (d : Dimensions) (tables : Tables) (e : outcome (table_checks d tables) ≡ Taken) where
+module _ (d : Dimensions) (tables : Tables) (e : outcome (table_checks d tables) ≡ Ok tt) where
   known : Accepted d tables
   known = accepted d tables e
 

@@ -1,15 +1,14 @@
 -- The words of tables stored one after the other, cut where there is no place left. By the laws of stores.
 use mathlib.Core.Path.{◌≡◌, refl, sym, ap, ap₂, ◌∙◌}
-use mathlib.Core.Bool.{true, false, ◌&&◌}
-use mathlib.Core.List.{List, [], ◌∷◌, ◌++◌}
-use Prim.Native.Nat.{ℕ, suc, ◌+◌, ◌*◌, ◌≤◌, ◌<◌}
-use native.Mathlib.Numerals.{add-one}
+use mathlib.Core.List.{List, [], ◌∷◌, ◌++◌, append_assoc}
+use Prim.Native.Nat.{ℕ, suc, ◌+◌, ◌-◌, ◌*◌, ◌≤◌, ◌<◌, min}
 use native.Mathlib.Omega.{arith}
 use lib.Dec.{ltb}
-use lib.ListN.{length, get_or, take, drop, set, replicate, length-take, take-append-drop}
-use lib.Seq.{sets, set_out, length-sets, length-take-le, get_or-take, take-suc, take_all}
+use lib.ListN.{length, take, drop, replicate, length-take, take-append-drop, drop_of_length-le}
+use lib.Seq.{sets, set_out, sets-eq, length-sets, length-take-le, take_all}
+use Rattle.std.proofs.lemmas.List.{take-take, drop-drop}
 use borrow.Author.Tests.{ltb-true, ltb-false}
-use Rattle.words.proofs.Truth.{on, and_l, and_r}
+use Rattle.words.proofs.Truth.{on}
 use Rattle.words.proofs.Stores.{sets_append}
 use Rattle.dimensions.specs.declared.Dimensions.{Dimensions}
 use Rattle.tables.specs.Tables.{Tables}
@@ -28,63 +27,32 @@ module _ (rows : ℕ) (words : List ℕ) where
   pub all-given : length words ≤ 2 * rows → length words ≡ length (table_words rows words)
   all-given h = sym (ap length (take_all (2 * rows) words h))
 
-  module _ (k : ℕ) (h : k < length (table_words rows words)) where
-    -- each is a word of the buffer
-    pub part-within : k < length words
-    part-within = omega (arith, length-take (2 * rows) words)
+  -- the first of them are the buffer's
+  pub front : (k : ℕ) → k ≤ length (table_words rows words) → take k (table_words rows words) ≡ take k words
+  front k h = take-take k (2 * rows) words (omega (arith, length-take (2 * rows) words))
 
-    part_at : get_or words k 0 ≡ get_or (table_words rows words) k 0
-    part_at = sym (get_or-take (2 * rows) words k 0 (omega (arith, length-take (2 * rows) words)))
+-- of words that go from place i on, those that have a place are stored
+module _ (xs l : List ℕ) (i from stored : ℕ) (start : from ≡ min i (length l)) (few : stored ≡ min (length xs) (length l - from)) where
+  there : sets l from (take stored xs) ≡ sets l i (take stored xs)
+  there =
+      on (ltb i (length l))
+      (λ e. let k : from ≡ i = omega (arith, ltb-true i (length l) e) in ap (λ (n : ℕ). sets l n (take stored xs)) k)
+      (λ e. let k : stored ≡ 0 = omega (arith, ltb-false i (length l) e) in rw k)
 
--- of a table's words, `end` in all, the first k are stored in l from place i on
-pub record Stored (rows : ℕ) (words l : List ℕ) (i end : ℕ) (all : List ℕ) (k : ℕ) : Type 0 where
-  pub count : end ≡ length (table_words rows words)
-  pub few : end ≤ 510
-  pub upto : k ≤ end
-  pub so_far : all ≡ sets l i (take k (table_words rows words))
+  -- the others change nothing
+  others : sets (sets l i (take stored xs)) (i + length (take stored xs)) (drop stored xs) ≡ sets l i (take stored xs)
+  others =
+      on (ltb stored (length xs))
+      (λ e. sets-out (drop stored xs) (sets l i (take stored xs)) (i + length (take stored xs))
+      (omega (arith, ltb-true stored (length xs) e, length-sets l i (take stored xs), length-take-le stored xs)))
+      (λ e. let h = ltb-false stored (length xs) e in let none : drop stored xs ≡ [] = rw drop_of_length-le in rw none)
 
-module _ (rows : ℕ) (words l : List ℕ) (i end : ℕ) (all : List ℕ) (k : ℕ) (stored : Stored rows words l i end all k) where
-  abbrev xs : List ℕ
-  xs = table_words rows words
-
-  pub stored-length : length all ≡ length l
-  stored-length = ap length stored.so_far ∙ length-sets l i (take k xs)
-
-  -- a turn: a word is left, and has a place
-  module _ (e : ltb k end && ltb (i + k) (length all) ≡ true) where
-    pub turn-left : k < end
-    turn-left = ltb-true k end (and_l (ltb k end) (ltb (i + k) (length all)) e)
-
-    pub turn-word : k < length words
-    turn-word = part-within rows words k (omega (arith, turn-left, stored.count))
-
-    pub turn-place : i + k < length all
-    turn-place = ltb-true (i + k) (length all) (and_r (ltb k end) (ltb (i + k) (length all)) e)
-
-    pub stored_more : Stored rows words l i end (set all (i + k) (get_or words k 0)) (k + 1)
-    stored_more =
-        let h : k < length xs = omega (arith, turn-left, stored.count) in
-        record {
-          count = stored.count;
-          few = stored.few;
-          upto = omega (arith, turn-left);
-          so_far = ap₂ (λ (x : List ℕ) (w : ℕ). set x (i + k) w) stored.so_far (part_at rows words k h)
-              ∙ sym (ap (λ (n : ℕ). sets l i (take n xs)) (add-one k) ∙ ap (sets l i) (take-suc xs k 0 h)
-              ∙ sets_append (take k xs) (get_or xs k 0 ∷ []) l i
-              ∙ ap (λ (n : ℕ). set (sets l i (take k xs)) (i + n) (get_or xs k 0)) (length-take-le k xs (omega arith)));
-        }
-
-  -- all of them, or all that have a place
-  pub stored-all : ltb k end && ltb (i + k) (length all) ≡ false → all ≡ sets l i (table_words rows words)
-  stored-all none =
-      let h : k ≤ length xs = omega (arith, stored.upto, stored.count) in
-      on (ltb k end)
-      (λ q.
-      let full : length all ≤ i + k = ltb-false (i + k) (length all) (rw q at none) in
-      stored.so_far
-      ∙ sym (ap (sets l i) (sym (take-append-drop k xs)) ∙ sets_append (take k xs) (drop k xs) l i
-      ∙ sets-out (drop k xs) (sets l i (take k xs)) (i + length (take k xs)) (omega (arith, ap length stored.so_far, length-take-le k xs h))))
-      (λ q. stored.so_far ∙ ap (sets l i) (take_all k xs (omega (arith, ltb-false k end q, stored.count))))
+  pub stored-all : take from l ++ (take stored xs ++ drop stored (drop from l)) ≡ sets l i xs
+  stored-all =
+      let n = length-take-le stored xs (omega arith) in
+      ap (λ (r : List ℕ). take from l ++ (take stored xs ++ r)) (drop-drop stored from l ∙ ap (λ (k : ℕ). drop (from + k) l) (sym n))
+      ∙ sym (append_assoc (take from l) (take stored xs) _) ∙ sym (sets-eq (take stored xs) l from (omega (arith, n)))
+      ∙ there ∙ sym others ∙ sym (sets_append (take stored xs) (drop stored xs) l i) ∙ ap (sets l i) (take-append-drop stored xs)
 
 -- ---- three tables
 

@@ -6,12 +6,13 @@ ghost use Rattle.std.specs.Prelude.{◌≡◌, ◌+◌, ◌*◌, ◌≤◌, ◌<
 ghost use Rattle.std.proofs.lemmas.List.Edits.{sets};
 ghost use Rattle.words.specs.Sets as Sets;
 ghost use Rattle.words.specs.Sameness as Sameness;
-ghost use Rattle.tables.specs.Tables.{lent_tables};
+ghost use Rattle.tables.specs.Tables.{lent_words, words_in};
 ghost use Rattle.tables.specs.Rows.{rows_from};
 ghost use Rattle.occurrences.specs.Index.{index_of};
 ghost use Rattle.occurrences.specs.RowWords.{table_words, gathered, literals_of, turned, replaced_sets};
 
 use dimensions::Dimensions;
+use tables::Tables;
 use words::Row;
 
 // ---- the words of all rows
@@ -36,22 +37,20 @@ fn store(words: &[u32], rows: u8, at: usize, all: &mut [u32]) -> usize
     ensures all_after { all.new ≡ sets all.old at (table_words rows words.now) }
 {
     let end = count(words, rows);
-    let mut k = 0;
-    while (k < end) & (at + k < all.len()) {
-        all[at + k] = words[k];
-        k += 1;
-    }
+    let from = at.min(all.len());
+    let stored = end.min(all.len() - from);
+    all[from..from + stored].copy_from_slice(&words[..stored]);
     at + end
 }
 
 // The words of the left rows, the right and the public ones, one after the other, and zeros.
-pub fn row_words(d: Dimensions, left: &[u32], right: &[u32], public: &[u32]) -> [u32; 768]
-    ensures { result ≡ gathered d (lent_tables left right public) }
+pub fn row_words(d: Dimensions, tables: Tables<'_>) -> [u32; 768]
+    ensures { result ≡ gathered d (lent_words tables) }
 {
     let mut all = [0u32; 768];
-    let right_at = store(left, d.left, 0, &mut all);
-    let public_at = store(right, d.right, right_at, &mut all);
-    store(public, d.public, public_at, &mut all);
+    let right_at = store(tables.left, d.left, 0, &mut all);
+    let public_at = store(tables.right, d.right, right_at, &mut all);
+    store(tables.public, d.public, public_at, &mut all);
     all
 }
 
@@ -70,11 +69,12 @@ fn turn_row(index: &mut [u64; 384], row: usize, literals: u64)
     ensures { index.new ≡ turned (Sets.bit literals) row index.old }
 {
     let mut left = literals;
+    // A loop: std has no iterator over the bits of a word.
     while left != 0 {
         let l = u64::trailing_zeros(left) as usize;
-        left = left & (left - 1);
+        left &= left - 1;
         let at = 6 * l + row / 64;
-        index[at] = index[at] ^ 1 << (row % 64);
+        index[at] ^= 1 << (row % 64);
     }
 }
 
@@ -102,26 +102,14 @@ pub fn fill(words: &[u32; 768], rows: usize, index: &mut [u64; 384])
     ensures { index.new ≡ index_of (rows_from words.now 0 (min rows 384)) }
 {
     *index = [0u64; 384];
-    let mut r = 0;
-    while (r < rows) & (r < 384) {
+    for r in 0..rows.min(384) {
         add_row(words, r, index);
-        r += 1;
     }
 }
 
-// Whether two indexes are the same words. They are lent as slices, since of these the length is known.
+// Whether two indexes are the same words.
 pub fn same(a: &[u64], b: &[u64]) -> bool
     ensures { result ≡ Sameness.same a.now b.now }
 {
-    if a.len() != b.len() {
-        return false;
-    }
-    let mut i = 0;
-    while i < a.len() {
-        if a[i] != b[i] {
-            return false;
-        }
-        i += 1;
-    }
-    true
+    a == b
 }

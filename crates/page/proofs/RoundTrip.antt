@@ -10,10 +10,10 @@ use lib.Dec.{eqb}
 use lib.ListN.{length, get_or, take}
 use lib.Seq.{sets, length-sets, get_or-take}
 use borrow.Author.Tests.{not-false, le-ltb}
+use Rattle.std.specs.Prelude.{Ok, Err}
+use Rattle.refusals.specs.Numbers.{Outcome}
 use Rattle.refusals.specs.Checks.{check, outcome, given}
 use Rattle.refusals.specs.declared.Refusal.TheVariants.{Variables, PageForm}
-use Rattle.refusals.specs.declared.Outcome.{Outcome}
-use Rattle.refusals.specs.declared.Outcome.TheVariants.{Taken}
 use Rattle.refusals.proofs.Outcomes.{check_passed, checks-taken, outcome_parts}
 use Rattle.words.specs.Sets.{bit}
 use Rattle.words.proofs.WordOf.{word_of_lt, word_of_bit, word_of_cong}
@@ -23,7 +23,6 @@ use Rattle.words.specs.Sameness.{same}
 use Rattle.dimensions.specs.Sizes.{outside}
 use Rattle.dimensions.proofs.Limits.{least, most}
 use Rattle.state.specs.declared.Run.{Run}
-use Rattle.verdicts.specs.declared.Modelled.TheVariants.{Model, Refused}
 use Rattle.verdicts.specs.Verdicts.{model_checks, model_of}
 use Rattle.page.specs.Page.{pilot_line, page_of}
 use Rattle.page.specs.Reading.{mark_place, marked, is_page}
@@ -84,24 +83,24 @@ module _ (n p s size m : ℕ) (w : Shape n p s size) where
 
 -- "the model can be read off it again": whatever page has the page of a model in front is read as that model, so that 27 says that no
 -- model's page is there
-pub page-read : (n p s m : ℕ) (page : List ℕ) → outside 32 n ≡ false → outcome (shape_checks n p s (length page)) ≡ Taken → m < 2 ^ n
-    → take (80 * p) page ≡ page_of p s m → model_on n p s page ≡ Model m
+pub page-read : (n p s m : ℕ) (page : List ℕ) → outside 32 n ≡ false → outcome (shape_checks n p s (length page)) ≡ Ok tt → m < 2 ^ n
+    → take (80 * p) page ≡ page_of p s m → model_on n p s page ≡ Ok m
 unfolding is_page
 page-read n p s m page h taken low e =
     let w = shape_taken n p s (length page) (least 32 n h) (most 32 n h) taken in
     let says = marks_say n p s (length page) m w page low e in
     sym (read-model n p s page h taken
     (ap₂ same e (ap (page_of p s) says) ∙ same_self (page_of p s m)))
-    ∙ ap Model says
+    ∙ ap Ok says
 
 -- a page that is read is exactly the page of the model read, which is one of n variables
-pub read-page : (n p s m : ℕ) (page : List ℕ) → model_on n p s page ≡ Model m → (take (80 * p) page ≡ page_of p s m) × (m < 2 ^ n)
+pub read-page : (n p s m : ℕ) (page : List ℕ) → model_on n p s page ≡ Ok m → (take (80 * p) page ≡ page_of p s m) × (m < 2 ^ n)
 unfolding is_page marked
 read-page n p s m page e =
     let parts = model-read n p s page m (sym e) in
     let form = (outcome_parts (shape_checks n p s (length page)) (check (not (is_page n p s page)) PageForm ∷ [])
     (checks-taken (outside 32 n) Variables _ parts.0)).1 in
-    let is : is_page n p s page ≡ true = not-false (is_page n p s page) (check_passed (not (is_page n p s page)) PageForm Taken form) in (
+    let is : is_page n p s page ≡ true = not-false (is_page n p s page) (check_passed (not (is_page n p s page)) PageForm (Ok tt) form) in (
       same_true (take (80 * p) page) (page_of p s (marked n s page)) is ∙ ap (page_of p s) (sym parts.1),
       subst (λ (x : ℕ). x < 2 ^ n) (sym parts.1) (word_of_lt (λ v. eqb (get_or page (mark_place s v) 0) 35) n),
     )
@@ -111,7 +110,7 @@ inside : (n : ℕ) → 1 ≤ n → n ≤ 32 → outside 32 n ≡ false
 inside n h k = rw (le-ltb n 1 h, le-ltb 32 n k)
 
 -- "The page shows the model of the run it was made from": what is read off the page of a run is the run's model
-pub run-shown : (run : Run) (p s : ℕ) (page : List ℕ) → outcome (page_checks run p s (length page)) ≡ Taken
+pub run-shown : (run : Run) (p s : ℕ) (page : List ℕ) → outcome (page_checks run p s (length page)) ≡ Ok tt
     → model_on run.n p s (page_after run p s page) ≡ model_of run
 unfolding page_after model_of
 run-shown run p s page e =
@@ -126,4 +125,4 @@ run-shown run p s page e =
     (ap (λ (k : ℕ). outcome (shape_checks run.n p s k)) size ∙ parts.1)
     f.low
     (ap (take (80 * p)) left ∙ stored-take page (page_of p s run.t) (subst (λ (k : ℕ). k ≤ length page) (sym long) w.fits) (80 * p) long)
-    ∙ sym (ap (λ (o : Outcome). given o (Model run.t) Refused) parts.0)
+    ∙ sym (ap (λ (o : Outcome). given o (Ok run.t) Err) parts.0)

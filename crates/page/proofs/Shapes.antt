@@ -7,9 +7,9 @@ use native.Mathlib.Nat.{mul-zero, mul-suc, mul_comm, mul-le-mul}
 use native.Mathlib.Omega.{arith}
 use lib.Dec.{eqb, ltb}
 use borrow.Author.Tests.{eqb-true, eq-eqb, ne_eqb, lt-ltb, le-ltb, ltb-false, not-false}
+use Rattle.std.specs.Prelude.{Ok, Err}
 use Rattle.refusals.specs.Checks.{outcome}
 use Rattle.refusals.specs.declared.Refusal.TheVariants.{WatchCount, PageBuffer}
-use Rattle.refusals.specs.declared.Outcome.TheVariants.{Taken, Refused}
 use Rattle.refusals.proofs.Outcomes.{check_passed, checks-taken}
 use Rattle.page.specs.Entries.{shape_checks}
 
@@ -23,21 +23,21 @@ pub small_product : (a b : ℕ) → a ≤ 32 → b ≤ 32 → a * b ≤ 1024
 small_product a b h k = mul-le-mul h k
 
 module _ (n p s size : ℕ) where
-  pub refuse_product : (p * s ≡ n → ⊥) → Refused WatchCount ≡ outcome (shape_checks n p s size)
+  pub refuse_product : (p * s ≡ n → ⊥) → Err WatchCount ≡ outcome (shape_checks n p s size)
   refuse_product h = rw (ne_eqb (p * s) n h)
 
   module _ (low : 1 ≤ n) (most : n ≤ 32) where
-    pub refuse_pilots : 32 < p → Refused WatchCount ≡ outcome (shape_checks n p s size)
+    pub refuse_pilots : 32 < p → Err WatchCount ≡ outcome (shape_checks n p s size)
     refuse_pilots h = refuse_product (λ e. omega (arith, factor p s n low e))
 
-    pub refuse_watches : 32 < s → Refused WatchCount ≡ outcome (shape_checks n p s size)
+    pub refuse_watches : 32 < s → Err WatchCount ≡ outcome (shape_checks n p s size)
     refuse_watches h = refuse_product (λ e. omega (arith, factor s p n low (mul_comm s p ∙ e)))
 
   module _ (product : p * s ≡ n) where
-    pub refuse_size : size < 80 * p → Refused PageBuffer ≡ outcome (shape_checks n p s size)
+    pub refuse_size : size < 80 * p → Err PageBuffer ≡ outcome (shape_checks n p s size)
     refuse_size h = rw (eq-eqb (p * s) n product, lt-ltb size (80 * p) h)
 
-    pub take_shape : 80 * p ≤ size → Taken ≡ outcome (shape_checks n p s size)
+    pub take_shape : 80 * p ≤ size → Ok tt ≡ outcome (shape_checks n p s size)
     take_shape h = rw (eq-eqb (p * s) n product, le-ltb size (80 * p) h)
 
 -- what a shape that is taken has
@@ -49,10 +49,10 @@ pub record Shape (n p s size : ℕ) : Type 0 where
   pub fits : 80 * p ≤ size
 
 -- numbers that pass the checks have n for their product, and the page has room for a line a pilot
-pub shape_taken : (n p s size : ℕ) → 1 ≤ n → n ≤ 32 → outcome (shape_checks n p s size) ≡ Taken → Shape n p s size
+pub shape_taken : (n p s size : ℕ) → 1 ≤ n → n ≤ 32 → outcome (shape_checks n p s size) ≡ Ok tt → Shape n p s size
 shape_taken n p s size low most e =
     let product : p * s ≡ n = eqb-true (p * s) n (not-false (eqb (p * s) n) (check_passed (not (eqb (p * s) n)) WatchCount _ e)) in
-    let long = check_passed (ltb size (80 * p)) PageBuffer Taken (checks-taken (not (eqb (p * s) n)) WatchCount _ e) in
+    let long = check_passed (ltb size (80 * p)) PageBuffer (Ok tt) (checks-taken (not (eqb (p * s) n)) WatchCount _ e) in
     let a = factor p s n low product in
     let b = factor s p n low (mul_comm s p ∙ product) in
     record {

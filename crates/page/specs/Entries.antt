@@ -1,14 +1,13 @@
 -- What the entries give: document 02, "The watch page", refusals 12, 14, 25, 26 for a page that is made and 1, 25, 26, 27 for one that is
 -- read, "in that order".
 -- Ask: Is p × s a product of numbers, and 12, 14, 25, 26 the order, or 1, 25, 26, 27?
-use Rattle.std.specs.Prelude.{ℕ, ◌*◌, not, List, [], ◌∷◌, ◌++◌, eqb, ltb, length}
+use Rattle.refusals.specs.declared.Refusal.{Refusal}
+use Rattle.std.specs.Prelude.{ℕ, ◌*◌, not, List, [], ◌∷◌, ◌++◌, eqb, ltb, length, Result, Ok, Err}
 use Rattle.std.proofs.lemmas.List.Edits.{sets}
 use Rattle.refusals.specs.Checks.{Check, check, outcome, given}
 use Rattle.refusals.specs.declared.Refusal.TheVariants.{Variables, WatchCount, PageBuffer, PageForm}
 use Rattle.dimensions.specs.Sizes.{most_variables, outside}
 use Rattle.state.specs.declared.Run.{Run}
-use Rattle.verdicts.specs.declared.Modelled.{Modelled}
-use Rattle.verdicts.specs.declared.Modelled.TheVariants as modelled
 use Rattle.verdicts.specs.Verdicts.{model_checks}
 use Rattle.page.specs.Page.{page_of}
 use Rattle.page.specs.Reading.{marked, is_page}
@@ -31,6 +30,6 @@ read_page_checks n p s page =
     check (outside most_variables n) Variables ∷ shape_checks n p s (length page) ++ check (not (is_page n p s page)) PageForm ∷ []
 
 -- the model on a page of n variables, or why there is none
-unfoldable pub model_on : ℕ → ℕ → ℕ → List ℕ → Modelled
+unfoldable pub model_on : ℕ → ℕ → ℕ → List ℕ → Result ℕ Refusal
 unfolding marked is_page
-model_on n p s page = given (outcome (read_page_checks n p s page)) (modelled.Model (marked n s page)) modelled.Refused
+model_on n p s page = given (outcome (read_page_checks n p s page)) (Ok (marked n s page)) Err

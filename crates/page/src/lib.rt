@@ -13,9 +13,8 @@ ghost use Rattle.page.specs.Reading as Reading;
 ghost use Rattle.page.specs.Entries.{shape_checks, page_checks, page_after, read_page_checks, model_on};
 
 use dimensions::Dimensions;
-use refusals::{Outcome, Refusal};
+use refusals::Refusal;
 use state::Run;
-use verdicts::Modelled;
 
 // The byte of a number of at most two digits in one of the three columns, from 0, in which it is right-aligned.
 fn number_at(number: usize, column: usize) -> u8
@@ -64,9 +63,8 @@ fn put_page(model: u32, pilots: usize, watches: usize, page: &mut [u8])
     requires { (pilots ≤ 32) × (watches ≤ 32) × (80 * pilots ≤ length page.old) }
     ensures { page.new ≡ sets page.old 0 (page_of pilots watches model) }
 {
-    let end = 80 * pilots;
-    for q in 0..end {
-        page[q] = byte_at(model, watches, q / 80, q % 80);
+    for (q, byte) in page[..80 * pilots].iter_mut().enumerate() {
+        *byte = byte_at(model, watches, q / 80, q % 80);
     }
 }
 
@@ -75,9 +73,9 @@ fn is_page(model: u32, pilots: usize, watches: usize, page: &[u8]) -> bool
     requires { (pilots ≤ 32) × (watches ≤ 32) × (80 * pilots ≤ length page.now) }
     ensures { result ≡ same (take (80 * pilots) page.now) (page_of pilots watches model) }
 {
-    let end = 80 * pilots;
-    for q in 0..end {
-        if page[q] != byte_at(model, watches, q / 80, q % 80) {
+    // A loop: `all` over the same bytes read a page a third slower.
+    for (q, byte) in page[..80 * pilots].iter().enumerate() {
+        if *byte != byte_at(model, watches, q / 80, q % 80) {
             return false;
         }
     }
@@ -97,9 +95,7 @@ fn marked(n: usize, watches: usize, page: &[u8]) -> u32
     ensures { result ≡ Reading.marked n watches page.now }
 {
     let mut word = 0u32;
-    let mut v = n;
-    while 0 < v {
-        v -= 1;
+    for v in (0..n).rev() {
         let at = 80 * (v / watches) + (4 + 2 * (v % watches));
         word = (byte(page, at) == b'#') as u32 + 2 * word;
     }
@@ -108,69 +104,69 @@ fn marked(n: usize, watches: usize, page: &[u8]) -> u32
 
 // Whether p pilots with s watches each are n variables, and the lent bytes are enough for their page: 25 or 26 if not. Numbers above n are
 // no factors of it, and the product of two that are not above 32 is no machine word's remainder.
-fn check_shape(n: usize, pilots: usize, watches: usize, size: usize) -> Outcome
+fn check_shape(n: usize, pilots: usize, watches: usize, size: usize) -> Result<(), Refusal>
     requires { (1 ≤ n) × (n ≤ 32) }
     ensures { result ≡ outcome (shape_checks n pilots watches size) }
 {
     if 32 < pilots {
-        return Outcome::Refused(Refusal::WatchCount);
+        return Err(Refusal::WatchCount);
     }
     if 32 < watches {
-        return Outcome::Refused(Refusal::WatchCount);
+        return Err(Refusal::WatchCount);
     }
     if pilots * watches != n {
-        return Outcome::Refused(Refusal::WatchCount);
+        return Err(Refusal::WatchCount);
     }
     if size < 80 * pilots {
-        return Outcome::Refused(Refusal::PageBuffer);
+        return Err(Refusal::PageBuffer);
     }
-    Outcome::Taken
+    Ok(())
 }
 
 // Writes the page of a model of n variables: 25 or 26 if it is refused, and the page is then as it was.
-fn show_model(n: usize, model: u32, pilots: usize, watches: usize, page: &mut [u8]) -> Outcome
+fn show_model(
+    n: usize,
+    model: u32,
+    pilots: usize,
+    watches: usize,
+    page: &mut [u8],
+) -> Result<(), Refusal>
     requires { (1 ≤ n) × (n ≤ 32) }
     ensures value { result ≡ outcome (shape_checks n pilots watches (length page.old)) }
     ensures page_after { page.new ≡ given result (sets page.old 0 (page_of pilots watches model)) (λ _. page.old) }
 {
-    match check_shape(n, pilots, watches, page.len()) {
-        Outcome::Taken => {}
-        Outcome::Refused(refusal) => return Outcome::Refused(refusal),
-    }
+    check_shape(n, pilots, watches, page.len())?;
     put_page(model, pilots, watches, page);
-    Outcome::Taken
+    Ok(())
 }
 
 // Writes the page of a run's model, 80 bytes for each of p pilots with s watches, over the front of the lent bytes: 12, 14, 25 or 26 if it
 // is refused, and the page is then as it was. Bytes past the page stay.
-pub fn show(run: Run, pilots: usize, watches: usize, page: &mut [u8]) -> Outcome
+pub fn show(run: Run, pilots: usize, watches: usize, page: &mut [u8]) -> Result<(), Refusal>
     ensures value { result ≡ outcome (page_checks run pilots watches (length page.old)) }
     ensures page_after { page.new ≡ page_after run pilots watches page.old }
     ensures result_value { code_of result ∷ [] ≡ said (outcome (page_checks run pilots watches (length page.old))) [] }
 {
     match verdicts::model(run) {
-        Modelled::Model(model) => show_model(run.n as usize, model, pilots, watches, page),
-        Modelled::Refused(refusal) => Outcome::Refused(refusal),
+        Ok(model) => show_model(run.n as usize, model, pilots, watches, page),
+        Err(refusal) => Err(refusal),
     }
 }
 
 // The model of n variables on a page of so many pilots with so many watches each: 1, 25, 26 or 27 if there is none. Bytes past the page are
 // not looked at.
-pub fn read(n: usize, pilots: usize, watches: usize, page: &[u8]) -> Modelled
+pub fn read(n: usize, pilots: usize, watches: usize, page: &[u8]) -> Result<u32, Refusal>
     ensures value { result ≡ model_on n pilots watches page.now }
     ensures result_value { model_code result ∷ model_numbers result ≡ said (outcome (read_page_checks n pilots watches page.now))
         (Reading.marked n watches page.now ∷ []) }
 {
     if (n < 1) | (Dimensions::VARIABLES < n as u64) {
-        return Modelled::Refused(Refusal::Variables);
+        return Err(Refusal::Variables);
     }
-    match check_shape(n, pilots, watches, page.len()) {
-        Outcome::Taken => {}
-        Outcome::Refused(refusal) => return Modelled::Refused(refusal),
-    }
+    check_shape(n, pilots, watches, page.len())?;
     let model = marked(n, watches, page);
     if !is_page(model, pilots, watches, page) {
-        return Modelled::Refused(Refusal::PageForm);
+        return Err(Refusal::PageForm);
     }
-    Modelled::Model(model)
+    Ok(model)
 }

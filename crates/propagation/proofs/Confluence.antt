@@ -13,7 +13,7 @@ use Rattle.words.specs.Sets.{bit}
 use Rattle.words.proofs.Truth.{and_l, and_i, mp, on, taut2}
 use Rattle.words.proofs.Upto.{any_none, count_le}
 use Rattle.tables.specs.Rows.{padding, free}
-use Rattle.scan.specs.Rules.{any_row, unsatisfied_with, forces, forced_variable, forced_true}
+use Rattle.scan.specs.Rules.{any_row, unsatisfied_with, forced_variable, forced_true}
 use Rattle.scan.proofs.RowLaws.{In, any-row_e, no_row}
 use Rattle.truth.proofs.RuleLaws.{Forces, forced-forces}
 use Rattle.truth.proofs.FreeVariables.{free_among, free_le, free-less_t, free-less-f}

@@ -9,7 +9,7 @@ use native.Mathlib.Omega.{arith}
 use lib.Dec.{eqb}
 use borrow.Author.Tests.{eqb-true, eqb-false, eq-eqb, ne_eqb, not-true}
 use Rattle.words.specs.declared.Row.{Row}
-use Rattle.words.specs.Booleans.{imp, digit}
+use Rattle.words.specs.Booleans.{imp}
 use Rattle.words.specs.Sets.{bit, put, any, count}
 use Rattle.words.proofs.Truth.{and_l, and_r, and_i, mp, imp-i, on, taut2, taut4}
 use Rattle.words.proofs.Upto.{any_e, count_none, count-one}

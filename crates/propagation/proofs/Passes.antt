@@ -4,7 +4,7 @@ use mathlib.Core.Path.{◌≡◌, refl, sym, ap, ◌∙◌}
 use mathlib.Core.Logic.{◌⊎◌, inl, inr}
 use mathlib.Core.Bool.{Bool, true, false, not, ◌&&◌, true≢false, false≢true}
 use mathlib.Core.List.{List, [], ◌∷◌}
-use Prim.Native.Nat.{ℕ, zero, suc, ◌+◌, ◌-◌, ◌≤◌, ◌<◌}
+use Prim.Native.Nat.{ℕ, suc, ◌+◌, ◌-◌, ◌≤◌, ◌<◌}
 use native.Mathlib.Numerals.{add-one}
 use native.Mathlib.Omega.{arith}
 use lib.Dec.{eqb}
@@ -15,7 +15,7 @@ use Rattle.words.proofs.Truth.{and_l, and_r, and_i, on}
 use Rattle.words.proofs.Upto.{count-some, lowest_hit}
 use Rattle.words.proofs.Bits.{Within}
 use Rattle.tables.specs.Rows.{row_at, rows_from, free, free_in}
-use Rattle.scan.specs.Rules.{all_rows, unsatisfied_with, forces}
+use Rattle.scan.specs.Rules.{all_rows, unsatisfied_with}
 use Rattle.scan.proofs.RowLaws.{In, in_head, in_tail}
 use Rattle.truth.proofs.RuleLaws.{with-count}
 use Rattle.propagation.specs.declared.Propagated.{Propagated}
@@ -31,11 +31,10 @@ use Rattle.propagation.proofs.RowPass.{at}
 module _ (words : List ℕ) (count t f : ℕ) where
   -- what the rows left give is what all give
   pub record Left (i held denied : ℕ) : Type 0 where
-    pub within : i ≤ count
     pub same : after_rows (rows_from words i (count - i)) held denied ≡ after_rows (rows_from words 0 count) t f
 
   pub left-start : Left 0 t f
-  left-start = record { within = omega arith; same = ap (λ (k : ℕ). after_rows (rows_from words 0 k) t f) (let e : count - 0 ≡ count = omega arith in e) }
+  left-start = record { same = ap (λ (k : ℕ). after_rows (rows_from words 0 k) t f) (let e : count - 0 ≡ count = omega arith in e) }
 
   module _ (i held denied : ℕ) (l : Left i held denied) where
     first : i < count → rows_from words i (count - i) ≡ row_at words i ∷ rows_from words (i + 1) (count - (i + 1))
@@ -55,7 +54,6 @@ module _ (words : List ℕ) (count t f : ℕ) where
       left-more c =
           let c' : (after_row (row_at words i) held denied).conflict ≡ false = ap (λ (y : Propagated). y.conflict) (sym e) ∙ c in
           record {
-            within = omega arith;
             same =
                 ap (λ (y : Propagated). after_rows (rows_from words (i + 1) (count - (i + 1))) y.t y.f) e
                 ∙ sym (ap (λ (rs : List Row). after_rows rs held denied) (first h) ∙ rw c' refl) ∙ l.same;

@@ -1,7 +1,7 @@
 -- A clause that follows is true wherever all rows are: an assignment that makes it false agrees with its negation, then with each forced literal, and so makes
 -- every row true but the one in conflict.
 use mathlib.Core.Path.{◌≡◌, refl, ap}
-use mathlib.Core.Bool.{Bool, true, false, not, ◌&&◌, ◌||◌, false≢true}
+use mathlib.Core.Bool.{Bool, true, false, not, ◌&&◌, false≢true}
 use mathlib.Core.List.{List}
 use Prim.Native.Nat.{ℕ, zero, suc}
 use Rattle.words.specs.declared.Row.{Row}

@@ -1,6 +1,6 @@
 -- That a conflict can be reached by forcing literals, in whatever order. `reaches` takes the lowest variable first; that it makes no
 -- difference is proved in proofs/Confluence.
-use Rattle.std.specs.Prelude.{ℕ, ◌<◌, ◌≡◌, Bool, true, List}
+use Rattle.std.specs.Prelude.{ℕ, ◌<◌, ◌≡◌, true, List}
 use Rattle.words.specs.declared.Row.{Row}
 use Rattle.words.specs.Sets.{bit}
 use Rattle.scan.specs.Rules.{unsatisfied_with, forces}

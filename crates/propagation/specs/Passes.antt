@@ -1,5 +1,5 @@
 -- Passes over rows, as code makes them: each row is read with the literals that those before it forced.
-use Rattle.std.specs.Prelude.{ℕ, ◌<◌, ◌≡◌, Bool, true, false, ◌&&◌, cond, List, [], ◌∷◌}
+use Rattle.std.specs.Prelude.{ℕ, ◌<◌, ◌≡◌, true, false, ◌&&◌, cond, List, [], ◌∷◌}
 use Rattle.words.specs.declared.Row.{Row}
 use Rattle.words.specs.Sets.{bit, lowest}
 use Rattle.tables.specs.Rows.{free_in}

@@ -2,8 +2,7 @@
 // (document 02, "Proofs from other solvers").
 #![tactic(auto)]
 
-ghost use Rattle.std.specs.Prelude.{◌≡◌, ◌*◌, ◌≤◌, length};
-ghost use Rattle.tables.specs.Rows.{rows_from};
+ghost use Rattle.std.specs.Prelude.{◌≡◌};
 ghost use Rattle.scan.specs.Rules.{rows_of_words};
 ghost use Rattle.propagation.specs.Propagation as Propagation;
 ghost use Rattle.propagation.specs.Passes.{Apart, after_row, after_rows};
@@ -59,49 +58,40 @@ fn force_row(row: Row, t: u32, f: u32) -> Propagated
 }
 
 // T and F after rows, each of which is read with the literals that those before it forced; up to the first row in conflict.
-fn force_rows(words: &[u32], count: usize, t: u32, f: u32) -> Propagated
-    requires { 2 * count ≤ length words.now }
-    ensures { result ≡ after_rows (rows_from words.now 0 count) t f }
+fn force_rows(rows: &[u32], mut t: u32, mut f: u32) -> Propagated
+    ensures { result ≡ after_rows (rows_of_words rows.now) t f }
 {
-    let mut held = t;
-    let mut denied = f;
-    let mut i = 0;
-    while i < count {
-        let positive = words[2 * i];
-        let negative = words[2 * i + 1];
-        let next = force_row(Row { positive, negative }, held, denied);
+    for &[positive, negative] in rows.as_chunks::<2>().0 {
+        let next = force_row(Row { positive, negative }, t, f);
         if next.conflict {
             return next;
         }
-        held = next.t;
-        denied = next.f;
-        i += 1;
+        t = next.t;
+        f = next.f;
     }
     Propagated {
         conflict: false,
-        t: held,
-        f: denied,
+        t,
+        f,
     }
 }
 
 // Whether a conflict is reached from T and F on: pass after pass, until a row is in conflict or a pass forces nothing.
-fn reaches(words: &[u32], count: usize, t: u32, f: u32) -> bool
-    requires count_in_bounds { 2 * count ≤ length words.now }
-    requires apart { Apart t f }
-    ensures { result ≡ Propagation.reaches 33 (rows_from words.now 0 count) t f }
+fn reaches(rows: &[u32], mut t: u32, mut f: u32) -> bool
+    requires { Apart t f }
+    ensures { result ≡ Propagation.reaches 33 (rows_of_words rows.now) t f }
 {
-    let mut held = t;
-    let mut denied = f;
+    // A loop: a pass that forces nothing ends it, and no range or list says how many there are.
     loop {
-        let next = force_rows(words, count, held, denied);
+        let next = force_rows(rows, t, f);
         if next.conflict {
             return true;
         }
-        if (next.t == held) & (next.f == denied) {
+        if (next.t == t) & (next.f == f) {
             return false;
         }
-        held = next.t;
-        denied = next.f;
+        t = next.t;
+        f = next.f;
     }
 }
 
@@ -112,5 +102,5 @@ pub fn follows(rows: &[u32], clause: Row) -> bool
     if clause.positive & clause.negative != 0 {
         return true;
     }
-    reaches(rows, rows.len() / 2, clause.negative, clause.positive)
+    reaches(rows, clause.negative, clause.positive)
 }

@@ -1,8 +1,8 @@
 -- The variables of one line, a number at a time: what is left of the line gives with the variables so far what the whole line gives.
+use Rattle.std.specs.Prelude.{Option, Some, None}
 use mathlib.Core.Path.{◌≡◌, refl, sym, ap, ap₂, ◌∙◌}
 use mathlib.Core.Bool.{Bool, true, false, not, ◌||◌, cond}
 use mathlib.Core.List.{List, [], ◌∷◌}
-use mathlib.Core.Option.{Option, none, some}
 use Prim.Native.Nat.{ℕ, zero, suc, ◌+◌, ◌-◌, ◌*◌, ◌^◌, ◌≤◌, ◌<◌}
 use native.Mathlib.Nat.{mul-le-mul}
 use native.Mathlib.Omega.{arith}
@@ -17,7 +17,6 @@ use Rattle.lexer.specs.Places.{part}
 use Rattle.lexer.proofs.Cuts.{Found}
 use Rattle.numbers.specs.Numbers.{Number, number, malformed, number_read}
 use Rattle.numbers.specs.CappedNumbers.{held, number_held}
-use Rattle.numbers.specs.declared.Number.TheVariants as L
 use Rattle.numbers.proofs.Decimals.{held-value, held_none}
 use Rattle.header.specs.Header.{beyond}
 use Rattle.header.proofs.Limits.{within}
@@ -109,10 +108,10 @@ rest_held n told p o = line_held n p (cond told o (some_variable o))
 
 number_more : (n : ℕ) (told : Bool) (p : Prefix) (u s : Bool) (w : ℕ) (ps : List Piece) (o : Option (List Bound))
     → rest_held n told p (bound_then u (number s (suc w)) ps o) ≡ rest_held n true (bound_by n p u s (suc w)) o
-number_more n true p u s w ps none = refl
-number_more n true p u s w ps (some bs) = refl
-number_more n false p u s w ps none = refl
-number_more n false p u s w ps (some bs) = refl
+number_more n true p u s w ps None = refl
+number_more n true p u s w ps (Some bs) = refl
+number_more n false p u s w ps None = refl
+number_more n false p u s w ps (Some bs) = refl
 
 number-last : (n : ℕ) (told : Bool) (p : Prefix) (u s : Bool) (ps : List Piece) (o : Option (List Bound))
     → rest_held n told p (bound_then u (number s zero) ps o) ≡ cond (last_part told ps) (Passed p) Malformed
@@ -121,7 +120,7 @@ number-last n true p u s (q ∷ qs) o = refl
 number-last n false p u s [] o = refl
 number-last n false p u s (q ∷ qs) o = refl
 
-none-held : (n : ℕ) (told : Bool) (p : Prefix) → rest_held n told p none ≡ Malformed
+none-held : (n : ℕ) (told : Bool) (p : Prefix) → rest_held n told p None ≡ Malformed
 none-held n true p = refl
 none-held n false p = refl
 
@@ -151,10 +150,10 @@ module _ {line : List ℕ} {start n : ℕ} {u : Bool} {before p : Prefix} {at : 
         ∙ ap (λ (ps : List Piece). rest_held n (ltb start at) p (bound_on u ps)) f.pieces
         ∙ ap (λ (y : Number). rest_held n (ltb start at) p (bound_then u y (parts_from is_blank line to) (bound_on u (parts_from is_blank line to)))) e
 
-    pub no_such_number : number_held (number_read (part from to line)) ≡ L.Malformed → Malformed ≡ given-line
+    pub no_such_number : number_held (number_read (part from to line)) ≡ None → Malformed ≡ given-line
     no_such_number e = sym (by_number malformed (held_none (number_read (part from to line)) e) ∙ none-held n (ltb start at) p)
 
-    module _ (minus : Bool) (v : ℕ) (e : number_held (number_read (part from to line)) ≡ L.Value minus v) where
+    module _ (minus : Bool) (v : ℕ) (e : number_held (number_read (part from to line)) ≡ Some (minus, v)) where
       pub closes : v ≡ 0 → given-line ≡ cond (last_part (ltb start at) (parts_from is_blank line to)) (Passed p) Malformed
       closes z =
           let x = held-value (number_read (part from to line)) minus v e in

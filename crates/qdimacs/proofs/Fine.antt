@@ -1,8 +1,8 @@
 -- What holds of every game that is read: 1 to 12 turns of different variables, one for each of the n variables, and at most 128 rows, which hold no others.
+use Rattle.std.specs.Prelude.{Option, Some, None}
 use mathlib.Core.Path.{◌≡◌, refl, ap, ◌∙◌}
 use mathlib.Core.Bool.{true, ◌&&◌}
 use mathlib.Core.List.{List}
-use mathlib.Core.Option.{Option, none, some}
 use Prim.Native.Nat.{ℕ, ◌≤◌, ◌<◌}
 use native.Mathlib.Omega.{arith}
 use lib.Dec.{eqb, ltb}
@@ -43,8 +43,8 @@ Fine (no_game r) = Unit
 
 on_fine : (n m : ℕ) → 1 ≤ n → n ≤ 12 → (1 ≤ m) × (m ≤ 128) → (o : Option (List Bound)) (x : Reading) → is_below_all n x ≡ true
     → Fine (game_on n m o x)
-on_fine n m one few hm none x b = tt
-on_fine n m one few hm (some bs) x b =
+on_fine n m one few hm None x b = tt
+on_fine n m one few hm (Some bs) x b =
     on (complete x && eqb (length (clause_rows x)) m)
     (λ c. on (proper n bs)
     (λ p. let k : length (clause_rows x) ≡ m = eqb-true _ m (and_r (complete x) _ c) in

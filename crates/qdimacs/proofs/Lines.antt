@@ -1,8 +1,8 @@
 -- The lines of a text one at a time: without its remarks, in the text as it is, and as tokens.
+use Rattle.std.specs.Prelude.{Option, Some, None}
 use mathlib.Core.Path.{◌≡◌, refl, sym, ap, ap₂, ◌∙◌, subst}
 use mathlib.Core.Bool.{Bool, true, false, not, cond}
 use mathlib.Core.List.{List, [], ◌∷◌, ◌++◌}
-use mathlib.Core.Option.{Option, none, some}
 use Prim.Native.Nat.{ℕ, suc, ◌+◌, ◌-◌, ◌≤◌, ◌<◌}
 use native.Mathlib.Numerals.{add-one}
 use native.Mathlib.Omega.{arith}
@@ -23,7 +23,6 @@ use Rattle.qdimacs.specs.Walk.{LineCut, unless, line_ahead, line_cut, passed_by,
 use Rattle.qdimacs.specs.declared.Prefix.{Prefix}
 use Rattle.qdimacs.specs.declared.PrefixLine.{PrefixLine}
 use Rattle.qdimacs.specs.declared.PrefixLine.TheVariants.{Passed, Clauses, Malformed}
-use Rattle.qdimacs.specs.declared.PrefixEnd.TheVariants.{At}
 
 abbrev in_line : ℕ → Bool
 in_line b = not (is_line_feed b)
@@ -211,19 +210,19 @@ module _ (n : ℕ) (p : Prefix) (l : List ℕ) (ls : List (List ℕ)) where
   -- what a line leads to; `out` says whether it is passed by
   abbrev Leads : Bool → PrefixLine → Type 0
   Leads out (Passed q) = walked n p (unless out l ls) ≡ walked n q ls
-  Leads out Clauses = walked n p (unless out l ls) ≡ some (record { prefix = p; rest = unless out l ls })
-  Leads out Malformed = walked n p (unless out l ls) ≡ none
+  Leads out Clauses = walked n p (unless out l ls) ≡ Some (record { prefix = p; rest = unless out l ls })
+  Leads out Malformed = walked n p (unless out l ls) ≡ None
 
   line_leads : (r : PrefixLine) → r ≡ line_read n p l → Leads (passed_by l) r
   unfolding walked
   line_leads r e = subst (Leads (passed_by l)) (sym e) (go (passed_by l) (is_variable_line l) (variable_line l) refl)
     where
       go : (out v : Bool) (o : Option (List Bound))
-          → walked n p (l ∷ ls) ≡ cond v (walked_on n p o (λ q. walked n q ls)) (some (record { prefix = p; rest = l ∷ ls }))
+          → walked n p (l ∷ ls) ≡ cond v (walked_on n p o (λ q. walked n q ls)) (Some (record { prefix = p; rest = l ∷ ls }))
           → Leads out (cond out (Passed p) (cond v (line_held n p o) Clauses))
       go true v o e = refl
-      go false true none e = e
-      go false true (some bs) e = e
+      go false true None e = e
+      go false true (Some bs) e = e
       go false false o e = e
 
 -- The lines after `from` lead with no variable read to what the lines after `at`, where a line ends, lead to with those read so far.
@@ -236,11 +235,11 @@ walking text n from at e = record { ended = ends_there text from at e; whole = a
 
 module _ {text : List ℕ} {n from : ℕ} {p : Prefix} {at : ℕ} (w : Walking text n from p at) where
   -- the text ends
-  pub walk_over : length text ≤ at → PrefixEnds text (walked n no_variable (lines_past text from)) (At p at)
+  pub walk_over : length text ≤ at → PrefixEnds text (walked n no_variable (lines_past text from)) (Some (p, at))
   unfolding walked
   walk_over h = (
     sym w.whole ∙ ap (walked n p) (no_lines text at h)
-        ∙ ap (λ (ls : List (List ℕ)). some (record { prefix = p; rest = ls })) (sym (no_lines text at h)),
+        ∙ ap (λ (ls : List (List ℕ)). Some (record { prefix = p; rest = ls })) (sym (no_lines text at h)),
     no_first text at h,
   )
 
@@ -254,13 +253,13 @@ module _ {text : List ℕ} {n from : ℕ} {p : Prefix} {at : ℕ} (w : Walking t
       whole = sym (line_leads n p (part (at + 1) end text) (lines_past text end) (Passed q) r) ∙ sym (ap (walked n p) next) ∙ w.whole;
     }
 
-    pub walk_ends : Clauses ≡ line_read n p (part (at + 1) end text) → PrefixEnds text (walked n no_variable (lines_past text from)) (At p at)
+    pub walk_ends : Clauses ≡ line_read n p (part (at + 1) end text) → PrefixEnds text (walked n no_variable (lines_past text from)) (Some (p, at))
     walk_ends r = (
       sym w.whole ∙ ap (walked n p) next
           ∙ line_leads n p (part (at + 1) end text) (lines_past text end) Clauses r
-          ∙ ap (λ (ls : List (List ℕ)). some (record { prefix = p; rest = ls })) (sym next),
+          ∙ ap (λ (ls : List (List ℕ)). Some (record { prefix = p; rest = ls })) (sym next),
       feed_first text at h (w.ended h),
     )
 
-    pub walk_breaks : Malformed ≡ line_read n p (part (at + 1) end text) → walked n no_variable (lines_past text from) ≡ none
+    pub walk_breaks : Malformed ≡ line_read n p (part (at + 1) end text) → walked n no_variable (lines_past text from) ≡ None
     walk_breaks r = sym w.whole ∙ ap (walked n p) next ∙ line_leads n p (part (at + 1) end text) (lines_past text end) Malformed r

@@ -1,8 +1,8 @@
 -- One line between header and clauses, by its first byte and its parts.
+use Rattle.std.specs.Prelude.{None}
 use mathlib.Core.Path.{◌≡◌, refl, sym, ap, ap₂, ◌∙◌}
 use mathlib.Core.Bool.{Bool, true, false, ◌||◌, cond}
 use mathlib.Core.List.{List, [], ◌∷◌}
-use mathlib.Core.Option.{Option}
 use Prim.Native.Nat.{ℕ, ◌-◌}
 use native.Mathlib.Omega.{arith}
 use lib.Dec.{eqb}
@@ -34,10 +34,10 @@ module _ (n : ℕ) (p : Prefix) (u : Bool) (line : List ℕ) where
     width = omega (arith, f.ends)
 
     by_width : (b : Bool) → eqb (length (part from to line)) 1 ≡ b
-        → by_letter ≡ line_held n p (cond b (some_variable (bound_on u (parts_from is_blank line to))) Option.none)
+        → by_letter ≡ line_held n p (cond b (some_variable (bound_on u (parts_from is_blank line to))) None)
     by_width b e =
         ap (λ (ps : List Piece). line_held n p (lettered u ps)) f.pieces
-        ∙ ap (λ (t : Bool). line_held n p (cond t (some_variable (bound_on u (parts_from is_blank line to))) Option.none)) e
+        ∙ ap (λ (t : Bool). line_held n p (cond t (some_variable (bound_on u (parts_from is_blank line to))) None)) e
 
     pub long_letter : (to - from ≡ 1 → ⊥) → Malformed ≡ by_letter
     long_letter h = sym (by_width false (ne_eqb (length (part from to line)) 1 (λ q. h (sym width ∙ q))))

@@ -1,8 +1,8 @@
 -- The variables of a prefix in words: the lines' variables one after the other, and those on no line in front of them.
+use Rattle.std.specs.Prelude.{Option, Some, None}
 use mathlib.Core.Path.{◌≡◌, refl, sym, ap, ap₂, ◌∙◌, subst}
 use mathlib.Core.Bool.{Bool, true, false, not, ◌&&◌, ◌||◌, cond, true≢false}
 use mathlib.Core.List.{List, [], ◌∷◌, ◌++◌, append-nil, append_assoc}
-use mathlib.Core.Option.{Option, none, some}
 use Prim.Native.Nat.{ℕ, zero, suc, ◌+◌, ◌-◌, ◌*◌, ◌%◌, ◌^◌, ◌≤◌, ◌<◌}
 use native.Mathlib.Nat.{mod-eq_of_lt}
 use native.Mathlib.Omega.{arith}
@@ -29,8 +29,8 @@ use Rattle.qdimacs.proofs.Bindings.{with_this, beyond_spoils, again_spoils, boun
 
 -- what a prefix and the lines after it come to
 abbrev pub walked_as : ℕ → Prefix → Option (List Bound) → List (List ℕ) → Option Walked
-walked_as n p none rest = none
-walked_as n p (some bs) rest = some (record { prefix = bound_all n p bs; rest = rest })
+walked_as n p None rest = None
+walked_as n p (Some bs) rest = Some (record { prefix = bound_all n p bs; rest = rest })
 
 bound_append : (n : ℕ) (p : Prefix) (bs cs : List Bound) → bound_all n (bound_all n p bs) cs ≡ bound_all n p (bs ++ cs)
 bound_append n p [] cs = refl
@@ -44,15 +44,15 @@ walked-is n p (l ∷ ls) =
     (λ e. rw e (line (variable_line l) (λ q. walked-is n q ls)))
     (λ e. rw e)
   where
-    joined : (bs : List Bound) (o : Option (List Bound)) → walked_as n (bound_all n p bs) o (behind_prefix ls) ≡ walked_as n p (bound_before (some bs) o)
+    joined : (bs : List Bound) (o : Option (List Bound)) → walked_as n (bound_all n p bs) o (behind_prefix ls) ≡ walked_as n p (bound_before (Some bs) o)
         (behind_prefix ls)
-    joined bs none = refl
-    joined bs (some cs) = ap (λ (q : Prefix). some (record { prefix = q; rest = behind_prefix ls })) (bound_append n p bs cs)
+    joined bs None = refl
+    joined bs (Some cs) = ap (λ (q : Prefix). Some (record { prefix = q; rest = behind_prefix ls })) (bound_append n p bs cs)
 
     line : (o : Option (List Bound)) → ((q : Prefix) → walked n q ls ≡ walked_as n q (prefix_of ls) (behind_prefix ls))
         → walked_on n p o (λ q. walked n q ls) ≡ walked_as n p (bound_before o (prefix_of ls)) (behind_prefix ls)
-    line none h = refl
-    line (some bs) h = h (bound_all n p bs) ∙ joined bs (prefix_of ls)
+    line None h = refl
+    line (Some bs) h = h (bound_all n p bs) ∙ joined bs (prefix_of ls)
 
 -- ---- one variable after others
 

@@ -1,8 +1,7 @@
 -- The lines of a QDIMACS text between its header and its clauses, each a letter and the variables of one side (document 02, "Who can force
 -- the roster").
 -- Ask: Are the lines document 02's, sentence by sentence?
-use Rattle.std.specs.Prelude.{ℕ, zero, suc, Bool, true, false, ◌||◌, cond, List, [], ◌∷◌, ◌++◌, eqb, length, get_or}
-use Rattle.std.proofs.Math.Option.{Option, none, some}
+use Rattle.std.specs.Prelude.{ℕ, zero, suc, Bool, true, false, ◌||◌, cond, List, [], ◌∷◌, ◌++◌, eqb, length, get_or, Option, Some, None}
 use Rattle.lexer.specs.Bytes.{is_blank, is_tail, trimmed}
 use Rattle.lexer.specs.Pieces.{Piece, parts_from, tokens_from}
 use Rattle.numbers.specs.Numbers.{Number, number, malformed, number_read}
@@ -17,27 +16,27 @@ pub record Bound : Type 0 where
 
 -- a part, as a number, in front of other parts: 0 closes the line and is its last part
 abbrev pub bound_then : Bool → Number → List Piece → Option (List Bound) → Option (List Bound)
-bound_then u malformed ps rest = none
-bound_then u (number s zero) [] rest = some []
-bound_then u (number s zero) (p ∷ ps) rest = none
-bound_then u (number s (suc v)) ps none = none
-bound_then u (number s (suc v)) ps (some bs) = some (record { universal = u; minus = s; value = suc v } ∷ bs)
+bound_then u malformed ps rest = None
+bound_then u (number s zero) [] rest = Some []
+bound_then u (number s zero) (p ∷ ps) rest = None
+bound_then u (number s (suc v)) ps None = None
+bound_then u (number s (suc v)) ps (Some bs) = Some (record { universal = u; minus = s; value = suc v } ∷ bs)
 
 -- the numbers of a line, closed by 0; none where a part is no number or the 0 is missing
 unfoldable pub bound_on : Bool → List Piece → Option (List Bound)
-bound_on u [] = none
+bound_on u [] = None
 bound_on u (p ∷ ps) = bound_then u (number_read p.bytes) ps (bound_on u ps)
 
 -- "a line without a variable is malformed"
 abbrev pub some_variable : Option (List Bound) → Option (List Bound)
-some_variable none = none
-some_variable (some []) = none
-some_variable (some (b ∷ bs)) = some (b ∷ bs)
+some_variable None = None
+some_variable (Some []) = None
+some_variable (Some (b ∷ bs)) = Some (b ∷ bs)
 
 -- the letter, a part by itself, and the numbers
 abbrev pub lettered : Bool → List Piece → Option (List Bound)
-lettered u [] = none
-lettered u (p ∷ ps) = cond (eqb (length p.bytes) 1) (some_variable (bound_on u ps)) none
+lettered u [] = None
+lettered u (p ∷ ps) = cond (eqb (length p.bytes) 1) (some_variable (bound_on u ps)) None
 
 -- "`a` and `e` lines", "the letter its first byte"
 abbrev pub is_variable_line : List ℕ → Bool
@@ -70,14 +69,14 @@ lines_behind (l ∷ ls) = token_lines ls
 
 -- variables in front of variables
 abbrev pub bound_before : Option (List Bound) → Option (List Bound) → Option (List Bound)
-bound_before none rest = none
-bound_before (some bs) none = none
-bound_before (some bs) (some cs) = some (bs ++ cs)
+bound_before None rest = None
+bound_before (Some bs) None = None
+bound_before (Some bs) (Some cs) = Some (bs ++ cs)
 
 -- the prefix, the lines in front that begin with a letter: all their variables in order; none where one of these lines is malformed
 unfoldable pub prefix_of : List (List ℕ) → Option (List Bound)
-prefix_of [] = some []
-prefix_of (l ∷ ls) = cond (is_variable_line l) (bound_before (variable_line l) (prefix_of ls)) (some [])
+prefix_of [] = Some []
+prefix_of (l ∷ ls) = cond (is_variable_line l) (bound_before (variable_line l) (prefix_of ls)) (Some [])
 
 -- the lines after the prefix, which are the clauses'
 unfoldable pub behind_prefix : List (List ℕ) → List (List ℕ)

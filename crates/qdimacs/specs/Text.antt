@@ -1,15 +1,37 @@
 -- What a QDIMACS text means: rows and the turns in which two sides fix its variables, or refusal 1, 2, 21, 5 or 22 (document 02, "Who can
 -- force the roster").
 -- Ask: Is 21 before 5 before 22?
-use Rattle.std.specs.Prelude.{ℕ, zero, suc, ◌-◌, Bool, true, false, not, ◌&&◌, ◌||◌, cond, List, [], ◌∷◌, ◌++◌, eqb, ltb, length}
-use Rattle.std.proofs.Math.Option.{Option, none, some}
+use Rattle.std.specs.Prelude.{
+  ℕ,
+  zero,
+  suc,
+  ◌-◌,
+  Bool,
+  true,
+  false,
+  not,
+  ◌&&◌,
+  ◌||◌,
+  cond,
+  List,
+  [],
+  ◌∷◌,
+  ◌++◌,
+  eqb,
+  ltb,
+  length,
+  Option,
+  Some,
+  None,
+  Result,
+  Ok,
+  Err,
+}
 use Rattle.lexer.specs.Remarks.{without_remarks}
 use Rattle.lexer.specs.Pieces.{lines_from}
 use Rattle.refusals.specs.declared.Refusal.{Refusal}
 use Rattle.refusals.specs.declared.Refusal.TheVariants.{Text, GameVariables, LineVariables}
 use Rattle.words.specs.declared.Row.{Row}
-use Rattle.header.specs.declared.HeaderNumbers.{HeaderNumbers}
-use Rattle.header.specs.declared.HeaderNumbers.TheVariants.{Of, Refused}
 use Rattle.header.specs.Header.{beyond, header_of}
 use Rattle.clauses.specs.Clauses.{Reading, clauses, clause_rows, complete}
 use Rattle.qdimacs.specs.Lines.{Bound, lines_behind, prefix_of, behind_prefix, tokens_on}
@@ -61,8 +83,8 @@ pub data GameText : Type 0 where
 
 -- exactly m clauses that can all be read, else 5; then 22
 abbrev pub game_on : ℕ → ℕ → Option (List Bound) → Reading → GameText
-game_on n m none reading = no_game Text
-game_on n m (some bs) reading =
+game_on n m None reading = no_game Text
+game_on n m (Some bs) reading =
     cond (complete reading && eqb (length (clause_rows reading)) m)
     (cond (proper n bs) (game (clause_rows reading) (game_turns n bs)) (no_game LineVariables))
     (no_game Text)
@@ -72,9 +94,9 @@ abbrev pub game_lines : ℕ → ℕ → List (List ℕ) → GameText
 game_lines n m lines = game_on n m (prefix_of lines) (clauses n (tokens_on (behind_prefix lines)))
 
 -- "21 directly follows the header's 1 and 2 and comes before 5"
-abbrev pub game_behind : List ℕ → ℕ → HeaderNumbers → GameText
-game_behind text end (Refused r) = no_game r
-game_behind text end (Of n m) = cond (ltb most_game_variables n) (no_game GameVariables)
+abbrev pub game_behind : List ℕ → ℕ → Result (ℕ × ℕ) Refusal → GameText
+game_behind text end (Err r) = no_game r
+game_behind text end (Ok (n, m)) = cond (ltb most_game_variables n) (no_game GameVariables)
     (game_lines n m (lines_behind (lines_from text end)))
 
 -- the game of a text without remarks; it has 1 row or more

@@ -1,4 +1,7 @@
 -- Turns and the variables of a prefix as code holds them, in words. No entry's contract rests on this file.
+use Rattle.std.specs.Prelude.{Option, Some, None, Result, Ok, Err}
+use Rattle.refusals.specs.declared.Refusal.{Refusal}
+use Rattle.refusals.specs.Numbers.{Outcome, number_of}
 use Rattle.std.specs.Prelude.{
   ℕ,
   zero,
@@ -25,11 +28,9 @@ use Rattle.std.specs.Prelude.{
   length,
   replicate,
 }
-use Rattle.std.proofs.Math.Option.{Option, none, some}
 use Rattle.words.specs.Booleans.{digit}
 use Rattle.words.specs.Sets.{bit, put}
 use Rattle.lexer.specs.Remarks.{is_remark}
-use Rattle.refusals.specs.declared.Outcome.TheVariants.{Taken, Refused}
 use Rattle.header.specs.Header.{beyond}
 use Rattle.clauses.specs.Rows.{words_of_rows}
 use Rattle.qdimacs.specs.Lines.{Bound, no_token, is_variable_line, variable_line}
@@ -93,8 +94,8 @@ bound_all n p (b ∷ bs) = bound_all n (bound_by n p b.universal b.minus b.value
 
 -- what a line of variables makes of those before it
 abbrev pub line_held : ℕ → Prefix → Option (List Bound) → PrefixLine
-line_held n p none = Malformed
-line_held n p (some bs) = Passed (bound_all n p bs)
+line_held n p None = Malformed
+line_held n p (Some bs) = Passed (bound_all n p bs)
 
 -- what any line makes of them: remarks and lines without a token are passed by
 abbrev pub line_read : ℕ → Prefix → List ℕ → PrefixLine
@@ -109,14 +110,23 @@ unfoldable pub arranged : ℕ → ℕ → ℕ → ℕ
 arranged listed turns zero = turns
 arranged listed turns (suc k) = arranged listed (cond (bit listed k) turns ((turns * 32) % 2 ^ 64 + 2 * k)) k
 
--- a game as it is held: the number of turns, the turns, the number of rows and their words
-abbrev pub quantified : GameText → Quantified
-quantified (no_game r) = record { outcome = Refused r; n = 0; turns = 0; rows = 0; words = replicate 256 0 }
+-- a game as it is held: n, the turns, the number of rows and their words; or the refusal
+abbrev pub quantified : GameText → Result Quantified Refusal
+quantified (no_game r) = Err r
 quantified (game rows turns) =
-    record {
-      outcome = Taken;
+    Ok (record {
       n = length turns;
       turns = turns_word turns;
       rows = length rows;
       words = words_of_rows rows ++ replicate (256 - 2 * length rows) 0;
-    }
+    })
+
+-- whether a text has a game
+abbrev pub game_outcome : GameText → Outcome
+game_outcome (no_game r) = Err r
+game_outcome (game rows turns) = Ok tt
+
+-- what reading a game returns: 0, or 1, 2, 21, 5 or 22
+abbrev pub quantified_code : Result Quantified Refusal → ℕ
+quantified_code (Ok q) = 0
+quantified_code (Err r) = number_of r

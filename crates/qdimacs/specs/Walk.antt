@@ -1,6 +1,5 @@
 -- The lines of a text as code walks over them, remarks passed by.
-use Rattle.std.specs.Prelude.{ℕ, ◌≡◌, Bool, true, false, ◌&&◌, ◌||◌, cond, List, [], ◌∷◌, ltb, drop}
-use Rattle.std.proofs.Math.Option.{Option, none, some}
+use Rattle.std.specs.Prelude.{ℕ, ◌≡◌, Bool, true, false, ◌&&◌, ◌||◌, cond, List, [], ◌∷◌, ltb, drop, Option, Some, None}
 use Rattle.lexer.specs.Bytes.{is_line_feed}
 use Rattle.lexer.specs.Remarks.{is_remark}
 use Rattle.lexer.specs.Pieces.{Piece}
@@ -9,8 +8,6 @@ use Rattle.qdimacs.specs.Lines.{Bound, no_piece, no_token, is_variable_line, var
 use Rattle.qdimacs.specs.Text.{GameText, no_game, most_game_variables, game_lines}
 use Rattle.qdimacs.specs.TurnsInWords.{bound_all}
 use Rattle.qdimacs.specs.declared.Prefix.{Prefix}
-use Rattle.qdimacs.specs.declared.PrefixEnd.{PrefixEnd}
-use Rattle.qdimacs.specs.declared.PrefixEnd.TheVariants.{At, Malformed}
 
 -- the 0 is the line's last part, and a variable comes before it
 abbrev pub last_part : Bool → List Piece → Bool
@@ -48,19 +45,19 @@ pub record Walked : Type 0 where
   pub rest : List (List ℕ)
 
 abbrev pub walked_on : ℕ → Prefix → Option (List Bound) → (Prefix → Option Walked) → Option Walked
-walked_on n p none f = none
-walked_on n p (some bs) f = f (bound_all n p bs)
+walked_on n p None f = None
+walked_on n p (Some bs) f = f (bound_all n p bs)
 
 unfoldable pub walked : ℕ → Prefix → List (List ℕ) → Option Walked
-walked n p [] = some (record { prefix = p; rest = [] })
+walked n p [] = Some (record { prefix = p; rest = [] })
 walked n p (l ∷ ls) =
-    cond (is_variable_line l) (walked_on n p (variable_line l) (λ q. walked n q ls)) (some (record { prefix = p; rest = l ∷ ls }))
+    cond (is_variable_line l) (walked_on n p (variable_line l) (λ q. walked n q ls)) (Some (record { prefix = p; rest = l ∷ ls }))
 
 -- what the prefix is answered with: its variables and the end of the line after which the clauses begin, or malformed
-abbrev pub PrefixEnds : List ℕ → Option Walked → PrefixEnd → Type 0
-PrefixEnds text w (At p at) = (w ≡ some (record { prefix = p; rest = lines_past text at }))
+abbrev pub PrefixEnds : List ℕ → Option Walked → Option (Prefix × ℕ) → Type 0
+PrefixEnds text w (Some (p, at)) = (w ≡ Some (record { prefix = p; rest = lines_past text at }))
     × ((line_cut passed_by (drop at text)).line ≡ [])
-PrefixEnds text w Malformed = w ≡ none
+PrefixEnds text w None = w ≡ None
 
 -- the game after a header of n and m that ends at a place of the text as it is
 abbrev pub standing_game : ℕ → ℕ → List ℕ → ℕ → GameText

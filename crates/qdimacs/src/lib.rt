@@ -2,21 +2,19 @@
 #![tactic(auto)]
 
 ghost use Rattle.std.specs.Prelude.{◌≡◌, cond, [], ◌∷◌, ◌≤◌};
-ghost use Rattle.refusals.specs.Numbers.{code_of, said};
+ghost use Rattle.refusals.specs.Numbers.{said};
 ghost use Rattle.lexer.specs.Bytes.{is_blank};
 ghost use Rattle.lexer.specs.Pieces.{parts_from};
 ghost use Rattle.dimensions.specs.Sizes.{most_variables, most_rows};
 ghost use Rattle.qdimacs.specs.Lines.{bound_on, some_variable, lettered};
-ghost use Rattle.qdimacs.specs.Text.{no_game, game_text};
-ghost use Rattle.qdimacs.specs.TurnsInWords.{no_variable, improper, bound_by, line_held, line_read, arranged, quantified};
+ghost use Rattle.qdimacs.specs.Text.{game_text};
+ghost use Rattle.qdimacs.specs.TurnsInWords.{no_variable, improper, bound_by, line_held, line_read, arranged};
+ghost use Rattle.qdimacs.specs.TurnsInWords.{quantified, game_outcome, quantified_code};
 ghost use Rattle.qdimacs.specs.Walk.{walked, lines_past, PrefixEnds, standing_game, last_part};
 ghost use Rattle.qdimacs.specs.declared.PrefixLine.TheVariants.{Malformed, Passed};
 
-use header::HeaderNumbers;
 use lexer::kinds::Kind;
-use lexer::pieces::Piece;
-use numbers::Number;
-use refusals::{Outcome, Refusal};
+use refusals::Refusal;
 
 // The most variables that a game has.
 const MOST: u8 = 12;
@@ -25,11 +23,9 @@ const MOST: u8 = 12;
 const FULL: u64 = 36_028_797_018_963_968;
 
 // A text's game: n, its turns, its row count and its row words, positive before negative; the words past the rows are zero. The turns are
-// digits of five bits, the first turn the lowest: twice the variable's bit, and 1 more where the universal side fixes it. A refused text
-// has none.
+// digits of five bits, the first turn the lowest: twice the variable's bit, and 1 more where the universal side fixes it.
 #[derive(Clone, Copy)]
 pub struct Quantified {
-    pub outcome: Outcome,
     pub n: u8,
     pub turns: u64,
     pub rows: u8,
@@ -52,26 +48,6 @@ enum PrefixLine {
     Passed(Prefix),
     Clauses,
     Malformed,
-}
-
-// The variables of the prefix, and the end of a line after which the clauses begin.
-#[derive(Clone, Copy)]
-enum PrefixEnd {
-    At(Prefix, usize),
-    Malformed,
-}
-
-// Nothing but the refusal.
-fn refuse(refusal: Refusal) -> Quantified
-    ensures { result ≡ quantified (no_game refusal) }
-{
-    Quantified {
-        outcome: Outcome::Refused(refusal),
-        n: 0,
-        turns: 0,
-        rows: 0,
-        words: [0u32; 256],
-    }
 }
 
 // The variables of a prefix that is refused.
@@ -113,7 +89,7 @@ fn close(line: &[u8], at: usize, some: bool, p: Prefix) -> PrefixLine
     if !some {
         return PrefixLine::Malformed;
     }
-    let Piece::Nothing = lexer::pieces::next_part(line, at, Kind::Blank) else {
+    let None = lexer::pieces::next_part(line, at, Kind::Blank) else {
         return PrefixLine::Malformed;
     };
     PrefixLine::Passed(p)
@@ -125,11 +101,12 @@ fn read_numbers(line: &[u8], start: usize, n: u8, before: Prefix, universal: boo
 {
     let mut p = before;
     let mut at = start;
+    // A loop: a part begins where the one before it ended, and the line is cut off where 0 ends.
     loop {
-        let Piece::At(from, to) = lexer::pieces::next_part(line, at, Kind::Blank) else {
+        let Some((from, to)) = lexer::pieces::next_part(line, at, Kind::Blank) else {
             return PrefixLine::Malformed;
         };
-        let Number::Value(minus, v) = numbers::read_number(&line[from..to]) else {
+        let Some((minus, v)) = numbers::read_number(&line[from..to]) else {
             return PrefixLine::Malformed;
         };
         if v == 0 {
@@ -144,7 +121,7 @@ fn read_numbers(line: &[u8], start: usize, n: u8, before: Prefix, universal: boo
 fn read_variables(line: &[u8], n: u8, before: Prefix, universal: bool) -> PrefixLine
     ensures { result ≡ line_held n before (lettered universal (parts_from is_blank line.now 0)) }
 {
-    let Piece::At(letter, end) = lexer::pieces::next_part(line, 0, Kind::Blank) else {
+    let Some((letter, end)) = lexer::pieces::next_part(line, 0, Kind::Blank) else {
         return PrefixLine::Malformed;
     };
     if end - letter != 1 {
@@ -168,14 +145,14 @@ fn read_line(line: &[u8], n: u8, before: Prefix) -> PrefixLine
         let end = lexer::kinds::trim(line, Kind::Tail);
         return read_variables(&line[..end], n, before, first == b'a');
     }
-    let Piece::Nothing = lexer::pieces::next_part(line, 0, Kind::Separator) else {
+    let None = lexer::pieces::next_part(line, 0, Kind::Separator) else {
         return PrefixLine::Clauses;
     };
     PrefixLine::Passed(before)
 }
 
 // The lines after the one at a place, up to the clauses' first.
-fn read_prefix(text: &[u8], start: usize, n: u8) -> PrefixEnd
+fn read_prefix(text: &[u8], start: usize, n: u8) -> Option<(Prefix, usize)>
     ensures { PrefixEnds text.now (walked n no_variable (lines_past text.now start)) result }
 {
     let mut p = Prefix {
@@ -185,16 +162,17 @@ fn read_prefix(text: &[u8], start: usize, n: u8) -> PrefixEnd
         listed: 0,
     };
     let mut at = lexer::kinds::find(text, start, Kind::LineFeed);
+    // A loop: the clauses' first line ends it, and where that line begins is returned.
     while at < text.len() {
         let end = lexer::kinds::find(text, at + 1, Kind::LineFeed);
         match read_line(&text[at + 1..end], n, p) {
             PrefixLine::Passed(q) => p = q,
-            PrefixLine::Clauses => return PrefixEnd::At(p, at),
-            PrefixLine::Malformed => return PrefixEnd::Malformed,
+            PrefixLine::Clauses => return Some((p, at)),
+            PrefixLine::Malformed => return None,
         }
         at = end;
     }
-    PrefixEnd::At(p, at)
+    Some((p, at))
 }
 
 // All turns: those of the variables that are not listed come before the others, by number.
@@ -203,9 +181,7 @@ fn arrange(listed: u32, listed_turns: u64, n: u8) -> u64
     ensures { result ≡ arranged listed listed_turns n }
 {
     let mut turns = listed_turns;
-    let mut i = n as u32;
-    while 0 < i {
-        i -= 1;
+    for i in (0..n as u32).rev() {
         if !words::bit(listed, i) {
             turns = (turns << 5) + 2 * (i as u64);
         }
@@ -213,50 +189,39 @@ fn arrange(listed: u32, listed_turns: u64, n: u8) -> u64
     turns
 }
 
-// The game after a header of n and m.
-fn read_game(text: &[u8], end: usize, n: u8, m: u8) -> Quantified
+// The game after a header of n and m, or 21, 5 or 22.
+fn read_game(text: &[u8], end: usize, n: u8, m: u8) -> Result<Quantified, Refusal>
     requires n_le_most_variables { n ≤ most_variables }
     requires m_le_most_rows { m ≤ most_rows }
     ensures { result ≡ quantified (standing_game n m text.now end) }
 {
     if MOST < n {
-        return refuse(Refusal::GameVariables);
+        return Err(Refusal::GameVariables);
     }
-    let PrefixEnd::At(p, at) = read_prefix(text, end, n) else {
-        return refuse(Refusal::Text);
+    let Some((p, at)) = read_prefix(text, end, n) else {
+        return Err(Refusal::Text);
     };
-    let table = dimacs::read_body(text, at, n, m);
-    let outcome = table.outcome;
-    match outcome {
-        Outcome::Taken => {}
-        Outcome::Refused(refusal) => return refuse(refusal),
-    }
+    let table = dimacs::read_body(text, at, n, m)?;
     if !p.proper {
-        return refuse(Refusal::LineVariables);
+        return Err(Refusal::LineVariables);
     }
     let words = table.words;
-    Quantified {
-        outcome: Outcome::Taken,
+    Ok(Quantified {
         n,
         turns: arrange(p.listed, p.turns, n),
         rows: table.rows,
         words,
-    }
+    })
 }
 
 // The game of a text, or 1, 2, 21, 5 or 22.
-pub fn read(text: &[u8]) -> Quantified
+pub fn read(text: &[u8]) -> Result<Quantified, Refusal>
     ensures value { result ≡ quantified (game_text text.now) }
-    ensures outcome_value { code_of result.outcome ∷ [] ≡ said (quantified (game_text text.now)).outcome [] }
+    ensures outcome_value { quantified_code result ∷ [] ≡ said (game_outcome (game_text text.now)) [] }
 {
     if 65536 < text.len() {
-        return refuse(Refusal::Text);
+        return Err(Refusal::Text);
     }
-    let header = header::read_header(text, 1);
-    let end = header.end;
-    let sizes = header.sizes;
-    match sizes {
-        HeaderNumbers::Of(n, m) => read_game(text, end, n, m),
-        HeaderNumbers::Refused(refusal) => refuse(refusal),
-    }
+    let header = header::read_header(text, 1)?;
+    read_game(text, header.end, header.n, header.m)
 }

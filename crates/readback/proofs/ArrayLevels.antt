@@ -1,11 +1,12 @@
--- Levels read into a run's array: storing one more at its place reads one more. By induction on the depth.
+-- Levels read into the front of a run's array: one more stored reads one more, and the array is those and the unused ones. By induction on the depth.
 use mathlib.Core.Path.{◌≡◌, refl, sym, ap, ap₂, ◌∙◌}
-use mathlib.Core.List.{List, ◌++◌, reverse, reverse-cons}
-use Prim.Native.Nat.{ℕ, zero, suc, ◌+◌, ◌-◌, ◌<◌}
+use mathlib.Core.List.{List, [], ◌∷◌, ◌++◌, reverse, reverse-cons}
+use Prim.Native.Nat.{ℕ, zero, suc, ◌+◌, ◌≤◌, ◌<◌}
 use native.Mathlib.Numerals.{add-one}
 use native.Mathlib.Omega.{arith}
-use lib.ListN.{length, set, replicate, length-reverse}
-use lib.Seq.{set_at, append_snoc}
+use lib.ListN.{length, set, take, drop, replicate, length-take}
+use lib.Seq.{take-length}
+use Rattle.std.proofs.lemmas.List.{take_more_set, drop-replicate}
 use Rattle.state.specs.declared.Level.{Level}
 use Rattle.state.specs.State.{none}
 use Rattle.readback.specs.Unpacking.{last_first}
@@ -16,17 +17,24 @@ unfolding last_first
 length_last zero a = refl
 length_last (suc d) a = ap suc (length_last d a)
 
-pub array-start : (a : ℕ → Level) → replicate 32 none ≡ array_of a 0
+-- the first levels of a part, one more
+pub read-turn : (a : ℕ → Level) (l : ℕ) (items : List Level) (x : Level) → l < length items → take l items ≡ reverse (last_first l a) → x ≡ a l
+    → take (l + 1) (set items l x) ≡ reverse (last_first (l + 1) a)
 unfolding last_first
-array-start a = refl
+read-turn a l items x h e q =
+    take_more_set items l x h
+    ∙ ap₂ (λ (v : List Level) (y : Level). v ++ y ∷ []) e q
+    ∙ sym (reverse-cons (a l) (last_first l a))
+    ∙ ap (λ (k : ℕ). reverse (last_first k a)) (sym (add-one l))
 
-pub array-turn : (a : ℕ → Level) (l : ℕ) (levels : List Level) (x : Level) → l < 32 → levels ≡ array_of a l → x ≡ a l → set levels l x ≡ array_of a (l + 1)
-unfolding last_first
-array-turn a l levels x h e q =
-    let k : 32 - l ≡ suc (32 - suc l) = omega arith in
-    ap₂ (λ (v : List Level) (y : Level). set v l y) e q
-    ∙ ap (λ (m : ℕ). set (reverse (last_first l a) ++ replicate m none) l (a l)) k
-    ∙ set_at (reverse (last_first l a)) none (replicate (32 - suc l) none) (a l) l (length-reverse (last_first l a) ∙ length_last l a)
-    ∙ sym (append_snoc (reverse (last_first l a)) (a l) (replicate (32 - suc l) none))
-    ∙ ap (λ (v : List Level). v ++ replicate (32 - suc l) none) (sym (reverse-cons (a l) (last_first l a)))
-    ∙ ap (array_of a) (sym (add-one l))
+pub first_part : (d : ℕ) → d ≤ 32 → length (take d (replicate 32 none)) ≡ d
+first_part d h = length-take d (replicate 32 none) ∙ omega arith
+
+-- all of them, and those that stay
+pub read_end : (a : ℕ → Level) (d l : ℕ) (items : List Level) → length items ≡ d → l ≡ d → take l items ≡ reverse (last_first l a)
+    → items ++ drop d (replicate 32 none) ≡ array_of a d
+read_end a d l items size k e =
+    let whole : l ≡ length items = k ∙ sym size in
+    ap₂ (λ (v w : List Level). v ++ w)
+    (sym (ap (λ (i : ℕ). take i items) whole ∙ take-length items) ∙ e ∙ ap (λ (i : ℕ). reverse (last_first i a)) k)
+    (drop-replicate d 32 none)

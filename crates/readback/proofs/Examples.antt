@@ -2,16 +2,15 @@
 use mathlib.Core.Path.{◌≡◌, refl}
 use mathlib.Core.List.{List, [], ◌∷◌}
 use Prim.Native.Nat.{ℕ}
+use Rattle.std.specs.Prelude.{Ok}
 use Rattle.refusals.specs.Numbers.{code_of}
-use Rattle.refusals.specs.declared.Outcome.TheVariants.{Taken}
 use Rattle.words.specs.Sameness.{same}
 use Rattle.words.specs.Sets.{bit, all, lowest, word_of}
 use Rattle.state.specs.State.{fresh, run_of}
 use Rattle.state.specs.WellFormed.{disjoint, within, well_formed}
 use Rattle.wires.specs.Layout.{upto, joined, on_level, state_bits}
-use Rattle.readback.specs.declared.Read.{Read}
 use Rattle.readback.specs.Unpacking.{last_first, run_in, holds_state}
-use Rattle.readback.specs.Reading.{read_back}
+use Rattle.readback.specs.Reading.{Read, read_back}
 
 read : ℕ → List ℕ → Read
 unfolding read_back holds_state run_in run_of last_first word_of lowest well_formed disjoint within bit all same state_bits upto joined on_level
@@ -21,7 +20,7 @@ code : ℕ → List ℕ → ℕ
 code n bytes = code_of (read n bytes).outcome
 
 -- T, F; depth 0, depth 1; the level's T, F and choice; satisfied, refuted; a byte past them is not looked at
-fresh-read : read 1 (0 ∷ 0 ∷ 1 ∷ 0 ∷ 0 ∷ 0 ∷ 0 ∷ 0 ∷ 0 ∷ 7 ∷ []) ≡ record { outcome = Taken; run = run_of 1 fresh }
+fresh-read : read 1 (0 ∷ 0 ∷ 1 ∷ 0 ∷ 0 ∷ 0 ∷ 0 ∷ 0 ∷ 0 ∷ 7 ∷ []) ≡ record { outcome = Ok tt; run = run_of 1 fresh }
 unfolding read run_of
 fresh-read = refl
 

@@ -9,9 +9,9 @@ use lib.Dec.{eqb, ltb}
 use lib.ListN.{length, get_or, take, drop, length-append, length-map, take-append-drop, get_or-map}
 use lib.Seq.{take_at, drop_at}
 use borrow.Author.Tests.{le-ltb, ltb-false, not-false}
+use Rattle.std.specs.Prelude.{Ok, Err}
+use Rattle.refusals.specs.Numbers.{Outcome}
 use Rattle.refusals.specs.Checks.{outcome, given}
-use Rattle.refusals.specs.declared.Outcome.{Outcome}
-use Rattle.refusals.specs.declared.Outcome.TheVariants.{Taken, Refused}
 use Rattle.refusals.specs.declared.Refusal.TheVariants.{Variables, Wires}
 use Rattle.refusals.specs.declared.Refusal.TheVariants as refusal
 use Rattle.refusals.proofs.Outcomes.{check_passed, checks-taken, refused-taken}
@@ -37,9 +37,8 @@ use Rattle.tables.proofs.Numbering.{tables-length}
 use Rattle.wires.proofs.Lengths.{state-length, rows-length, twice}
 use Rattle.wires.proofs.Addresses.{state-at}
 use Rattle.wires.proofs.Checks.{passed, pack-taken}
-use Rattle.readback.specs.declared.Read.{Read}
 use Rattle.readback.specs.Unpacking.{wire_in, unpacked, run_in, holds_state}
-use Rattle.readback.specs.Reading.{read_checks, read_back}
+use Rattle.readback.specs.Reading.{Read, read_checks, read_back}
 use Rattle.readback.proofs.StateBack.{unpacked-is}
 use Rattle.readback.proofs.Checks.{read_taken, run_variables}
 
@@ -72,10 +71,10 @@ module _ (n : ℕ) (s : State) (rest : List ℕ) (h : well_formed_state n s ≡ 
         ∙ same_self (bytes_of (state_bits n s)))
 
     -- a well-formed state's bytes are read back as its run
-    pub read-packed : read_back n bytes ≡ record { outcome = Taken; run = run_of n s }
+    pub read-packed : read_back n bytes ≡ record { outcome = Ok tt; run = run_of n s }
     read-packed =
         sym (read_taken n bytes within (omega (arith, length-append (bytes_of (state_bits n s)) rest, packed-length)) holds-packed)
-        ∙ ap (λ (r : Run). record { outcome = Taken; run = r }) run-back_in
+        ∙ ap (λ (r : Run). record { outcome = Ok tt; run = r }) run-back_in
       where
         within : outside 32 n ≡ false
         within = rw (le-ltb n 1 a, le-ltb 32 n b)
@@ -83,7 +82,7 @@ module _ (n : ℕ) (s : State) (rest : List ℕ) (h : well_formed_state n s ≡ 
 -- bytes that begin with those of a well-formed state are read back as its run: 12 is only where no well-formed state has such bytes
 pub read-front : (n : ℕ) (s : State) (bytes : List ℕ) → well_formed_state n s ≡ true → 1 ≤ n → n ≤ 32
     → bytes_of (state_bits n s) ≡ take (state_wire_count n) bytes
-    → read_back n bytes ≡ record { outcome = Taken; run = run_of n s }
+    → read_back n bytes ≡ record { outcome = Ok tt; run = run_of n s }
 read-front n s bytes h a b e =
     ap (read_back n) (sym (ap (λ (l : List ℕ). l ++ drop (state_wire_count n) bytes) e ∙ take-append-drop (state_wire_count n) bytes))
     ∙ read-packed n s (drop (state_wire_count n) bytes) h a b
@@ -96,12 +95,12 @@ pub record Held (n : ℕ) (bytes : List ℕ) (run : Run) : Type 0 where
 
 module _ (n : ℕ) (bytes : List ℕ) where
   abbrev read_of : Outcome → Read
-  read_of o = given o (record { outcome = Taken; run = run_in n bytes }) (λ r. record { outcome = Refused r; run = run_of n fresh })
+  read_of o = given o (record { outcome = Ok tt; run = run_in n bytes }) (λ r. record { outcome = Err r; run = run_of n fresh })
 
-  taken : (o : Outcome) → outcome (read_checks n bytes) ≡ o → (read_back n bytes).outcome ≡ Taken → o ≡ Taken
+  taken : (o : Outcome) → outcome (read_checks n bytes) ≡ o → (read_back n bytes).outcome ≡ Ok tt → o ≡ Ok tt
   unfolding read_back
-  taken Taken q e = refl
-  taken (Refused r) q e = absurd (refused-taken (sym (ap (λ (o : Outcome). (read_of o).outcome) q) ∙ e))
+  taken (Ok _) q e = refl
+  taken (Err r) q e = absurd (refused-taken (sym (ap (λ (o : Outcome). (read_of o).outcome) q) ∙ e))
 
   held : {r : Run} → r ≡ run_in n bytes → holds_state n bytes ≡ true → Held n bytes r
   unfolding holds_state
@@ -112,7 +111,7 @@ module _ (n : ℕ) (bytes : List ℕ) where
   }
 
   -- bytes that are read back are those of a well-formed state of n
-  pub read_held : (read_back n bytes).outcome ≡ Taken → Held n bytes (read_back n bytes).run
+  pub read_held : (read_back n bytes).outcome ≡ Ok tt → Held n bytes (read_back n bytes).run
   read_held e =
       let t = taken (outcome (read_checks n bytes)) refl e in
       let t₁ = checks-taken (outside 32 n) Variables _ t in
@@ -126,7 +125,7 @@ module _ (n : ℕ) (bytes : List ℕ) where
 
 -- ---- by the entries
 
-module _ (d : Dimensions) (tables : Tables) (run : Run) (bytes : List ℕ) (e : outcome (pack_checks d tables run (length bytes)) ≡ Taken) where
+module _ (d : Dimensions) (tables : Tables) (run : Run) (bytes : List ℕ) (e : outcome (pack_checks d tables run (length bytes)) ≡ Ok tt) where
   abbrev row_bytes : List ℕ
   row_bytes = bytes_of (rows_bits d.n (rows_of d tables))
 
@@ -143,14 +142,14 @@ module _ (d : Dimensions) (tables : Tables) (run : Run) (bytes : List ℕ) (e : 
 
   -- after the rows, a packed run is read back
   pub read-behind-rows : length run.levels ≡ 32
-      → read_back d.n (drop (2 * d.n * row_count d) (packed d tables run bytes)) ≡ record { outcome = Taken; run = run }
+      → read_back d.n (drop (2 * d.n * row_count d) (packed d tables run bytes)) ≡ record { outcome = Ok tt; run = run }
   read-behind-rows room =
       let o = passed d tables run (length bytes) e in
       let f = formed_run_e run o.formed in
       ap (read_back d.n) (ap (drop (2 * d.n * row_count d)) split ∙ drop_at row_bytes _ (2 * d.n * row_count d) rows_wide)
       ∙ read-packed d.n (state_of run) _ (ap (λ (k : ℕ). well_formed_state k (state_of run)) (sym o.same) ∙ f.state)
       o.allowed.size.n_least o.allowed.size.n-most
-      ∙ ap (λ (r : Run). record { outcome = Taken; run = r }) (ap (λ (k : ℕ). run_of k (state_of run)) (sym o.same)
+      ∙ ap (λ (r : Run). record { outcome = Ok tt; run = r }) (ap (λ (k : ℕ). run_of k (state_of run)) (sym o.same)
       ∙ sym (run-back run (formed_tidy run room f)))
     where
       rows_wide : length row_bytes ≡ 2 * d.n * row_count d

@@ -27,10 +27,8 @@ fn get_set(n: usize, bytes: &[u8], at: usize) -> u32
     ensures { result ≡ word_of (λ i. wire_in bytes.now (at + i)) n }
 {
     let mut word = 0;
-    let mut i = n;
-    while i > 0 {
-        i -= 1;
-        word = value(bytes[at + i]) + 2 * word;
+    for byte in bytes[at..at + n].iter().rev() {
+        word = value(*byte) + 2 * word;
     }
     word
 }
@@ -41,14 +39,10 @@ fn get_one(n: usize, bytes: &[u8], at: usize) -> usize
     ensures value { result ≡ lowest (λ i. wire_in bytes.now (at + i)) n }
     ensures upper_bound { result ≤ n }
 {
-    let mut i = 0;
-    while i < n {
-        if bytes[at + i] == 1 {
-            return i;
-        }
-        i += 1;
-    }
-    n
+    bytes[at..at + n]
+        .iter()
+        .position(|byte| *byte == 1)
+        .unwrap_or(n)
 }
 
 // A level: T, F and the chosen variable.
@@ -78,11 +72,9 @@ fn get_levels(n: usize, depth: usize, bytes: &[u8], at: usize) -> [Level; 32]
         chosen: 0,
     }; 32];
     let mut next = at;
-    let mut l = 0;
-    while l < depth {
-        levels[l] = get_level(n, bytes, next);
+    for level in &mut levels[..depth] {
+        *level = get_level(n, bytes, next);
         next += 3 * n;
-        l += 1;
     }
     levels
 }

@@ -1,15 +1,13 @@
 -- The numbers of documents 01 and 02: what a refusal is called outside; document 01, "Turned back because of the input" and "because of the
 -- state".
 -- Ask: Are these the numbers of documents 01 and 02?
-use Rattle.std.specs.Prelude.{ℕ, List, [], ◌∷◌}
+use Rattle.std.specs.Prelude.{ℕ, List, [], ◌∷◌, Result, Ok, Err}
 use Rattle.refusals.specs.declared.Refusal.{Refusal}
 use Rattle.refusals.specs.declared.Refusal.TheVariants.{Variables, RowCount, RowBit, RowBuffer, Text, TextsDiffer, GateBuffer}
 use Rattle.refusals.specs.declared.Refusal.TheVariants.{NumberLine, Gates, Wires, LineBuffer, State, OtherVariables, NoModel}
 use Rattle.refusals.specs.declared.Refusal.TheVariants.{NotPadding, Closed, NoClause, ProofText, NotFollowing, NoEmptyClause}
 use Rattle.refusals.specs.declared.Refusal.TheVariants.{GameVariables, LineVariables, WholeBudget, PlaneBits}
 use Rattle.refusals.specs.declared.Refusal.TheVariants.{WatchCount, PageBuffer, PageForm}
-use Rattle.refusals.specs.declared.Outcome.{Outcome}
-use Rattle.refusals.specs.declared.Outcome.TheVariants.{Taken, Refused}
 
 -- the number of a refusal
 abbrev pub number_of : Refusal → ℕ
@@ -41,12 +39,16 @@ number_of WatchCount = 25
 number_of PageBuffer = 26
 number_of PageForm = 27
 
+-- what a call gives that has no other result
+abbrev pub Outcome : Type 0
+Outcome = Result (Unit {0}) Refusal
+
 -- 0 where the call was taken, else the refusal's number
 abbrev pub code_of : Outcome → ℕ
-code_of Taken = 0
-code_of (Refused r) = number_of r
+code_of (Ok _) = 0
+code_of (Err r) = number_of r
 
 -- what an answer says, its number and then its values: 0 and the values where the call was taken, else the refusal's number alone
 abbrev pub said : Outcome → List ℕ → List ℕ
-said Taken values = 0 ∷ values
-said (Refused r) values = number_of r ∷ []
+said (Ok _) values = 0 ∷ values
+said (Err r) values = number_of r ∷ []

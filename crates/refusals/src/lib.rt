@@ -1,4 +1,4 @@
-// The numbered refusals of document 01, "Turned back", and the outcome of a call that has no other result.
+// The numbered refusals of document 01, "Turned back".
 #![tactic(auto)]
 
 ghost use Rattle.std.specs.Prelude.{◌≡◌};
@@ -7,7 +7,7 @@ ghost use Rattle.refusals.specs.Numbers.{number_of};
 // Why a call is refused: 1 to 11 because of the input, 12 to 14 because of the state, 15 and 16 because of a late condition, 17 because of
 // texts that are not the tables', 18 to 20 because of a proof from another solver, 21 and 22 because of a game's variables, 23 because of a
 // budget too large to be gone through whole, 24 because of planes, 25 to 27 because of a watch page.
-#[derive(Clone, Copy)]
+#[derive(Clone, Copy, Debug, PartialEq, Eq)]
 pub enum Refusal {
     // 1: n outside 1 to 32.
     Variables,
@@ -65,44 +65,39 @@ pub enum Refusal {
     PageForm,
 }
 
-// What a call gives that has no other result.
-#[derive(Clone, Copy)]
-pub enum Outcome {
-    Taken,
-    Refused(Refusal),
-}
-
 // Document 01's number of a refusal.
-pub fn number(refusal: Refusal) -> u8
-    ensures { result ≡ number_of refusal }
-{
-    match refusal {
-        Refusal::Variables => 1,
-        Refusal::RowCount => 2,
-        Refusal::RowBit => 3,
-        Refusal::RowBuffer => 4,
-        Refusal::Text => 5,
-        Refusal::TextsDiffer => 6,
-        Refusal::GateBuffer => 7,
-        Refusal::NumberLine => 8,
-        Refusal::Gates => 9,
-        Refusal::Wires => 10,
-        Refusal::LineBuffer => 11,
-        Refusal::State => 12,
-        Refusal::OtherVariables => 13,
-        Refusal::NoModel => 14,
-        Refusal::NotPadding => 15,
-        Refusal::Closed => 16,
-        Refusal::NoClause => 17,
-        Refusal::ProofText => 18,
-        Refusal::NotFollowing => 19,
-        Refusal::NoEmptyClause => 20,
-        Refusal::GameVariables => 21,
-        Refusal::LineVariables => 22,
-        Refusal::WholeBudget => 23,
-        Refusal::PlaneBits => 24,
-        Refusal::WatchCount => 25,
-        Refusal::PageBuffer => 26,
-        Refusal::PageForm => 27,
+impl From<Refusal> for u8 {
+    ghost from_gives = { λ refusal number. number ≡ number_of refusal };
+
+    fn from(refusal: Refusal) -> u8 {
+        match refusal {
+            Refusal::Variables => 1,
+            Refusal::RowCount => 2,
+            Refusal::RowBit => 3,
+            Refusal::RowBuffer => 4,
+            Refusal::Text => 5,
+            Refusal::TextsDiffer => 6,
+            Refusal::GateBuffer => 7,
+            Refusal::NumberLine => 8,
+            Refusal::Gates => 9,
+            Refusal::Wires => 10,
+            Refusal::LineBuffer => 11,
+            Refusal::State => 12,
+            Refusal::OtherVariables => 13,
+            Refusal::NoModel => 14,
+            Refusal::NotPadding => 15,
+            Refusal::Closed => 16,
+            Refusal::NoClause => 17,
+            Refusal::ProofText => 18,
+            Refusal::NotFollowing => 19,
+            Refusal::NoEmptyClause => 20,
+            Refusal::GameVariables => 21,
+            Refusal::LineVariables => 22,
+            Refusal::WholeBudget => 23,
+            Refusal::PlaneBits => 24,
+            Refusal::WatchCount => 25,
+            Refusal::PageBuffer => 26,
+            Refusal::PageForm => 27,
+        }
     }
 }

@@ -9,9 +9,9 @@ use lib.Dec.{eqb, leb}
 use lib.ListN.{length, get_or, take, length-take, length-map}
 use lib.Seq.{get_or_at, take_at, take-take}
 use borrow.Author.Tests.{leb-true, leb-false, le-ltb}
+use Rattle.std.specs.Prelude.{Ok, Err}
+use Rattle.refusals.specs.Numbers.{Outcome}
 use Rattle.refusals.specs.Checks.{outcome, given}
-use Rattle.refusals.specs.declared.Outcome.{Outcome}
-use Rattle.refusals.specs.declared.Outcome.TheVariants.{Taken, Refused}
 use Rattle.refusals.specs.declared.Refusal.{Refusal}
 use Rattle.refusals.specs.declared.Refusal.TheVariants.{Wires}
 use Rattle.words.specs.Booleans.{digit}
@@ -36,14 +36,13 @@ use Rattle.wires.specs.Layout.{state_bits}
 use Rattle.wires.specs.Packing.{input_bits, pack_checks}
 use Rattle.wires.proofs.Lengths.{state-length}
 use Rattle.wires.proofs.Checks.{Passed, passed, state_decides, refuse_room}
-use Rattle.readback.specs.declared.Read.{Read}
+use Rattle.readback.specs.Reading.{Read}
 use Rattle.readback.proofs.Checks.{no_room}
 use Rattle.readback.proofs.RoundTrip.{read-front}
 use Rattle.netlist.specs.Netlist.{gates_on}
 use Rattle.netlist.specs.Outputs.{closed, output_bits, outputs_in}
 use Rattle.netlist.proofs.EveryState.{gates_accepted, outputs-filled}
-use Rattle.repeats.specs.declared.Applied.{Applied}
-use Rattle.repeats.specs.Application.{turned_back, next_run, application_outcome, wires_after, applied}
+use Rattle.repeats.specs.Application.{Applied, turned_back, next_run, application_outcome, wires_after, applied}
 use Rattle.repeats.specs.Repeats.{Accepts, Attempt, Lent, Otherwise, Repeat, returned, circuit_words, attempted, comes_of, long_enough}
 use Rattle.repeats.proofs.RepeatChecks.{sizes-taken}
 use Rattle.repeats.proofs.Judging.{refused, refuse_packing, refuse_wires, take_all, wires_then}
@@ -57,7 +56,7 @@ module _ (d : Dimensions) where
   words_third = omega (arith, words-length (gates_on d))
 
   -- where the checks on the sizes are passed, the circuit's words are accepted as gates after the inputs
-  pub words-accepted : outcome (size_checks d) ≡ Taken → Memory.accepted (input_wires d) (circuit_words d) ≡ true
+  pub words-accepted : outcome (size_checks d) ≡ Ok tt → Memory.accepted (input_wires d) (circuit_words d) ≡ true
   unfolding circuit_words
   words-accepted fits = gates_accepted d fits
 
@@ -67,19 +66,19 @@ module _ (d : Dimensions) where
 
 -- ---- a run that is a well-formed state of n
 
-module _ (d : Dimensions) (tables : Tables) (acc : Accepts d tables) (run : Run) (ok : outcome (state_checks d run) ≡ Taken) (bytes wires : List ℕ) where
+module _ (d : Dimensions) (tables : Tables) (acc : Accepts d tables) (run : Run) (ok : outcome (state_checks d run) ≡ Ok tt) (bytes wires : List ℕ) where
   abbrev next : State
   next = step d.n (rows_of d tables) (state_of run)
 
-  fits : outcome (size_checks d) ≡ Taken
+  fits : outcome (size_checks d) ≡ Ok tt
   fits = sizes-taken d tables acc
 
   -- too few bytes
-  few_bytes : length bytes < input_wires d → application_outcome d tables (circuit_words d) run bytes wires ≡ Refused Wires
+  few_bytes : length bytes < input_wires d → application_outcome d tables (circuit_words d) run bytes wires ≡ Err Wires
   few_bytes h = refuse_packing d tables (circuit_words d) run bytes wires Wires (sym (refuse_room d tables run (length bytes) acc h))
 
   module _ (room : input_wires d ≤ length bytes) where
-    pub packs : outcome (pack_checks d tables run (length bytes)) ≡ Taken
+    pub packs : outcome (pack_checks d tables run (length bytes)) ≡ Ok tt
     packs = sym (state_decides d tables run (length bytes) acc room) ∙ ok
 
     held : Passed d tables run (length bytes)
@@ -89,7 +88,7 @@ module _ (d : Dimensions) (tables : Tables) (acc : Accepts d tables) (run : Run)
     formed = ap (λ (k : ℕ). well_formed_state k (state_of run)) (sym held.same) ∙ (formed_run_e run held.formed).state
 
     -- too few wires
-    few_wires : length wires < input_wires d + length (gates_on d) → application_outcome d tables (circuit_words d) run bytes wires ≡ Refused Wires
+    few_wires : length wires < input_wires d + length (gates_on d) → application_outcome d tables (circuit_words d) run bytes wires ≡ Err Wires
     few_wires h = refuse_wires d tables (circuit_words d) run bytes wires packs (words-accepted d fits) (omega (arith, words_third d))
 
     -- enough of both
@@ -103,7 +102,7 @@ module _ (d : Dimensions) (tables : Tables) (acc : Accepts d tables) (run : Run)
       enough : input_wires d + length (circuit_words d) / 3 ≤ length wires
       enough = omega (arith, words_third d)
 
-      all-taken : application_outcome d tables (circuit_words d) run bytes wires ≡ Taken
+      all-taken : application_outcome d tables (circuit_words d) run bytes wires ≡ Ok tt
       all-taken = take_all d tables (circuit_words d) run bytes wires packs (words-accepted d fits) enough
 
       pub wires_are : wires_after d tables (circuit_words d) run bytes wires ≡ over (bytes_of values) wires
@@ -138,14 +137,14 @@ module _ (d : Dimensions) (tables : Tables) (acc : Accepts d tables) (run : Run)
       few-handed handed h =
           let short : length (take handed outputs) < state_wire_count d.n = omega (arith, length-take handed outputs) in
           by_reading handed
-          ∙ ap (λ (x : Read). given x.outcome (record { outcome = Taken; run = x.run; mark = eqb (get_or outputs (state_wire_count d.n) 0) 1 })
+          ∙ ap (λ (x : Read). given x.outcome (record { outcome = Ok tt; run = x.run; mark = eqb (get_or outputs (state_wire_count d.n) 0) 1 })
           (turned_back run))
           (let z = held.allowed.size in
           sym (no_room d.n (take handed outputs) (rw (le-ltb d.n 1 z.n_least, le-ltb 32 d.n z.n-most)) short))
 
       -- enough are
       pub next-is : (handed : ℕ) → state_wire_count d.n ≤ handed
-          → applied d tables (circuit_words d) run bytes wires handed ≡ record { outcome = Taken; run = run_of d.n next; mark = closed next }
+          → applied d tables (circuit_words d) run bytes wires handed ≡ record { outcome = Ok tt; run = run_of d.n next; mark = closed next }
       unfolding next_run
       next-is handed h =
           let whole : bytes_of (state_bits d.n next) ≡ take (state_wire_count d.n) (take handed outputs) =
@@ -157,7 +156,7 @@ module _ (d : Dimensions) (tables : Tables) (acc : Accepts d tables) (run : Run)
           ap (λ (x : ℕ). eqb x 1) (get_or_at (bytes_of (state_bits d.n next)) (digit (closed next)) [] 0 (state_wire_count d.n) front_length)
           ∙ digit-bit (closed next) in
           by_reading handed
-          ∙ ap₂ (λ (x : Read) (b : Bool). given x.outcome (record { outcome = Taken; run = x.run; mark = b }) (turned_back run)) r m
+          ∙ ap₂ (λ (x : Read) (b : Bool). given x.outcome (record { outcome = Ok tt; run = x.run; mark = b }) (turned_back run)) r m
 
 -- ---- one attempt at a state
 
@@ -170,7 +169,7 @@ module _ (d : Dimensions) (tables : Tables) (acc : Accepts d tables) (s : State)
   stepped = step d.n (rows_of d tables) s
 
   -- where the tables are accepted, the run of a well-formed state passes the checks on a state
-  pub fine : outcome (state_checks d run) ≡ Taken
+  pub fine : outcome (state_checks d run) ≡ Ok tt
   unfolding run_of
   fine = let k = accepted d tables acc in sym (take-state d run (run_of_formed d.n s k.size.n_least k.size.n-most formed) refl)
 
@@ -181,7 +180,7 @@ module _ (d : Dimensions) (tables : Tables) (acc : Accepts d tables) (s : State)
     abbrev enough_wires : Bool
     enough_wires = leb (input_wires d + length (gates_on d)) (length wires)
 
-    judged-back : application_outcome d tables (circuit_words d) run bytes wires ≡ Refused Wires
+    judged-back : application_outcome d tables (circuit_words d) run bytes wires ≡ Err Wires
         → applied d tables (circuit_words d) run bytes wires handed ≡ turned_back run Wires
     judged-back e = refused d tables (circuit_words d) run bytes wires handed Wires e
 
@@ -198,7 +197,7 @@ module _ (d : Dimensions) (tables : Tables) (acc : Accepts d tables) (s : State)
 
     -- long enough: the giant step and its mark
     long_steps : long_enough d (Lent bytes wires handed) ≡ true
-        → applied d tables (circuit_words d) run bytes wires handed ≡ record { outcome = Taken; run = run_of d.n stepped; mark = closed stepped }
+        → applied d tables (circuit_words d) run bytes wires handed ≡ record { outcome = Ok tt; run = run_of d.n stepped; mark = closed stepped }
     long_steps e =
         let both = and_l (enough_bytes && enough_wires) _ e in
         next-is d tables acc run fine bytes wires (leb-true _ _ (and_l enough_bytes _ both)) (leb-true _ _ (and_r enough_bytes _ both)) handed
@@ -206,7 +205,7 @@ module _ (d : Dimensions) (tables : Tables) (acc : Accepts d tables) (s : State)
         ∙ ap taken (state-back d.n s)
       where
         taken : State → Applied
-        taken x = let y = step d.n (rows_of d tables) x in record { outcome = Taken; run = run_of d.n y; mark = closed y }
+        taken x = let y = step d.n (rows_of d tables) x in record { outcome = Ok tt; run = run_of d.n y; mark = closed y }
 
   module _ (again further : Run → List Repeat) where
     -- what comes of it, by whether the attempt is long enough
@@ -233,7 +232,7 @@ module _ (d : Dimensions) (tables : Tables) (acc : Accepts d tables) (s : State)
 
   -- long enough, the giant step and its mark
   pub long_gives : (a : Attempt) → long_enough d a ≡ true
-      → attempted d tables run a ≡ record { outcome = Taken; run = run_of d.n stepped; mark = closed stepped }
+      → attempted d tables run a ≡ record { outcome = Ok tt; run = run_of d.n stepped; mark = closed stepped }
   long_gives (Lent bytes wires handed) e = long_steps bytes wires handed e
   long_gives (Otherwise r) e = absurd (true≢false (sym e))
 

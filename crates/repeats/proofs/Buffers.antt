@@ -7,8 +7,9 @@ use Prim.Native.Nat.{ℕ, ◌+◌, ◌≤◌}
 use native.Mathlib.Omega.{arith}
 use lib.ListN.{length, drop, length-map}
 use lib.Seq.{drop_at, length-take-le, length_front}
+use Rattle.std.specs.Prelude.{Result, Ok, Err}
 use Rattle.refusals.specs.Checks.{outcome}
-use Rattle.refusals.specs.declared.Outcome.TheVariants.{Taken}
+use Rattle.refusals.specs.declared.Refusal.{Refusal}
 use Rattle.words.specs.Booleans.{digit}
 use Rattle.dimensions.specs.declared.Dimensions.{Dimensions}
 use Rattle.dimensions.specs.Sizes.{state_wire_count, input_wires}
@@ -27,7 +28,7 @@ use Rattle.wires.proofs.Lengths.{input_length}
 use Rattle.wires.proofs.Checks.{pack-taken}
 use Rattle.netlist.specs.Netlist.{gates_on}
 use Rattle.netlist.specs.Outputs.{closed}
-use Rattle.repeats.specs.Application.{wires_after, applied}
+use Rattle.repeats.specs.Application.{wires_after, applied, mark_result}
 use Rattle.repeats.specs.Repeats.{Accepts, circuit_words}
 use Rattle.repeats.proofs.Applying.{packs, formed, wires_are, next-is, fine}
 
@@ -56,7 +57,7 @@ pub record Ready (d : Dimensions) (tables : Tables) (bytes wires : List ℕ) : T
   pub room : input_wires d ≤ length bytes
   pub space : input_wires d + length (gates_on d) ≤ length wires
 
-module _ (d : Dimensions) (tables : Tables) (bytes wires : List ℕ) (y : Ready d tables bytes wires) (run : Run) (ok : outcome (state_checks d run) ≡ Taken)
+module _ (d : Dimensions) (tables : Tables) (bytes wires : List ℕ) (y : Ready d tables bytes wires) (run : Run) (ok : outcome (state_checks d run) ≡ Ok tt)
   where
     abbrev bits : List Bool
     bits = input_bits d tables (state_of run)
@@ -90,10 +91,16 @@ module _ (d : Dimensions) (tables : Tables) (bytes wires : List ℕ) (y : Ready 
 
     -- an application gives the giant step and its mark
     pub applied-is : applied d tables (circuit_words d) run bytes wires
-        (state_wire_count d.n + 1) ≡ record { outcome = Taken; run = run_of d.n next; mark = closed next }
+        (state_wire_count d.n + 1) ≡ record { outcome = Ok tt; run = run_of d.n next; mark = closed next }
     applied-is = next-is d tables y.accepts run ok bytes wires y.room y.space (state_wire_count d.n + 1) (omega arith)
 
-    pub next-fine : outcome (state_checks d (run_of d.n next)) ≡ Taken
+    -- and is not refused
+    pub applied-taken : (r : Refusal) → mark_result (applied d tables (circuit_words d) run bytes wires (state_wire_count d.n + 1)) ≡ Err r → ⊥
+    applied-taken r e =
+        let q : ◌≡◌ {A = Result Bool Refusal} (Ok (closed next)) (Err r) = sym (ap mark_result applied-is) ∙ e in
+        let z : ◌≡◌ {A = ℕ} 0 1 = cc in omega arith
+
+    pub next-fine : outcome (state_checks d (run_of d.n next)) ≡ Ok tt
     next-fine = fine d tables y.accepts next
         (step-well_formed d.n (rows_of d tables) (state_of run) (formed d tables y.accepts run ok bytes wires y.room))
 
@@ -105,7 +112,7 @@ module _ (d : Dimensions) (tables : Tables) (bytes wires bytes' wires' : List �
   pub ready_same : Ready d tables bytes' wires'
   ready_same = record { accepts = y.accepts; room = omega (arith, b.long, y.room); space = omega (arith, w.long, y.space) }
 
-  module _ (run : Run) (ok : outcome (state_checks d run) ≡ Taken) where
+  module _ (run : Run) (ok : outcome (state_checks d run) ≡ Ok tt) where
     pub packed-same : packed d tables run bytes' ≡ packed d tables run bytes
     packed-same =
         packed-is d tables bytes' wires' ready_same run ok

@@ -9,8 +9,9 @@ use lib.Dec.{ltb}
 use lib.ListN.{length, replicate, length-append}
 use lib.Seq.{take_at}
 use borrow.Author.Tests.{lt-ltb, ltb-true}
+use Rattle.std.specs.Prelude.{Ok, Err}
 use Rattle.refusals.specs.Checks.{outcome}
-use Rattle.refusals.specs.declared.Outcome.TheVariants.{Taken}
+use Rattle.refusals.specs.declared.Refusal.{Refusal}
 use Rattle.dimensions.specs.declared.Dimensions.{Dimensions}
 use Rattle.dimensions.specs.Sizes.{state_wire_count, input_wires}
 use Rattle.tables.specs.Tables.{Tables}
@@ -23,13 +24,11 @@ use Rattle.solver.proofs.BudgetedRun.{open_e, left_over}
 use Rattle.wires.specs.Packing.{packed}
 use Rattle.netlist.specs.Netlist.{gates_on}
 use Rattle.netlist.specs.Outputs.{closed}
-use Rattle.repeats.specs.declared.Repeated.{Repeated}
-use Rattle.repeats.specs.declared.Applied.{Applied}
-use Rattle.repeats.specs.Application.{wires_after, applied}
+use Rattle.repeats.specs.Application.{Applied, wires_after, applied, mark_result}
 use Rattle.repeats.specs.Repeats.{Repeat, returned, circuit_words, last_run, comes_of, repeats}
-use Rattle.repeats.specs.Repeating.{whole, made, run_before, bytes_left_by, wires_left, repeated_by}
+use Rattle.repeats.specs.Repeating.{Repeated, whole, made, run_before, bytes_left_by, wires_left, repeated_by}
 use Rattle.repeats.proofs.Buffers.{Agree, agree_refl, Ready, packed_agrees, filled_agrees, next, applied-is, next-fine, ready_same, packed-same}
-use Rattle.repeats.proofs.Buffers.{filled-same}
+use Rattle.repeats.proofs.Buffers.{filled-same, applied-taken}
 
 -- ---- one more repeat after others
 
@@ -61,7 +60,7 @@ module _ (d : Dimensions) (tables : Tables) (bytes wires : List ℕ) (run : Run)
 
 module _ (d : Dimensions) (tables : Tables) (bytes wires : List ℕ) (y : Ready d tables bytes wires) (k : ℕ) (run : Run) where
   -- an open run's repeats
-  made_more : (ok : outcome (state_checks d run) ≡ Taken) → run.standing ≡ Open → let s = next d tables bytes wires y run ok in
+  made_more : (ok : outcome (state_checks d run) ≡ Ok tt) → run.standing ≡ Open → let s = next d tables bytes wires y run ok in
       made d tables (suc k) bytes wires run ≡ returned d.n s ∷ made d tables k bytes wires (run_of d.n s)
   unfolding made repeats run_of
   made_more ok o =
@@ -94,7 +93,7 @@ module _ (d : Dimensions) (tables : Tables) (bytes wires bytes' wires' : List �
   none-same k run e = made_none d tables bytes wires y k run e ∙ sym (made_none d tables bytes' wires' y' k run e)
 
   -- in two pairs of long enough buffers the repeats are the same
-  pub made-same : (k : ℕ) (run : Run) → outcome (state_checks d run) ≡ Taken → made d tables k bytes wires run ≡ made d tables k bytes' wires' run
+  pub made-same : (k : ℕ) (run : Run) → outcome (state_checks d run) ≡ Ok tt → made d tables k bytes wires run ≡ made d tables k bytes' wires' run
   made-same zero run ok = none-same zero run (go run.standing)
     where
       go : (st : Standing) → if_open st (ltb 0 0) false ≡ false
@@ -125,14 +124,14 @@ pub record Repeating (d : Dimensions) (tables : Tables) (times : ℕ) (bytes₀ 
   pub most : count ≤ times
   pub whole_is : made d tables times bytes₀ wires₀ run₀ ≡ done ++ made d tables (times - count) bytes₀ wires₀ run
   pub run_is : last_run run₀ done ≡ run
-  pub run-fine : outcome (state_checks d run) ≡ Taken
+  pub run-fine : outcome (state_checks d run) ≡ Ok tt
   pub bytes_are : bytes ≡ bytes_left_by d tables bytes₀ run₀ done
   pub wires_are : wires ≡ wires_left d tables bytes₀ wires₀ run₀ done
   pub bytes-agree : Agree (input_wires d) bytes bytes₀
   pub wires_agree : Agree (input_wires d + length (gates_on d)) wires wires₀
 
 module _ (d : Dimensions) (tables : Tables) (times : ℕ) (bytes₀ wires₀ : List ℕ) (y : Ready d tables bytes₀ wires₀) (run₀ : Run) where
-  pub repeating_start : outcome (state_checks d run₀) ≡ Taken → Repeating d tables times bytes₀ wires₀ run₀ bytes₀ wires₀ run₀ 0
+  pub repeating_start : outcome (state_checks d run₀) ≡ Ok tt → Repeating d tables times bytes₀ wires₀ run₀ bytes₀ wires₀ run₀ 0
   unfolding last_run
   repeating_start ok = record {
     done = [];
@@ -188,6 +187,10 @@ module _ (d : Dimensions) (tables : Tables) (times : ℕ) (bytes₀ wires₀ : L
           wires_agree = rw wires-next (filled_agrees d tables bytes₀ wires₀ y run ok);
         }
 
+    -- no application is refused
+    pub repeating_taken : (r : Refusal) → mark_result (applied d tables (circuit_words d) run bytes wires (state_wire_count d.n + 1)) ≡ Err r → ⊥
+    repeating_taken r e = applied-taken d tables bytes wires ready run o.run-fine r e
+
     -- none is left: those done are all
     all_done : if_open run.standing (ltb count times) false ≡ false → made d tables times bytes₀ wires₀ run₀ ≡ o.done
     all_done e =
@@ -198,12 +201,12 @@ module _ (d : Dimensions) (tables : Tables) (times : ℕ) (bytes₀ wires₀ : L
 
     pub repeating_end : if_open run.standing (ltb count times) false ≡ false → (mark : Bool) → mark ≡ closed (state_of run)
         → let h = made d tables times bytes₀ wires₀ run₀ in
-        (◌≡◌ {A = Repeated} (record { outcome = Taken; run = run; repeats = count; mark = mark }) (repeated_by run₀ h))
+        (◌≡◌ {A = Repeated} (record { outcome = Ok tt; run = run; repeats = count; mark = mark }) (repeated_by run₀ h))
         × ((bytes ≡ bytes_left_by d tables bytes₀ run₀ h) × (wires ≡ wires_left d tables bytes₀ wires₀ run₀ h))
     repeating_end e mark m =
         let q = sym (all_done e) in (
-          ap (λ (b : Bool). record { outcome = Taken; run = run; repeats = count; mark = b }) m
-              ∙ ap₂ (λ (x : Run) (k : ℕ). record { outcome = Taken; run = x; repeats = k; mark = closed (state_of x) }) (sym o.run_is) (sym o.count-is)
+          ap (λ (b : Bool). record { outcome = Ok tt; run = run; repeats = count; mark = b }) m
+              ∙ ap₂ (λ (x : Run) (k : ℕ). record { outcome = Ok tt; run = x; repeats = k; mark = closed (state_of x) }) (sym o.run_is) (sym o.count-is)
               ∙ ap (repeated_by run₀) q,
           (
             o.bytes_are ∙ ap (bytes_left_by d tables bytes₀ run₀) q,

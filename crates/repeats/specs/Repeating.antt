@@ -1,10 +1,9 @@
 -- The circuit of some dimensions, generated and then repeated on a run: document 01, "Circuit". All that turns a call back is judged before
 -- anything is written: 1, 2, 4, 3, 7, 10, 12, 13.
 -- Ask: Are all refusals judged first, and are its repeats demand 3's?
-use Rattle.std.specs.Prelude.{ℕ, ◌+◌, ◌*◌, ◌-◌, false, ◌||◌, List, [], ◌∷◌, ◌++◌, ltb, length, take, replicate}
+use Rattle.refusals.specs.Numbers.{Outcome, number_of}
+use Rattle.std.specs.Prelude.{ℕ, ◌+◌, ◌*◌, ◌-◌, Bool, false, ◌||◌, List, [], ◌∷◌, ◌++◌, ltb, length, take, replicate, Result, Ok, Err}
 use Rattle.refusals.specs.Checks.{Check, check, outcome, given}
-use Rattle.refusals.specs.declared.Outcome.{Outcome}
-use Rattle.refusals.specs.declared.Outcome.TheVariants.{Taken, Refused}
 use Rattle.refusals.specs.declared.Refusal.{Refusal}
 use Rattle.refusals.specs.declared.Refusal.TheVariants.{GateBuffer, Wires}
 use Rattle.dimensions.specs.declared.Dimensions.{Dimensions}
@@ -18,7 +17,7 @@ use Rattle.wires.specs.Packing.{packed}
 use Rattle.netlist.specs.Netlist.{gates_on}
 use Rattle.netlist.specs.Outputs.{closed}
 use Rattle.generator.specs.Generation.{written_words}
-use Rattle.repeats.specs.declared.Repeated.{Repeated}
+use Rattle.repeats.specs.declared.Ending.{Ending}
 use Rattle.repeats.specs.Application as Application
 use Rattle.repeats.specs.Repeats.{Attempt, Lent, Repeat, circuit_words, last_run, repeats}
 
@@ -61,13 +60,20 @@ wires_left d tables bytes wires run (r ∷ later) =
 
 -- ---- the call
 
+-- the run after the repeats, how many there were, and the last mark, whether that run is closed; refused, the run as it was
+pub record Repeated : Type 0 where
+  pub outcome : Outcome
+  pub run : Run
+  pub repeats : ℕ
+  pub mark : Bool
+
 -- the run after these repeats, how many there are, and whether that run is closed
 abbrev pub repeated_by : Run → List Repeat → Repeated
-repeated_by run h = let last = last_run run h in record { outcome = Taken; run = last; repeats = length h; mark = closed (state_of last) }
+repeated_by run h = let last = last_run run h in record { outcome = Ok tt; run = last; repeats = length h; mark = closed (state_of last) }
 
 -- refused, the run as it was, with no repeat and no mark
 abbrev pub refused_with : Run → Refusal → Repeated
-refused_with run r = record { outcome = Refused r; run = run; repeats = 0; mark = false }
+refused_with run r = record { outcome = Err r; run = run; repeats = 0; mark = false }
 
 module _ (d : Dimensions) (tables : Tables) (times : ℕ) (gates bytes wires : List ℕ) (run : Run) where
   -- what the checks say
@@ -93,3 +99,12 @@ module _ (d : Dimensions) (tables : Tables) (times : ℕ) (gates bytes wires : L
   unfoldable pub wires_after : List ℕ
   unfolding allowed made
   wires_after = given allowed (wires_left d tables bytes wires run (made d tables times bytes wires run)) (λ r. wires)
+
+-- number and mark where a call is taken, else the refusal
+abbrev pub ending_result : Repeated → Result Ending Refusal
+ending_result r = given r.outcome (Ok (record { repeats = r.repeats; mark = r.mark })) Err
+
+-- 0 where a call is taken, else the refusal's number
+abbrev pub ending_code : Result Ending Refusal → ℕ
+ending_code (Ok e) = 0
+ending_code (Err r) = number_of r

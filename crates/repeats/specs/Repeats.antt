@@ -1,9 +1,8 @@
 -- The repeats of a circuit over three tables: document 01, "Circuit", second paragraph; each reads the rows as they are when it begins
 -- (document 02, Req 06).
 -- Ask: Is a repeat the run that it returned and its mark? Is an attempt that is refused, for whatever cause, none?
-use Rattle.std.specs.Prelude.{ℕ, zero, suc, ◌+◌, ◌≡◌, Bool, false, ◌||◌, ◌&&◌, cond, List, [], ◌∷◌, map, eqb, leb, length, get_or}
+use Rattle.std.specs.Prelude.{ℕ, zero, suc, ◌+◌, ◌≡◌, Bool, false, ◌||◌, ◌&&◌, cond, List, [], ◌∷◌, map, eqb, leb, length, get_or, Ok}
 use Rattle.refusals.specs.Checks.{outcome, given}
-use Rattle.refusals.specs.declared.Outcome.TheVariants.{Taken}
 use Rattle.refusals.specs.declared.Refusal.{Refusal}
 use Rattle.words.specs.Sets.{any}
 use Rattle.dimensions.specs.declared.Dimensions.{Dimensions}
@@ -16,8 +15,7 @@ use Rattle.gates.specs.Memory.{words_of}
 use Rattle.netlist.specs.Netlist.{gates_on}
 use Rattle.netlist.specs.Outputs.{closed}
 use Rattle.generator.specs.Generation.{generator_checks}
-use Rattle.repeats.specs.declared.Applied.{Applied}
-use Rattle.repeats.specs.Application.{turned_back, applied}
+use Rattle.repeats.specs.Application.{Applied, turned_back, applied}
 
 -- the generated circuit in memory: it is made from n and the row counts alone
 unfoldable pub circuit_words : Dimensions → List ℕ
@@ -29,7 +27,7 @@ circuit_in d words = given (outcome (generator_checks d words)) (circuit_words d
 
 -- tables of these dimensions that none of 1 to 4 refuses
 abbrev pub Accepts : Dimensions → Tables → Type 0
-Accepts d tables = outcome (table_checks d tables) ≡ Taken
+Accepts d tables = outcome (table_checks d tables) ≡ Ok tt
 
 -- an attempt to apply the circuit: with the buffers that the host lends and a number of the output wires handed to the read-back, or
 -- refused for any other cause

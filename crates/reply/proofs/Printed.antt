@@ -3,44 +3,41 @@
 use mathlib.Core.Path.{◌≡◌, refl, sym, ap, ◌∙◌, subst}
 use mathlib.Core.List.{List}
 use Prim.Native.Nat.{ℕ}
+use Rattle.std.specs.Prelude.{Result, Ok, Err}
+use Rattle.refusals.specs.declared.Refusal.{Refusal}
+use Rattle.solver.specs.declared.Answer.{Answer}
+use Rattle.refusals.specs.Numbers.{Outcome}
 use Rattle.refusals.specs.Checks.{given}
-use Rattle.refusals.specs.declared.Outcome.{Outcome}
-use Rattle.refusals.specs.declared.Outcome.TheVariants.{Taken, Refused}
-use Rattle.dimacs.specs.declared.TextTables.{TextTables}
-use Rattle.dimacs.specs.ThreeTexts.{text_tables}
-use Rattle.solver.specs.declared.Solved.{Solved}
-use Rattle.solver.specs.declared.Solved.TheVariants as solved
+use Rattle.dimacs.specs.ThreeTexts.{ThreeTables, text_tables}
 use Rattle.lines.specs.Numbers.{budget_of}
 use Rattle.answers.specs.Printed.{solved_text}
-use Rattle.lines.specs.declared.Budget.{Budget}
-use Rattle.lines.specs.declared.Budget.TheVariants as budget
 use Rattle.lines.proofs.Readings.{budget_below}
 use Rattle.answers.proofs.Injective.{IsSolvedWithin, run-within, printed_injective}
 use Rattle.reply.specs.Reply.{answered, replied, reply_text}
 use Rattle.reply.proofs.Accepted.{rows_read, reply-answers}
 
 module _ (left right public line : List ℕ) where
-  abbrev texts : TextTables
+  abbrev texts : ThreeTables
   texts = text_tables left right public
 
-  abbrev reply : Solved
+  abbrev reply : Result Answer Refusal
   reply = replied texts line
 
   reply-within : IsSolvedWithin texts.n reply
   reply-within = by-texts texts.outcome refl
     where
-      given_by : (o : Outcome) → texts.outcome ≡ o → given o (answered texts (budget_of line)) solved.Refused ≡ reply
-      given_by o e = sym (ap (λ (o : Outcome). given o (answered texts (budget_of line)) solved.Refused) e)
+      given_by : (o : Outcome) → texts.outcome ≡ o → given o (answered texts (budget_of line)) Err ≡ reply
+      given_by o e = sym (ap (λ (o : Outcome). given o (answered texts (budget_of line)) Err) e)
 
-      by-line : (b : Budget) → texts.outcome ≡ Taken → budget_of line ≡ b → IsSolvedWithin texts.n reply
-      by-line (budget.Of steps) taken e =
+      by-line : (b : Result ℕ Refusal) → texts.outcome ≡ Ok tt → budget_of line ≡ b → IsSolvedWithin texts.n reply
+      by-line (Ok steps) taken e =
           subst (IsSolvedWithin texts.n) (sym (reply-answers left right public line steps taken e))
           (run-within texts.n (rows_read left right public) steps (budget_below line steps e))
-      by-line (budget.Refused r) taken e = subst (IsSolvedWithin texts.n) (sym (ap (answered texts) e) ∙ given_by Taken taken) tt
+      by-line (Err r) taken e = subst (IsSolvedWithin texts.n) (sym (ap (answered texts) e) ∙ given_by (Ok tt) taken) tt
 
       by-texts : (o : Outcome) → texts.outcome ≡ o → IsSolvedWithin texts.n reply
-      by-texts Taken e = by-line (budget_of line) e refl
-      by-texts (Refused r) e = subst (IsSolvedWithin texts.n) (given_by (Refused r) e) tt
+      by-texts (Ok _) e = by-line (budget_of line) e refl
+      by-texts (Err r) e = subst (IsSolvedWithin texts.n) (given_by (Err r) e) tt
 
 pub reply_injective : (left right public line left' right' public' line' : List ℕ) → (text_tables left right public).n ≡ (text_tables left' right' public').n
     → reply_text left right public line ≡ reply_text left' right' public' line'

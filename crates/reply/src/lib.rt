@@ -5,18 +5,20 @@
 ghost use Rattle.std.specs.Prelude.{◌≡◌, min};
 ghost use Rattle.text.specs.Texts.{text_of};
 ghost use Rattle.answers.specs.Printed.{solved_text};
-ghost use Rattle.reply.specs.Reply.{dimensions_of, answered, replied, reply_text};
+ghost use Rattle.dimacs.specs.ThreeTexts.{all_read};
+ghost use Rattle.lines.specs.Numbers.{budget_of};
+ghost use Rattle.reply.specs.Reply.{dimensions_of, answered, reply_text};
 
 use dimacs::TextTables;
 use dimensions::Dimensions;
-use lines::Budget;
-use refusals::Outcome;
-use solver::Solved;
+use refusals::Refusal;
+use solver::Answer;
+use tables::Tables;
 use text::Text;
 
 // n and the row counts of tables that were read.
 pub fn dimensions_of(tables: TextTables) -> Dimensions
-    ensures { result ≡ dimensions_of tables }
+    ensures { result ≡ dimensions_of (all_read tables) }
 {
     Dimensions {
         n: tables.n,
@@ -27,40 +29,32 @@ pub fn dimensions_of(tables: TextTables) -> Dimensions
 }
 
 // The budgeted run over tables that were read, or 8.
-fn answer(tables: TextTables, budget: Budget) -> Solved
-    ensures { result ≡ answered tables budget }
+fn answer(tables: TextTables, line: &[u8]) -> Result<Answer, Refusal>
+    ensures { result ≡ answered (all_read tables) (budget_of line.now) }
 {
+    let budget = lines::read_budget(line)?;
+    let d = dimensions_of(tables);
     let left = tables.left;
     let right = tables.right;
     let public = tables.public;
-    match budget {
-        Budget::Refused(refusal) => Solved::Refused(refusal),
-        Budget::Of(steps) => {
-            let d = dimensions_of(tables);
-            indexed::solve_indexed(d, &left, &right, &public, steps)
-        }
-    }
-}
-
-// The refusal of the texts, or 8, or the answer.
-fn solve_texts(tables: TextTables, line: &[u8]) -> Solved
-    ensures { result ≡ replied tables line.now }
-{
-    let outcome = tables.outcome;
-    match outcome {
-        Outcome::Taken => {}
-        Outcome::Refused(refusal) => return Solved::Refused(refusal),
-    }
-    answer(tables, lines::read_budget(line))
+    indexed::solve_indexed(
+        d,
+        Tables {
+            left: &left,
+            right: &right,
+            public: &public,
+        },
+        budget,
+    )
 }
 
 // An answer or a refusal as it is printed.
-pub fn print(n: u8, given: Solved) -> Text
+pub fn print(n: u8, given: Result<Answer, Refusal>) -> Text
     ensures { result ≡ text_of (solved_text (min n 32) given) }
 {
     match given {
-        Solved::Of(answer) => answers::answer_text(n, answer),
-        Solved::Refused(refusal) => answers::refusal_text(refusal),
+        Ok(answer) => answers::answer_text(n, answer),
+        Err(refusal) => answers::refusal_text(refusal),
     }
 }
 
@@ -68,6 +62,9 @@ pub fn print(n: u8, given: Solved) -> Text
 pub fn reply(left: &[u8], right: &[u8], public: &[u8], line: &[u8]) -> Text
     ensures { result ≡ text_of (reply_text left.now right.now public.now line.now) }
 {
-    let tables = dimacs::read_tables(left, right, public);
-    print(tables.n, solve_texts(tables, line))
+    let tables = match dimacs::read_tables(left, right, public) {
+        Ok(tables) => tables,
+        Err(refusal) => return answers::refusal_text(refusal),
+    };
+    print(tables.n, answer(tables, line))
 }

@@ -1,5 +1,5 @@
 -- How many digits a variable's number has, and bounds on what the digits take: each by the powers of two up to 32.
-use mathlib.Core.Path.{◌≡◌, ap, ◌∙◌}
+use mathlib.Core.Path.{◌≡◌}
 use mathlib.Core.Bool.{Bool, true, false}
 use Prim.Native.Nat.{ℕ, zero, suc, ◌+◌, ◌*◌, ◌-◌, ◌^◌, ◌≤◌, ◌<◌}
 use native.Mathlib.Nat.{mul-le-mul, div-le_self, div-mul-le_self}
@@ -59,10 +59,3 @@ module _ (n m : ℕ) (hn : n ≤ 255) (hm : m ≤ 765) where
       let few : 1 + thresholds n d ≤ 256 = omega (arith, (thresholds-few d).0) in
       let gates : (1 + thresholds n d) * m ≤ 256 * 765 = mul-le-mul few hm in
       omega (arith, digits-few d, gates)
-
--- one digit more
-pub digits_more : (n m gates t k : ℕ) → gates ≡ digits_to n m k → t ≡ thresholds n k → gates + (1 + t) * m ≡ digits_to n m (k + 1)
-unfolding digits_to
-digits_more n m gates t k eg et =
-    let next : suc k ≡ k + 1 = omega arith in
-    ap (λ (x : ℕ). x + (1 + t) * m) eg ∙ ap (λ (x : ℕ). digits_to n m k + (1 + x) * m) et ∙ ap (digits_to n m) next

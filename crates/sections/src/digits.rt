@@ -54,11 +54,5 @@ pub(crate) fn digits_to(n: u32, m: u32, d: u32) -> u32
     ensures value { result ≡ digits_to n m d }
     ensures upper_bound { result ≤ 979200 }
 {
-    let mut gates = 0;
-    let mut k = 0;
-    while k < d {
-        gates += (1 + thresholds(n, k)) * m;
-        k += 1;
-    }
-    gates
+    (0..d).map(|k| (1 + thresholds(n, k)) * m).sum()
 }

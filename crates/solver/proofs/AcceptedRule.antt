@@ -4,8 +4,8 @@ use mathlib.Core.Path.{◌≡◌, ap, ap₂, ◌∙◌}
 use mathlib.Core.List.{List, ◌++◌}
 use Prim.Native.Nat.{ℕ, ◌*◌}
 use lib.ListN.{take}
+use Rattle.std.specs.Prelude.{Ok}
 use Rattle.refusals.specs.Checks.{outcome}
-use Rattle.refusals.specs.declared.Outcome.TheVariants.{Taken}
 use Rattle.words.specs.declared.Row.{Row}
 use Rattle.dimensions.specs.declared.Dimensions.{Dimensions}
 use Rattle.tables.specs.Tables.{Tables}
@@ -18,7 +18,7 @@ use Rattle.truth.proofs.LowRows.{accepted-low}
 use Rattle.solver.proofs.WidthLaws.{rule_width}
 
 -- the rows of the fronts of accepted tables are the tables'
-pub rows_of_fronts : (d : Dimensions) (tables : Tables) → outcome (table_checks d tables) ≡ Taken
+pub rows_of_fronts : (d : Dimensions) (tables : Tables) → outcome (table_checks d tables) ≡ Ok tt
     → let front : ℕ → List ℕ → List Row = λ rows words. rows_of_words (take (2 * rows) words) in
     front d.left tables.left ++ (front d.right tables.right ++ front d.public tables.public) ≡ rows_of d tables
 rows_of_fronts d tables ok =
@@ -26,7 +26,7 @@ rows_of_fronts d tables ok =
     ap₂ ◌++◌ (rows_in_front tables.left d.left a.left-length)
     (ap₂ ◌++◌ (rows_in_front tables.right d.right a.right_length) (rows_in_front tables.public d.public a.public_length))
 
-pub rule_of_fronts : (d : Dimensions) (tables : Tables) → outcome (table_checks d tables) ≡ Taken → (t f : ℕ)
+pub rule_of_fronts : (d : Dimensions) (tables : Tables) → outcome (table_checks d tables) ≡ Ok tt → (t f : ℕ)
     → let front : ℕ → List ℕ → List Row = λ rows words. rows_of_words (take (2 * rows) words) in
     rule 32 (front d.left tables.left ++ (front d.right tables.right ++ front d.public tables.public)) t f ≡ rule d.n (rows_of d tables) t f
 rule_of_fronts d tables ok t f =

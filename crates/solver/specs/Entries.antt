@@ -1,11 +1,10 @@
 -- The budgeted run's answer, and what each entry gives: document 01, "Giant step" and "Turned back".
 -- Ask: Does the count include the closing step? Names that end in With take the rule that applies as a parameter: is the name without it
 -- that of `rule`?
-use Rattle.std.specs.Prelude.{ℕ, zero, suc, List, [], ◌∷◌, ◌++◌}
-use Rattle.refusals.specs.Numbers.{number_of}
+use Rattle.refusals.specs.declared.Refusal.{Refusal}
+use Rattle.std.specs.Prelude.{ℕ, zero, suc, List, [], ◌∷◌, ◌++◌, Result, Ok, Err}
+use Rattle.refusals.specs.Numbers.{Outcome, number_of}
 use Rattle.refusals.specs.Checks.{outcome, given}
-use Rattle.refusals.specs.declared.Outcome.TheVariants.{Taken}
-use Rattle.refusals.specs.declared.Outcome.TheVariants as outcomes
 use Rattle.words.specs.declared.Row.{Row}
 use Rattle.dimensions.specs.declared.Dimensions.{Dimensions}
 use Rattle.tables.specs.Tables.{Tables}
@@ -13,10 +12,7 @@ use Rattle.tables.specs.Rows.{rows_of}
 use Rattle.tables.specs.Acceptance.{table_checks}
 use Rattle.solver.specs.declared.Answer.{Answer}
 use Rattle.state.specs.declared.Run.{Run}
-use Rattle.solver.specs.declared.Solved.{Solved}
-use Rattle.solver.specs.declared.Solved.TheVariants as solved'
 use Rattle.state.specs.declared.Standing.TheVariants.{Open, Satisfied, Refuted}
-use Rattle.solver.specs.declared.Stepped.{Stepped}
 use Rattle.state.specs.State.{State, fresh, state_of, run_of}
 use Rattle.verdicts.specs.Verdicts.{verdict_of, verdict_number, model_word}
 use Rattle.scan.specs.Rules.{rule}
@@ -61,13 +57,18 @@ answer_of = answer_with rule
 
 -- ---- the entries
 
+-- what the step's entry returns, and the run then
+pub record Stepped : Type 0 where
+  pub outcome : Outcome
+  pub run : Run
+
 -- the step's entry: 1, 2, 4, 3, 12, 13, and then the run is as it was
 unfoldable pub stepped_with : Ruling → Dimensions → Tables → Run → Stepped
 unfolding step_with run_of well_formed
 stepped_with ruling d tables run =
     given (outcome (table_checks d tables ++ state_checks d run))
-    (record { outcome = Taken; run = run_of d.n (step_with ruling d.n (rows_of d tables) (state_of run)) })
-    (λ r. record { outcome = outcomes.Refused r; run = run })
+    (record { outcome = Ok tt; run = run_of d.n (step_with ruling d.n (rows_of d tables) (state_of run)) })
+    (λ r. record { outcome = Err r; run = run })
 
 -- that of the giant step
 unfoldable pub stepped : Dimensions → Tables → Run → Stepped
@@ -75,26 +76,26 @@ unfolding stepped_with step
 stepped = stepped_with rule
 
 -- the budgeted run's entry: 1, 2, 4, 3
-unfoldable pub solved_with : Ruling → Dimensions → Tables → ℕ → Solved
+unfoldable pub solved_with : Ruling → Dimensions → Tables → ℕ → Result Answer Refusal
 unfolding answer_with
 solved_with ruling d tables budget = given (outcome (table_checks d tables))
-    (solved'.Of (answer_with ruling d.n (always (rows_of d tables)) budget)) solved'.Refused
+    (Ok (answer_with ruling d.n (always (rows_of d tables)) budget)) Err
 
 -- by giant steps
-unfoldable pub solved : Dimensions → Tables → ℕ → Solved
+unfoldable pub solved : Dimensions → Tables → ℕ → Result Answer Refusal
 unfolding solved_with answer_of
 solved = solved_with rule
 
 -- what the budgeted run returns: 0, or 1, 2, 3 or 4 of "Turned back because of the input"
-abbrev pub solved_code : Solved → ℕ
-solved_code (solved'.Of answer) = 0
-solved_code (solved'.Refused r) = number_of r
+abbrev pub solved_code : Result Answer Refusal → ℕ
+solved_code (Ok answer) = 0
+solved_code (Err r) = number_of r
 
 -- "count, verdict and model"
 abbrev pub answer_numbers : Answer → List ℕ
 answer_numbers answer = answer.count ∷ (verdict_number answer.verdict ∷ (model_word answer.verdict ∷ []))
 
 -- those of the answer
-abbrev pub solved_numbers : Solved → List ℕ
-solved_numbers (solved'.Of answer) = answer_numbers answer
-solved_numbers (solved'.Refused r) = []
+abbrev pub solved_numbers : Result Answer Refusal → List ℕ
+solved_numbers (Ok answer) = answer_numbers answer
+solved_numbers (Err r) = []

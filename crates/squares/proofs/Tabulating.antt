@@ -36,6 +36,12 @@ tabulate_cong f g i j (suc k) h =
     (tabulate_cong f g (suc i) (suc j) k (λ x b. ap f (suc-add i x ∙ sym (add-suc i x)) ∙ h (suc x) (omega arith)
     ∙ ap g (add-suc j x ∙ sym (suc-add j x))))
 
+-- a list that holds the values
+pub tabulated : (f : ℕ → ℕ) (k : ℕ) (xs : List ℕ) → length xs ≡ k → ((j : ℕ) → j < k → get_or xs j 0 ≡ f j) → xs ≡ tabulate f 0 k
+tabulated f k xs size each =
+    ext_get_or 0 xs (tabulate f 0 k) (size ∙ sym (length-tabulate f 0 k))
+    (λ j b. let l : j < k = subst (λ (x : ℕ). j < x) size b in each j l ∙ sym (at-tabulate f 0 k j l ∙ ap f (zero-add j)))
+
 -- ---- filled one place after the other
 
 -- of k places those below i are filled
@@ -61,7 +67,4 @@ module _ (f : ℕ → ℕ) (k : ℕ) where
         below j b = omega arith
 
     pub filled_end : k ≤ i → xs ≡ tabulate f 0 k
-    filled_end h =
-        ext_get_or 0 xs (tabulate f 0 k) (s.size ∙ sym (length-tabulate f 0 k))
-        (λ j b. let l : j < k = subst (λ (x : ℕ). j < x) s.size b in
-        s.done j (omega arith) ∙ sym (at-tabulate f 0 k j l ∙ ap f (zero-add j)))
+    filled_end h = tabulated f k xs s.size (λ j l. s.done j (omega arith))

@@ -6,6 +6,8 @@ ghost use Rattle.std.specs.Prelude.{◌≡◌, true, [], ◌∷◌, ◌+◌, ◌
 ghost use Rattle.squares.specs.Squares.{transposed, square_at, square_rows};
 ghost use Rattle.squares.specs.Steps.{fine, low_word, high_word, staged, picked};
 
+use std::array;
+
 // A square's positive and negative planes: word i of a plane holds variable i + 1 over 32 rows. Its rows are held in the same form, their
 // positive words and their negative words.
 pub type Square = [[u32; 32]; 2];
@@ -44,6 +46,7 @@ fn stage(words: [u32; 32], d: u32, mask: u32) -> [u32; 32]
     ensures { result ≡ staged words d }
 {
     let mut next = [0u32; 32];
+    // By number: word pairs go to places 2 × j and 2 × j + 1, and after `chunks_exact_mut` a proof would know no word of `next`.
     for j in 0..16usize {
         let a = word(&words, j);
         let b = word(&words, j + 16);
@@ -78,11 +81,7 @@ fn pick(words: &[u32], at: usize, step: usize) -> [u32; 32]
     requires { (at < 65536) × (step ≤ 2) }
     ensures { result ≡ picked words.now at step }
 {
-    let mut picked = [0u32; 32];
-    for j in 0..32usize {
-        picked[j] = word_at(words, at + step * j);
-    }
-    picked
+    array::from_fn(|j| word_at(words, at + step * j))
 }
 
 // The columns of the words from a place on, and of those from `gap` words later on.

@@ -28,7 +28,8 @@ pub record Tidy (run : Run) : Type 0 where
   pub deep : run.depth ≤ 32
   pub rest : drop run.depth run.levels ≡ replicate (32 - run.depth) none
 
-levels-back : (d : ℕ) (levels : List Level) → d ≤ length levels → reverse (levels_of d levels) ≡ take d levels
+-- the levels of the definition from the last one back are the first d
+pub levels-back : (d : ℕ) (levels : List Level) → d ≤ length levels → reverse (levels_of d levels) ≡ take d levels
 levels-back zero levels h = refl
 levels-back (suc d) levels h =
     reverse-cons (get_or levels d none) (levels_of d levels)

@@ -1,15 +1,15 @@
 -- What the code's tests of words say of T, F and levels, in its order: a word is 0 where the definition's test holds of every variable.
 use mathlib.Core.Path.{◌≡◌, refl, sym, ap, ap₂, ◌∙◌, fun_ext}
 use mathlib.Core.Bool.{Bool, true, false, not, ◌&&◌, ◌||◌}
-use mathlib.Core.List.{List}
-use Prim.Native.Nat.{ℕ, zero, suc, ◌+◌, ◌-◌, ◌^◌, ◌≤◌, ◌<◌}
-use native.Mathlib.Numerals.{add-one}
+use mathlib.Core.List.{List, [], ◌∷◌, ◌++◌, reverse}
+use Prim.Native.Nat.{ℕ, ◌-◌, ◌^◌, ◌≤◌, ◌<◌}
 use native.Mathlib.Omega.{arith}
 use lib.Dec.{eqb, ltb, leb}
 use lib.Bits.{bit_and, bit_or}
-use lib.ListN.{length, drop, get_or, drop_of_length-le}
-use lib.Seq.{drop-cons}
+use lib.ListN.{length, take, drop}
 use borrow.Author.Tests.{eq-eqb, ne_eqb, lt-ltb, le-ltb, le-leb, lt-leb, ltb-true, ltb-false, not-true, not-false}
+use Rattle.std.specs.List.{list_all}
+use Rattle.std.proofs.lemmas.List.{reverse-append, reverse-reverse}
 use Rattle.words.specs.Booleans.{imp}
 use Rattle.words.specs.Sets.{bit, all}
 use Rattle.words.proofs.Bits.{bit-or}
@@ -18,10 +18,10 @@ use Rattle.dimensions.specs.Sizes.{outside}
 use Rattle.tables.specs.Rows.{free}
 use Rattle.state.specs.declared.Level.{Level}
 use Rattle.state.specs.declared.Run.{Run}
-use Rattle.state.specs.State.{levels_of, none}
+use Rattle.state.specs.State.{levels_of}
 use Rattle.state.specs.WellFormed.{disjoint, within, sets, precedes, chain, unused, well_formed_state, well_formed}
 use Rattle.state.proofs.WellFormedLaws.{sets_e}
-use Rattle.state.proofs.HeldRun.{length-levels}
+use Rattle.state.proofs.HeldRun.{length-levels, levels-back}
 
 -- ---- words
 
@@ -104,47 +104,36 @@ module _ (n : ℕ) (l : Level) (t f : ℕ) where
 
 -- ---- the levels
 
-pub unused-none : (levels : List Level) (i : ℕ) → length levels ≤ i → true ≡ unused (drop i levels)
+-- the code's test of a level: its three words taken together are 0
+unused-word : (t f chosen : ℕ) → eqb (bit_or (bit_or t f) chosen) 0 ≡ eqb t 0 && eqb f 0 && eqb chosen 0
+unused-word t f chosen = or-zero (bit_or t f) chosen ∙ ap (λ (x : Bool). x && eqb chosen 0) (or-zero t f)
+
+-- levels that all pass it are unused
+pub unused-all : (levels : List Level) → list_all (λ l. eqb (bit_or (bit_or l.t l.f) l.chosen) 0) levels ≡ unused levels
 unfolding unused
-unused-none levels i h = rw drop_of_length-le
+unused-all [] = refl
+unused-all (l ∷ ls) = ap₂ ◌&&◌ (unused-word l.t l.f l.chosen) (unused-all ls)
 
-module _ (n t f : ℕ) (levels : List Level) where
-  pub chain_end : (i : ℕ) → i ≤ 0 → true ≡ chain n t f (levels_of i levels)
+-- the first d levels from the last one back are those of the definition
+pub levels_of-reverse : (d : ℕ) (levels : List Level) → d ≤ length levels → reverse (take d levels) ≡ levels_of d levels
+levels_of-reverse d levels h = rw (← levels-back d levels h) (reverse-reverse (levels_of d levels))
+
+module _ (n t f : ℕ) where
+  pub chain_end : (rest : List Level) → length rest ≡ 0 → true ≡ chain n t f (reverse rest)
   unfolding chain
-  chain_end zero h = refl
-  chain_end (suc i) h = absurd (omega arith)
+  chain_end [] e = refl
+  chain_end (l ∷ ls) e = absurd (omega arith)
 
-  -- the last of i levels does not precede T and F
-  pub chain-stop : (i : ℕ) → 0 < i → precedes n (get_or levels (i - 1) none) t f ≡ false → false ≡ chain n t f (levels_of i levels)
-  unfolding chain
-  chain-stop zero h e = absurd (omega arith)
-  chain-stop (suc i) h e = let k : suc i - 1 ≡ i = omega arith in let z : precedes n (get_or levels i none) t f ≡ false = rw k at e in rw z
+  module _ (rest : List Level) (l : Level) (before : List Level) (e : rest ≡ before ++ (l ∷ [])) where
+    -- the last of the levels does not precede T and F
+    pub chain-stop : precedes n l t f ≡ false → false ≡ chain n t f (reverse rest)
+    unfolding chain
+    chain-stop h = rw (e, reverse-append, h) refl
 
-  -- it does, so the levels below it decide
-  pub chain_on : (i : ℕ) → 0 < i → precedes n (get_or levels (i - 1) none) t f ≡ true
-      → chain n (get_or levels (i - 1) none).t (get_or levels (i - 1) none).f (levels_of (i - 1) levels) ≡ chain n t f (levels_of i levels)
-  unfolding chain
-  chain_on zero h e = absurd (omega arith)
-  chain_on (suc i) h e = let k : suc i - 1 ≡ i = omega arith in let z : precedes n (get_or levels i none) t f ≡ true = rw k at e in rw (z, k)
-
-module _ (levels : List Level) (i : ℕ) (h : i < length levels) where
-  zero-level : eqb (bit_or (bit_or (get_or levels i none).t (get_or levels i none).f) (get_or levels i none).chosen) 0
-      ≡ eqb (get_or levels i none).t 0 && eqb (get_or levels i none).f 0 && eqb (get_or levels i none).chosen 0
-  zero-level =
-      or-zero (bit_or (get_or levels i none).t (get_or levels i none).f) (get_or levels i none).chosen
-      ∙ ap (λ (x : Bool). x && eqb (get_or levels i none).chosen 0) (or-zero (get_or levels i none).t (get_or levels i none).f)
-
-  unused_cons : unused (drop i levels)
-      ≡ eqb (bit_or (bit_or (get_or levels i none).t (get_or levels i none).f) (get_or levels i none).chosen) 0 && unused (drop (suc i) levels)
-  unfolding unused
-  unused_cons = rw (drop-cons levels i none h, zero-level)
-
-  pub unused-stop : (bit_or (bit_or (get_or levels i none).t (get_or levels i none).f) (get_or levels i none).chosen ≡ 0 → ⊥) → false ≡ unused (drop i levels)
-  unused-stop e = rw (unused_cons, ne_eqb _ 0 e)
-
-  pub unused_on : bit_or (bit_or (get_or levels i none).t (get_or levels i none).f) (get_or levels i none).chosen
-      ≡ 0 → unused (drop (i + 1) levels) ≡ unused (drop i levels)
-  unused_on e = rw (unused_cons, eq-eqb _ 0 e, add-one)
+    -- it does, so the levels before it decide
+    pub chain_on : precedes n l t f ≡ true → chain n l.t l.f (reverse before) ≡ chain n t f (reverse rest)
+    unfolding chain
+    chain_on h = rw (e, reverse-append, h) refl
 
 -- ---- a run
 

@@ -5,19 +5,32 @@ ghost use Rattle.std.specs.Prelude.{◌≡◌, [], ◌∷◌, ◌≤◌, drop};
 ghost use Rattle.refusals.specs.Checks.{outcome};
 ghost use Rattle.refusals.specs.Numbers.{code_of, said};
 ghost use Rattle.state.specs.State as State;
-ghost use Rattle.state.specs.State.{run_of, levels_of};
+ghost use Rattle.state.specs.State.{run_of, levels_of, standing_number};
 ghost use Rattle.state.specs.WellFormed as WellFormed;
 ghost use Rattle.state.specs.WellFormed.{state_checks};
 
 use dimensions::Dimensions;
-use refusals::{Outcome, Refusal};
+use refusals::Refusal;
 
 // Whether a run is open or how it ended. Satisfied and refuted runs are closed.
-#[derive(Clone, Copy)]
+#[derive(Clone, Copy, Debug, PartialEq, Eq)]
 pub enum Standing {
     Open,
     Satisfied,
     Refuted,
+}
+
+// 0 open, 1 satisfied, 2 refuted.
+impl From<Standing> for u32 {
+    ghost from_gives = { λ standing number. number ≡ standing_number standing };
+
+    fn from(standing: Standing) -> u32 {
+        match standing {
+            Standing::Open => 0,
+            Standing::Satisfied => 1,
+            Standing::Refuted => 2,
+        }
+    }
 }
 
 // T and F from before a choice, and the variable chosen, from 0.
@@ -93,17 +106,12 @@ fn precedes(n: u32, level: Level, t: u32, f: u32) -> bool
 }
 
 // Whether each of the first depth levels precedes the next, and the last of them T and F.
-fn chain(n: u32, levels: [Level; 32], depth: usize, t: u32, f: u32) -> bool
+fn chain(n: u32, levels: [Level; 32], depth: usize, mut t: u32, mut f: u32) -> bool
     requires { depth ≤ 32 }
     ensures { result ≡ WellFormed.chain n t f (levels_of depth levels) }
 {
-    let mut t = t;
-    let mut f = f;
-    let mut i = depth;
-    while i > 0 {
-        i -= 1;
-        let level = levels[i];
-        if !precedes(n, level, t, f) {
+    for level in levels[..depth].iter().rev() {
+        if !precedes(n, *level, t, f) {
             return false;
         }
         t = level.t;
@@ -116,15 +124,10 @@ fn chain(n: u32, levels: [Level; 32], depth: usize, t: u32, f: u32) -> bool
 fn unused(levels: [Level; 32], depth: usize) -> bool
     ensures { result ≡ WellFormed.unused (drop depth levels) }
 {
-    let mut i = depth;
-    while i < 32 {
-        let level = levels[i];
-        if level.t | level.f | level.chosen != 0 {
-            return false;
-        }
-        i += 1;
-    }
-    true
+    levels
+        .iter()
+        .skip(depth)
+        .all(|level| level.t | level.f | level.chosen == 0)
 }
 
 // Whether the run is a well-formed state of its n.
@@ -150,15 +153,15 @@ pub fn well_formed(run: Run) -> bool
 }
 
 // Whether the run is a well-formed state of the tables' n: 12 or 13 if not.
-pub fn check_state(d: Dimensions, run: Run) -> Outcome
+pub fn check_state(d: Dimensions, run: Run) -> Result<(), Refusal>
     ensures value { result ≡ outcome (state_checks d run) }
     ensures result_value { code_of result ∷ [] ≡ said (outcome (state_checks d run)) [] }
 {
     if !well_formed(run) {
-        return Outcome::Refused(Refusal::State);
+        return Err(Refusal::State);
     }
     if run.n != d.n {
-        return Outcome::Refused(Refusal::OtherVariables);
+        return Err(Refusal::OtherVariables);
     }
-    Outcome::Taken
+    Ok(())
 }

@@ -1,12 +1,13 @@
--- Laws of the loops over the levels: what is left to read or to store gives what the whole gives, and a turn takes three words apart.
-use mathlib.Core.Path.{◌≡◌, sym, ap, ◌∙◌}
-use mathlib.Core.List.{List, [], ◌∷◌, ◌++◌, append_assoc, append-nil}
-use Prim.Native.Nat.{ℕ, suc, ◌+◌, ◌*◌, ◌-◌, ◌<◌}
+-- Laws of the levels: what is left to store gives what the whole gives, and levels that are read three words apart are those in the words.
+use mathlib.Core.Path.{◌≡◌, refl, sym, ap, ◌∙◌}
+use mathlib.Core.List.{List, ◌∷◌}
+use Prim.Native.Nat.{ℕ, zero, suc, ◌+◌, ◌*◌, ◌<◌}
 use native.Mathlib.Omega.{arith}
 use native.Mathlib.Nat.{add-zero}
 use native.Mathlib.Numerals.{add-one}
-use lib.ListN.{length, get_or, take, drop, set}
-use lib.Seq.{sets, drop-cons, drop-length, take-suc-set, take-length, get_or-drop, drop-drop}
+use lib.ListN.{length, get_or, drop, set}
+use lib.Seq.{sets, drop-cons, drop-length, get_or-drop, drop-drop}
+use Rattle.std.proofs.lemmas.List.{ext_get_or}
 use Rattle.state.specs.declared.Level.{Level}
 use Rattle.state.specs.State.{none}
 use Rattle.stored.specs.Words.{level_words, levels_in}
@@ -42,32 +43,29 @@ module _ (levels : List Level) where
 -- ---- reading
 
 -- the level at a place
-abbrev level_at : List ℕ → ℕ → Level
+abbrev pub level_at : List ℕ → ℕ → Level
 level_at words at = record { t = get_or words at 0; f = get_or words (at + 1) 0; chosen = get_or words (at + 2) 0 }
 
--- the levels read so far, and those left
-unfoldable pub all_levels : List ℕ → List Level → ℕ → List Level
-all_levels words levels l = take l levels ++ levels_in (32 - l) (drop (5 + 3 * l) words)
+levels-length : (k : ℕ) (words : List ℕ) → length (levels_in k words) ≡ k
+unfolding levels_in
+levels-length zero words = refl
+levels-length (suc k) words = ap suc (levels-length k (drop 3 words))
 
 module _ (words : List ℕ) where
   -- the first of the levels left, and the others
-  first-left : (k at next : ℕ) → next ≡ at + 3 → levels_in (suc k) (drop at words) ≡ level_at words at ∷ levels_in k (drop next words)
+  first-left : (k at : ℕ) → levels_in (suc k) (drop at words) ≡ level_at words at ∷ levels_in k (drop (at + 3) words)
   unfolding levels_in
-  first-left k at next e =
-      rw (get_or-drop at words 0 0, get_or-drop at words 1 0, get_or-drop at words 2 0, drop-drop 3 at words, e, add-zero at)
+  first-left k at = rw (get_or-drop at words 0 0, get_or-drop at words 1 0, get_or-drop at words 2 0, drop-drop 3 at words, add-zero at)
 
-  pub read-turn : (levels : List Level) (l : ℕ) → length levels ≡ 32 → l < 32 → all_levels words (set levels l (level_at words (5 + 3 * l)))
-      (l + 1) ≡ all_levels words levels l
-  unfolding all_levels
-  read-turn levels l size h =
-      let in-range : l < length levels = omega arith in
-      let k : 32 - l ≡ suc (32 - suc l) = omega arith in
-      rw (add-one l, take-suc-set levels l (level_at words (5 + 3 * l)) in-range, k, first-left (32 - suc l) (5 + 3 * l) (5 + 3 * suc l) (omega arith))
-      (append_assoc (take l levels) (level_at words (5 + 3 * l) ∷ []) (levels_in (32 - suc l) (drop (5 + 3 * suc l) words)))
+  level_of : (k i at : ℕ) → i < k → get_or (levels_in k (drop at words)) i none ≡ level_at words (at + 3 * i)
+  level_of zero i at h = absurd (omega arith)
+  level_of (suc k) zero at h = let e : at ≡ at + 3 * 0 = omega arith in ap (λ (l : List Level). get_or l 0 none) (first-left k at) ∙ ap (level_at words) e
+  level_of (suc k) (suc i) at h =
+      let e : at + 3 + 3 * i ≡ at + 3 * suc i = omega arith in
+      ap (λ (l : List Level). get_or l (suc i) none) (first-left k at) ∙ level_of k i (at + 3) (omega arith) ∙ ap (level_at words) e
 
-  pub read_end : (levels : List Level) (l : ℕ) → length levels ≡ 32 → l ≡ 32 → all_levels words levels l ≡ levels
-  unfolding all_levels levels_in
-  read_end levels l size e =
-      let k : 32 - l ≡ 0 = omega arith in
-      let t : l ≡ length levels = omega arith in
-      rw (k, t, take-length levels) (append-nil levels)
+  pub levels-read : (levels : List Level) → length levels ≡ 32 → ((i : ℕ) → i < 32 → get_or levels i none ≡ level_at words (5 + 3 * i))
+      → levels ≡ levels_in 32 (drop 5 words)
+  levels-read levels size each =
+      ext_get_or none levels (levels_in 32 (drop 5 words)) (size ∙ sym (levels-length 32 (drop 5 words)))
+      (λ i h. let b : i < 32 = omega arith in each i b ∙ sym (level_of 32 i 5 b))

@@ -3,10 +3,10 @@
 
 ghost use Rattle.std.specs.Prelude.{◌≡◌, true, ◌-◌, ◌^◌, min, drop};
 ghost use Rattle.std.proofs.lemmas.List.Edits.{sets};
-ghost use Rattle.state.specs.State.{standing_number as number_of};
 ghost use Rattle.stored.specs.Words.{standing_of, level_words, levels_in, holds_run, held_run, run_words, run_in};
 
 use state::{Level, Run, Standing};
+use std::array;
 
 // The words of a run.
 pub type RunWords = [u32; 101];
@@ -36,22 +36,14 @@ fn standing_of(number: u32) -> Standing
 fn get_levels(words: RunWords) -> [Level; 32]
     ensures { result ≡ levels_in 32 (drop 5 words) }
 {
-    let mut levels = [Level {
-        t: 0,
-        f: 0,
-        chosen: 0,
-    }; 32];
-    let mut l = 0;
-    while l < 32 {
+    array::from_fn(|l| {
         let at = 5 + 3 * l;
-        levels[l] = Level {
+        Level {
             t: words[at],
             f: words[at + 1],
             chosen: words[at + 2],
-        };
-        l += 1;
-    }
-    levels
+        }
+    })
 }
 
 // The run of words that hold one.
@@ -81,17 +73,6 @@ pub fn load(words: RunWords) -> Run
     get_run(words)
 }
 
-// The number of a standing.
-fn number(standing: Standing) -> u32
-    ensures { result ≡ number_of standing }
-{
-    match standing {
-        Standing::Open => 0,
-        Standing::Satisfied => 1,
-        Standing::Refuted => 2,
-    }
-}
-
 // A depth as a word; one that no word holds as the largest word.
 fn depth_word(depth: usize) -> u32
     ensures { result ≡ min depth (2 ^ 32 - 1) }
@@ -107,14 +88,11 @@ fn put_levels(levels: [Level; 32], words: RunWords) -> RunWords
     ensures { result ≡ sets words 5 (level_words levels) }
 {
     let mut out = words;
-    let mut l = 0;
-    while l < 32 {
+    for (l, level) in levels.iter().enumerate() {
         let at = 5 + 3 * l;
-        let level = levels[l];
         out[at] = level.t;
         out[at + 1] = level.f;
         out[at + 2] = level.chosen;
-        l += 1;
     }
     out
 }
@@ -127,7 +105,7 @@ pub fn words(run: Run) -> RunWords
     let levels = run.levels;
     let mut out = [0u32; 101];
     out[0] = run.n as u32;
-    out[1] = number(standing);
+    out[1] = u32::from(standing);
     out[2] = run.t;
     out[3] = run.f;
     out[4] = depth_word(run.depth);

@@ -9,7 +9,7 @@ use Rattle.words.specs.declared.Row.{Row}
 use Rattle.words.specs.Sets.{bit, any, count, lowest}
 use Rattle.dimensions.specs.Sizes.{dimensions}
 use Rattle.tables.specs.Tables.{all_tables}
-use Rattle.tables.specs.Rows.{rows_of, padding, satisfied, free_literals, look_at, look_number}
+use Rattle.tables.specs.Rows.{rows_of, satisfied, free_literals, look_at, look_number}
 use Rattle.tables.specs.Acceptance.{all_below, table_checks}
 
 -- ---- acceptance: n, row counts, words

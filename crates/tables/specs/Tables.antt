@@ -2,6 +2,7 @@
 use Rattle.std.specs.Prelude.{List, ℕ}
 use Rattle.std.specs.Borrow.{Bor}
 use denote.Triple.Both.{Both}
+use Rattle.tables.specs.declared.Tables.{Tables as Lent}
 
 -- each station's words, and those of the public rest rules
 pub record Tables : Type 0 where
@@ -20,3 +21,11 @@ Slice X = Both (Bor (List ℕ)) X
 -- the tables as they are lent: what the three slices hold where the call begins
 abbrev pub lent_tables : {X Y Z : Type 0} → Slice X → Slice Y → Slice Z → Tables
 lent_tables left right public = all_tables left.entry.now right.entry.now public.entry.now
+
+-- what three slices that are lent together hold
+abbrev pub words_in : Lent → Tables
+words_in tables = all_tables tables.left.now tables.right.now tables.public.now
+
+-- the same of a call's parameter, where the call begins
+abbrev pub lent_words : {X : Type 0} → Both Lent X → Tables
+lent_words tables = words_in tables.entry

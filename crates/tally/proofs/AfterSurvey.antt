@@ -20,7 +20,7 @@ use Rattle.tables.proofs.Rows.{satisfied-any}
 use Rattle.scan.specs.Rules.{any_row, unsatisfied_with}
 use Rattle.scan.proofs.RowLaws.{any-row_cong}
 use Rattle.occurrences.specs.Index.{at, word_at, row_set, holds_literal, index_of}
-use Rattle.occurrences.proofs.IndexLaws.{set_at, positive-at, negative-at}
+use Rattle.occurrences.proofs.IndexLaws.{positive-at, negative-at}
 use Rattle.tables.proofs.Numbering.{table-length}
 use Rattle.occurrences.proofs.SetLaws.{at_past, at_words, word-bit}
 use Rattle.tally.specs.Tallies.{unmet, forcing, tally_of}

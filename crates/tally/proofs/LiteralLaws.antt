@@ -9,7 +9,7 @@ use lib.Dec.{eqb}
 use borrow.Author.Tests.{ne_eqb, eqb-true, eqb-false}
 use Rattle.words.specs.declared.Row.{Row}
 use Rattle.words.specs.Booleans.{digit}
-use Rattle.words.specs.Sets.{bit, put, any, count}
+use Rattle.words.specs.Sets.{bit, put, count}
 use Rattle.words.proofs.Truth.{taut4, taut5, agree, agree_eq, on}
 use Rattle.words.proofs.Upto.{any-or, count_cong}
 use Rattle.words.proofs.Last.{any_cong, any_at, count-last}

@@ -6,6 +6,7 @@ use Prim.Native.Nat.{ℕ, ◌-◌, ◌^◌, ◌≤◌, ◌<◌}
 use native.Mathlib.Omega.{arith}
 use lib.Dec.{eqb}
 use lib.Bits.{bit_and, bit_or}
+use Rattle.std.specs.Prelude.{Option, Some, None, MatchOption, unwrap_or}
 use borrow.Author.Tests.{eq-eqb, ne_eqb, eqb-true}
 use Rattle.words.specs.Sets.{bit, any, lowest}
 use Rattle.words.proofs.Upto.{lowest-none}
@@ -19,12 +20,13 @@ use Rattle.tally.proofs.WordLaws.{some_is}
 
 -- ---- the lowest number that passes
 
-module _ (p : ℕ → Bool) (v : ℕ) (none : (k : ℕ) → k < v → p k ≡ false) where
-  pub lowest-here : v < 32 → p v ≡ true → v ≡ lowest p 32
-  lowest-here h e = eqb-true v (lowest p 32) (sym (lowest-first p 32 v h) ∙ rw (e, any_false p v none))
-
-  pub lowest_past : v ≤ 32 → 32 ≤ v → 32 ≡ lowest p 32
-  lowest_past g h = sym (lowest-none p 32 (λ k b. none k (omega arith)))
+-- what `find` says of the numbers below 32
+pub lowest_found : (p : ℕ → Bool) (r : Option ℕ)
+    → MatchOption r ((k : ℕ) → 0 ≤ k → k < 32 → p k ≡ false) (λ v. (0 ≤ v) × (v < 32) × (p v ≡ true) × ((k : ℕ) → 0 ≤ k → k < v → p k ≡ false))
+    → unwrap_or r 32 ≡ lowest p 32
+lowest_found p None none = sym (lowest-none p 32 (λ k b. none k (omega arith) b))
+lowest_found p (Some v) (_, h, e, none) =
+    eqb-true v (lowest p 32) (sym (lowest-first p 32 v h) ∙ rw (e, any_false p v (λ k b. none k (omega arith) b)))
 
 -- ---- rows of a word that a variable occurs in
 

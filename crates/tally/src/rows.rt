@@ -64,9 +64,10 @@ fn with_rows(words: &[u32; 768], first: usize, set: u64, unset: u32, s: Forced) 
 {
     let mut left = set;
     let mut shown = s;
+    // A loop: std has no iterator over the bits of a word.
     while left != 0 {
         let at = 2 * (first + lowest(left) as usize);
-        left = left & (left - 1);
+        left &= left - 1;
         shown = with_row(shown, words[at], words[at + 1], unset);
     }
     shown

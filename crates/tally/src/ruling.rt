@@ -39,10 +39,7 @@ fn passes(index: &[u64; 384], unset: u32, v: u32, set: [u64; 6]) -> bool
 pub(crate) fn chosen(index: &[u64; 384], unset: u32, set: [u64; 6]) -> u32
     ensures { result ≡ chosen_by index.now unset set }
 {
-    for v in 0..32 {
-        if passes(index, unset, v, set) {
-            return v;
-        }
-    }
-    32
+    (0..32)
+        .find(|&v| passes(index, unset, v, set))
+        .unwrap_or(32)
 }

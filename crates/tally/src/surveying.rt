@@ -48,6 +48,7 @@ fn look(index: &[u64; 384], w: usize, t: u32, f: u32) -> RowsSeen
         one: 0,
         two: 0,
     };
+    // A range: v is the place in the index and the bit of T and F at once.
     for v in 0..32 {
         let i = v as usize;
         let positive = index[6 * i + w];

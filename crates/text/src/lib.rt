@@ -47,10 +47,8 @@ impl Text {
         ensures { result ≡ appended self more.now }
     {
         let mut text = self;
-        let mut i = 0;
-        while i < more.len() {
-            text = text.push(more[i]);
-            i += 1;
+        for &byte in more {
+            text = text.push(byte);
         }
         text
     }
@@ -73,7 +71,7 @@ pub fn refused_line(given: Refusal) -> Text
 {
     Text::empty()
         .append(b"c refused ")
-        .decimal(refusals::number(given) as u64)
+        .decimal(u8::from(given) as u64)
         .append(b"\n")
 }
 

@@ -1,14 +1,14 @@
 -- Accepted tables have rows whose words are below 2 ^ n: acceptance says so of each word, and a row has two.
 use mathlib.Core.Path.{◌≡◌, refl}
-use mathlib.Core.Bool.{Bool, true, ◌&&◌}
+use mathlib.Core.Bool.{true}
 use mathlib.Core.List.{List, ◌++◌}
 use Prim.Native.Nat.{ℕ, zero, suc, ◌+◌, ◌*◌, ◌^◌, ◌<◌}
 use native.Mathlib.Omega.{arith}
 use lib.Dec.{ltb}
 use lib.ListN.{get_or}
 use borrow.Author.Tests.{lt-ltb, ltb-true}
+use Rattle.std.specs.Prelude.{Ok}
 use Rattle.refusals.specs.Checks.{outcome}
-use Rattle.refusals.specs.declared.Outcome.TheVariants.{Taken}
 use Rattle.words.specs.declared.Row.{Row}
 use Rattle.words.proofs.Truth.{and_l, and_r, and_i}
 use Rattle.dimensions.specs.declared.Dimensions.{Dimensions}
@@ -37,7 +37,7 @@ low_rows n words i (suc k) h =
     (low_rows n words (suc i) k (λ j b. h j (omega arith)))
 
 -- no row of accepted tables has a bit at or above n
-pub accepted-low : (d : Dimensions) (tables : Tables) → outcome (table_checks d tables) ≡ Taken → all_rows (low_row d.n) (rows_of d tables) ≡ true
+pub accepted-low : (d : Dimensions) (tables : Tables) → outcome (table_checks d tables) ≡ Ok tt → all_rows (low_row d.n) (rows_of d tables) ≡ true
 accepted-low d tables e =
     let a = accepted d tables e in
     all-rows_append (low_row d.n) (rows_from tables.left 0 d.left) (rows_from tables.right 0 d.right ++ rows_from tables.public 0 d.public)

@@ -8,6 +8,7 @@ use borrow.Author.Tests.{eqb-true}
 use lib.Dec.{eqb}
 use lib.ListN.{length, get_or, take, drop, set, length-map, get_or-map}
 use lib.Seq.{take-append_seam, drop-append-add, drop-drop}
+use Rattle.std.specs.Simd.{first_chunks}
 use Rattle.words.specs.Booleans.{digit}
 use Rattle.words.specs.Sets.{all}
 use Rattle.words.proofs.Truth.{digit_lt}
@@ -31,28 +32,35 @@ table_at k a b hk ha hb = eqb-true _ _ (at_each shows 2 refl k a b hk ha hb)
 
 -- ---- turns, on bytes as they are
 
-module _ {s : List Bool} {g w₀ : List ℕ} {n : ℕ} {w : List ℕ} {i m : ℕ} (r : Run bytes_of s g w₀ n w i m) (room : n + length g / 3 ≤ length w₀) where
-  read : (a : ℕ) → a < m → get_or w a 0 ≡ digit (wire r.values a)
-  read a h = read-front r room a h ∙ get_or-map digit r.values a false
+module _ {s : List Bool} {g w₀ : List ℕ} {n : ℕ} {w : List ℕ} {i : ℕ} (r : Run bytes_of s g w₀ n w i) (room : n + length g / 3 ≤ length w₀)
+    (upto : i ≤ length g / 3) where
+  read : (a : ℕ) → a < n + i → get_or w a 0 ≡ digit (wire r.values a)
+  read a h = read-front r room upto a h ∙ get_or-map digit r.values a false
 
-  pub read-bit : (a : ℕ) → a < m → get_or w a 0 < 2
+  pub read-bit : (a : ℕ) → a < n + i → get_or w a 0 < 2
   read-bit a h = omega (arith, read a h, digit_lt (wire r.values a))
 
-  pub again : (v : ℕ) → m < n + length g / 3 → drives m (get_or g i 0) (get_or g (i + 1) 0) (get_or g (i + 2) 0) ≡ true
-      → v ≡ digit (value (bits_of (get_or w (get_or g (i + 1) 0) 0 ∷ (get_or w (get_or g (i + 2) 0) 0 ∷ []))) (gate_of (get_or g i 0) 0 1))
-      → Run bytes_of s g w₀ n (set w m v) (i + 3) (m + 1)
-  again v h d e =
-      let k = get_or g i 0 in
-      let a = get_or g (i + 1) 0 in
-      let b = get_or g (i + 2) 0 in
-      let below = drives-below m k a b d in
-      let u : Bool = value r.values (gate_of k a b) in
-      let e' : v ≡ digit u = e ∙ ap digit (value_read r.values k a b _ _ (read a below.1) (read b below.2)) in
-      next r room v h d (map-append digit r.values (u ∷ []) ∙ ap (λ (x : ℕ). bytes_of r.values ++ (x ∷ [])) (sym e'))
-
   -- all gates of accepted words ran
-  pub all-ran : accepted n g ≡ true → n + length g / 3 ≤ m → w ≡ over (bytes_of (wires_of s (gates_of g))) w₀
-  all-ran e h = done r room (omega (arith, r.step, accepted-length n g e))
+  pub all-ran : accepted n g ≡ true → length g / 3 ≤ i → w ≡ over (bytes_of (wires_of s (gates_of g))) w₀
+  all-ran e h = done r room upto (omega (arith, accepted-length n g e))
+
+-- a gate that may drive its wire ran
+pub again : {s : List Bool} {g w₀ : List ℕ} {n : ℕ} {w : List ℕ} {i : ℕ} (r : Run bytes_of s g w₀ n w i) → n + length g / 3 ≤ length w₀
+    → {cs : List (List ℕ)} → cs ≡ first_chunks 3 (length g / 3) g → i < length g / 3
+    → let word = get_or (get_or cs i []) in
+    (v : ℕ) → drives (n + i) (word 0 0) (word 1 0) (word 2 0) ≡ true
+    → v ≡ digit (value (bits_of (get_or w (word 1 0) 0 ∷ (get_or w (word 2 0) 0 ∷ []))) (gate_of (word 0 0) 0 1))
+    → Run bytes_of s g w₀ n (set w (n + i) v) (i + 1)
+again {g = g} {n = n} {i = i} r room {cs = cs} chunks h v d e =
+    let word = get_or (get_or cs i []) in
+    let k = word 0 0 in
+    let a = word 1 0 in
+    let b = word 2 0 in
+    let below = drives-below (n + i) k a b d in
+    let upto : i ≤ length g / 3 = omega arith in
+    let u : Bool = value r.values (gate_of k a b) in
+    let e' : v ≡ digit u = e ∙ ap digit (value_read r.values k a b _ _ (read r room upto a below.1) (read r room upto b below.2)) in
+    next r room chunks h v d (map-append digit r.values (u ∷ []) ∙ ap (λ (x : ℕ). bytes_of r.values ++ (x ∷ [])) (sym e'))
 
 -- ---- the inputs, copied first
 

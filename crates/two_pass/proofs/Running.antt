@@ -3,18 +3,20 @@ use mathlib.Core.Path.{◌≡◌, refl, ap, ap₂, sym, ◌∙◌}
 use mathlib.Core.Bool.{Bool, true, not, ◌&&◌}
 use mathlib.Core.List.{List, [], ◌∷◌, ◌++◌}
 use Prim.Native.Nat.{ℕ, zero, suc, ◌+◌, ◌*◌, ◌/◌, ◌≤◌, ◌<◌}
-use native.Mathlib.Numerals.{add-one}
+use native.Mathlib.Nat.{add-zero}
 use native.Mathlib.Omega.{arith}
 use lib.Dec.{eqb}
 use lib.ListN.{length, get_or, take, drop, set, length-set, length-map, drop_of_length-le, take-append-drop}
 use lib.Seq.{drop-drop, get_or-take, take-suc-set, drop-set-lt, length-take-le}
+use Rattle.std.specs.Simd.{first_chunks}
 use Rattle.words.specs.Booleans.{digit, ◌⊕◌}
 use Rattle.words.specs.Sets.{all}
 use Rattle.words.proofs.Truth.{digit-bit}
 use Rattle.words.proofs.Upto.{all_e}
 use Rattle.gates.specs.Gates.{Gate, wire, value, wires_of}
 use Rattle.gates.specs.Memory.{gate_of, gates_of, drives, accepted, bits_of, over}
-use Rattle.gates.proofs.Judging.{drop-three, accepted-at}
+use Rattle.gates.proofs.Chunks.{drop-chunk}
+use Rattle.gates.proofs.Judging.{accepted-chunk}
 use Rattle.gates.proofs.Circuits.{wires_length}
 
 -- a gate's value from the bytes that it reads
@@ -33,96 +35,83 @@ pub at_each : (p : ℕ → ℕ → ℕ → Bool) (n : ℕ) → all (λ k. all (�
 at_each p n e k a b hk ha hb =
     all_e (λ y. p k a y) n (all_e (λ x. all (λ y. p k x y) n) n (all_e (λ j. all (λ x. all (λ y. p j x y) n) n) 3 e k hk) a ha) b hb
 
--- the gate of the three words at i, and the rest
-wires_at : (g : List ℕ) (i : ℕ) → i + 3 ≤ length g → (w : List Bool)
-    → wires_of w (gates_of (drop i g))
-    ≡ wires_of (w ++ (value w (gate_of (get_or g i 0) (get_or g (i + 1) 0) (get_or g (i + 2) 0)) ∷ [])) (gates_of (drop (i + 3) g))
+-- the gate of chunk i, and the rest
+wires-chunk : (g : List ℕ) (cs : List (List ℕ)) (i : ℕ) → cs ≡ first_chunks 3 (length g / 3) g → i < length g / 3 → (w : List Bool)
+    → let word = get_or (get_or cs i []) in
+    wires_of w (gates_of (drop (3 * i) g)) ≡ wires_of (w ++ (value w (gate_of (word 0 0) (word 1 0) (word 2 0)) ∷ [])) (gates_of (drop (3 * (i + 1)) g))
 unfolding wires_of gates_of
-wires_at g i h w = ap (λ (l : List ℕ). wires_of w (gates_of l)) (drop-three g i h)
+wires-chunk g cs i e h w = ap (λ (l : List ℕ). wires_of w (gates_of l)) (drop-chunk g cs i e h)
 
--- what a loop keeps, at word i and wire m: the values so far are at the front, in the loop's form of bytes, and with the gates that are
--- left they give all that s gives; the gates that are left are judged as all are
-pub record Run (form : List Bool → List ℕ) (s : List Bool) (g w₀ : List ℕ) (n : ℕ) (w : List ℕ) (i m : ℕ) : Type 0 where
-  pub judged : accepted m (drop i g) ≡ accepted n g
+-- what a loop keeps after i gates: the values so far are at the front, in the loop's form of bytes, and with the gates that are left they
+-- give all that s gives; the gates that are left are judged as all are
+pub record Run (form : List Bool → List ℕ) (s : List Bool) (g w₀ : List ℕ) (n : ℕ) (w : List ℕ) (i : ℕ) : Type 0 where
+  pub judged : accepted (n + i) (drop (3 * i) g) ≡ accepted n g
   pub values : List Bool
-  pub front : take m w ≡ form values
-  pub same : wires_of values (gates_of (drop i g)) ≡ wires_of s (gates_of g)
-  pub rest : drop m w ≡ drop m w₀
+  pub front : take (n + i) w ≡ form values
+  pub same : wires_of values (gates_of (drop (3 * i) g)) ≡ wires_of s (gates_of g)
+  pub rest : drop (n + i) w ≡ drop (n + i) w₀
   pub size : length w ≡ length w₀
-  pub step : 3 * m ≡ 3 * n + i
-  pub upto : i ≤ length g
 
--- a loop may start at word 0 and wire n where the first n bytes are the values s in its form
-pub start : {form : List Bool → List ℕ} {s : List Bool} {g w : List ℕ} {n : ℕ} → take n w ≡ form s → Run form s g w n w 0 n
-start {s = s} e = record {
-  judged = refl;
+-- a loop may start where the first n bytes are the values s in its form
+pub start : {form : List Bool → List ℕ} {s : List Bool} {g w : List ℕ} {n : ℕ} → take n w ≡ form s → Run form s g w n w 0
+start {s = s} {g = g} {w = w} {n = n} e = record {
+  judged = ap (λ (k : ℕ). accepted k g) (add-zero n);
   values = s;
-  front = e;
+  front = ap (λ (k : ℕ). take k w) (add-zero n) ∙ e;
   same = refl;
   rest = refl;
   size = refl;
-  step = omega arith;
-  upto = omega arith;
 }
 
-module _ {form : List Bool → List ℕ} {s : List Bool} {g w₀ : List ℕ} {n : ℕ} {w : List ℕ} {i m : ℕ} (r : Run form s g w₀ n w i m)
-    (room : n + length g / 3 ≤ length w₀) where
-  -- while m is below the number of wires, all three words of the gate at i are there
-  pub whole : m < n + length g / 3 → i + 3 ≤ length g
-  whole h = omega (arith, r.step)
+module _ {form : List Bool → List ℕ} {s : List Bool} {g w₀ : List ℕ} {n : ℕ} {w : List ℕ} {i : ℕ} (r : Run form s g w₀ n w i)
+    (room : n + length g / 3 ≤ length w₀) (upto : i ≤ length g / 3) where
+  -- a byte of the buffer before the next gate's wire is that byte of the values so far, in the loop's form
+  pub read-front : (a : ℕ) → a < n + i → get_or w a 0 ≡ get_or (form r.values) a 0
+  read-front a h = sym (get_or-take (n + i) w a 0 h) ∙ ap (λ (l : List ℕ). get_or l a 0) r.front
 
-  fits : m ≤ length w
-  fits = omega (arith, r.step, r.upto, r.size)
+  -- the values so far, in the loop's form, are n + i bytes
+  pub front_length : n + i ≡ length (form r.values)
+  front_length = sym (length-take-le (n + i) w (omega (arith, r.size))) ∙ ap length r.front
 
-  -- while m is below the number of wires, the buffer has a byte for wire m
-  pub fits_next : m < n + length g / 3 → m < length w
-  fits_next h = omega (arith, r.size)
-
-  -- a byte of the buffer before wire m is that byte of the values so far, in the loop's form
-  pub read-front : (a : ℕ) → a < m → get_or w a 0 ≡ get_or (form r.values) a 0
-  read-front a h = sym (get_or-take m w a 0 h) ∙ ap (λ (l : List ℕ). get_or l a 0) r.front
-
-  -- the values so far, in the loop's form, are m bytes
-  pub front_length : m ≡ length (form r.values)
-  front_length = sym (length-take-le m w fits) ∙ ap length r.front
-
-  -- what the whole comes to, by the gate at i and by what is left after it
-  pub judged-at : m < n + length g / 3
-      → accepted n g ≡ drives m (get_or g i 0) (get_or g (i + 1) 0) (get_or g (i + 2) 0) && accepted (m + 1) (drop (i + 3) g)
-  judged-at h = sym r.judged ∙ accepted-at g i (whole h) m
-
-  -- a gate that may drive its wire, and the byte of its value at that wire
-  pub next : (v : ℕ) → m < n + length g / 3
-      → let k = get_or g i 0 in
-      let a = get_or g (i + 1) 0 in
-      let b = get_or g (i + 2) 0 in
-      drives m k a b ≡ true → form (r.values ++ (value r.values (gate_of k a b) ∷ [])) ≡ form r.values ++ (v ∷ [])
-      → Run form s g w₀ n (set w m v) (i + 3) (m + 1)
-  next v h d e =
-      record {
-        judged = sym (judged-at h ∙ ap (λ (t : Bool). t && accepted (m + 1) (drop (i + 3) g)) d);
-        values = r.values ++ (value r.values (gate_of (get_or g i 0) (get_or g (i + 1) 0) (get_or g (i + 2) 0)) ∷ []);
-        front =
-            ap (λ (j : ℕ). take j (set w m v)) (add-one m) ∙ take-suc-set w m v (fits_next h)
-            ∙ ap (λ (l : List ℕ). l ++ (v ∷ [])) r.front ∙ sym e;
-        same = sym (wires_at g i (whole h) r.values) ∙ r.same;
-        rest =
-            drop-set-lt (m + 1) w m v (omega arith)
-            ∙ (sym (drop-drop 1 m w) ∙ (ap (λ (l : List ℕ). drop 1 l) r.rest ∙ drop-drop 1 m w₀));
-        size = length-set w m v ∙ r.size;
-        step = omega (arith, r.step);
-        upto = whole h;
-      }
-
-  -- where no word is left, the buffer is as it was at first with the values of all wires, in the loop's form, written over its front
-  pub done : length g ≤ i → w ≡ over (form (wires_of s (gates_of g))) w₀
+  -- where no gate is left, the buffer is as it was at first with the values of all wires, in the loop's form, written over its front
+  pub done : length g ≤ 3 * i → w ≡ over (form (wires_of s (gates_of g))) w₀
   unfolding wires_of gates_of
   done h =
       let e : r.values ≡ wires_of s (gates_of g) =
       sym (ap (λ (l : List ℕ). wires_of r.values (gates_of l)) (drop_of_length-le g h)) ∙ r.same in
-      sym (take-append-drop m w)
+      sym (take-append-drop (n + i) w)
       ∙ ap₂ (λ (x y : List ℕ). x ++ y) r.front (r.rest ∙ ap (λ (k : ℕ). drop k w₀) front_length)
       ∙ ap (λ (l : List Bool). over (form l) w₀) e
+
+module _ {form : List Bool → List ℕ} {s : List Bool} {g w₀ : List ℕ} {n : ℕ} {w : List ℕ} {i : ℕ} (r : Run form s g w₀ n w i)
+    (room : n + length g / 3 ≤ length w₀) {cs : List (List ℕ)} (chunks : cs ≡ first_chunks 3 (length g / 3) g) (h : i < length g / 3) where
+  abbrev word : ℕ → ℕ
+  word j = get_or (get_or cs i []) j 0
+
+  -- what the whole comes to, by gate i and by what is left after it
+  pub judged-at : accepted n g ≡ drives (n + i) (word 0) (word 1) (word 2) && accepted (n + (i + 1)) (drop (3 * (i + 1)) g)
+  judged-at = sym r.judged ∙ accepted-chunk g cs n i chunks h
+
+  -- a gate that may drive its wire, and the byte of its value at that wire
+  pub next : (v : ℕ) → drives (n + i) (word 0) (word 1) (word 2) ≡ true
+      → form (r.values ++ (value r.values (gate_of (word 0) (word 1) (word 2)) ∷ [])) ≡ form r.values ++ (v ∷ [])
+      → Run form s g w₀ n (set w (n + i) v) (i + 1)
+  next v d e =
+      let m = n + i in
+      let m₁ : n + (i + 1) ≡ suc m = omega arith in
+      record {
+        judged = sym (judged-at ∙ ap (λ (t : Bool). t && accepted (n + (i + 1)) (drop (3 * (i + 1)) g)) d);
+        values = r.values ++ (value r.values (gate_of (word 0) (word 1) (word 2)) ∷ []);
+        front =
+            ap (λ (j : ℕ). take j (set w m v)) m₁ ∙ take-suc-set w m v (omega (arith, r.size))
+            ∙ ap (λ (l : List ℕ). l ++ (v ∷ [])) r.front ∙ sym e;
+        same = sym (wires-chunk g cs i chunks h r.values) ∙ r.same;
+        rest =
+            drop-set-lt (n + (i + 1)) w m v (omega arith)
+            ∙ ap (λ j. drop j w) (omega arith) ∙ sym (drop-drop 1 m w) ∙ ap (λ (l : List ℕ). drop 1 l) r.rest
+            ∙ drop-drop 1 m w₀ ∙ ap (λ j. drop j w₀) (omega arith);
+        size = length-set w m v ∙ r.size;
+      }
 
 -- a value for each input and each gate
 pub values_length : (s : List ℕ) (gs : List Gate) → length (wires_of (bits_of s) gs) ≡ length s + length gs

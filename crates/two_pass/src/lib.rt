@@ -10,30 +10,30 @@ ghost use Rattle.gates.specs.Memory as Memory;
 ghost use Rattle.two_pass.specs.Evaluation.{evaluation_checks, filled_wires};
 ghost use Rattle.two_pass.specs.Table.{table};
 
-use refusals::{Outcome, Refusal};
+use refusals::Refusal;
 
 // The values of XOR, AND and INV, four each, on wires 00, 01, 10 and 11. They are looked up: jumps on the kind would be mispredicted.
 const VALUES: [u8; 12] = [0, 1, 1, 0, 0, 0, 0, 1, 1, 1, 0, 0];
 
 // Fills the front of the wires with the inputs and then each gate's value; later bytes stay as they are. Refused, it changes no byte.
-pub fn evaluate(gates: &[u32], inputs: &[u8], wires: &mut [u8]) -> Outcome
+pub fn evaluate(gates: &[u32], inputs: &[u8], wires: &mut [u8]) -> Result<(), Refusal>
     ensures value { result ≡ outcome (evaluation_checks gates.now inputs.now wires.old) }
     ensures wires_after { wires.new ≡ filled_wires gates.now inputs.now wires.old }
     ensures result_value { code_of result ∷ [] ≡ said (outcome (evaluation_checks gates.now inputs.now wires.old)) [] }
 {
     let n = inputs.len();
     if !gates::accepted(gates, n) {
-        return Outcome::Refused(Refusal::Gates);
+        return Err(Refusal::Gates);
     }
     if wires.len() < n + gates.len() / 3 {
-        return Outcome::Refused(Refusal::Wires);
+        return Err(Refusal::Wires);
     }
     if !gates::bits(inputs) {
-        return Outcome::Refused(Refusal::Wires);
+        return Err(Refusal::Wires);
     }
     wires[..n].copy_from_slice(inputs);
     run(gates, wires, n);
-    Outcome::Taken
+    Ok(())
 }
 
 // The value of a gate of this kind on two wires.
@@ -56,17 +56,8 @@ fn run(gates: &[u32], wires: &mut [u8], n: usize)
         (Memory.bytes_of (wires_of (Memory.bits_of (take n wires.old))
         (Memory.gates_of gates.now))) wires.old }
 {
-    let values = VALUES;
-    let end = n + gates.len() / 3;
-    let mut i = 0;
-    let mut m = n;
-    while m < end {
-        let kind = gates[i];
-        let a = gates[i + 1] as usize;
-        let b = gates[i + 2] as usize;
-        let v = gate_value(&values, kind, wires[a], wires[b]);
-        wires[m] = v;
-        i += 3;
-        m += 1;
+    let (gates, _) = gates.as_chunks::<3>();
+    for (i, &[kind, a, b]) in gates.iter().enumerate() {
+        wires[n + i] = gate_value(&VALUES, kind, wires[a as usize], wires[b as usize]);
     }
 }

@@ -1,5 +1,6 @@
 -- What a run's standing says: the verdict, and the model or why there is none. Document 01, "Giant step" and "Turned back".
-use Rattle.std.specs.Prelude.{ℕ, not, List, [], ◌∷◌}
+use Rattle.refusals.specs.declared.Refusal.{Refusal}
+use Rattle.std.specs.Prelude.{ℕ, not, List, [], ◌∷◌, Result, Ok, Err}
 use Rattle.refusals.specs.Numbers.{number_of}
 use Rattle.refusals.specs.Checks.{Check, check, outcome, given}
 use Rattle.refusals.specs.declared.Refusal.TheVariants.{NoModel}
@@ -9,8 +10,6 @@ use Rattle.state.specs.declared.Standing.{Standing}
 use Rattle.state.specs.declared.Standing.TheVariants.{Open, Satisfied, Refuted}
 use Rattle.state.specs.State.{is_satisfied}
 use Rattle.state.specs.WellFormed.{well_formed}
-use Rattle.verdicts.specs.declared.Modelled.{Modelled}
-use Rattle.verdicts.specs.declared.Modelled.TheVariants as modelled
 use Rattle.verdicts.specs.declared.Verdict.{Verdict}
 use Rattle.verdicts.specs.declared.Verdict.TheVariants.{Satisfiable, Unsatisfiable, Unknown}
 
@@ -25,9 +24,9 @@ abbrev pub model_checks : Run → List Check
 model_checks run = check (not (well_formed run)) refusal.State ∷ check (not (is_satisfied run.standing)) NoModel ∷ []
 
 -- the model of a run
-unfoldable pub model_of : Run → Modelled
+unfoldable pub model_of : Run → Result ℕ Refusal
 unfolding well_formed
-model_of run = given (outcome (model_checks run)) (modelled.Model run.t) modelled.Refused
+model_of run = given (outcome (model_checks run)) (Ok run.t) Err
 
 -- ---- the answers as numbers
 
@@ -45,11 +44,11 @@ model_word (Satisfiable model) = model
 model_word Unsatisfiable = 0
 
 -- what is returned for a model: 0, or 12 or 14 of "Turned back because of the state"
-abbrev pub model_code : Modelled → ℕ
-model_code (modelled.Model model) = 0
-model_code (modelled.Refused r) = number_of r
+abbrev pub model_code : Result ℕ Refusal → ℕ
+model_code (Ok model) = 0
+model_code (Err r) = number_of r
 
 -- the model as a word
-abbrev pub model_numbers : Modelled → List ℕ
-model_numbers (modelled.Model model) = model ∷ []
-model_numbers (modelled.Refused r) = []
+abbrev pub model_numbers : Result ℕ Refusal → List ℕ
+model_numbers (Ok model) = model ∷ []
+model_numbers (Err r) = []

@@ -18,13 +18,6 @@ pub enum Verdict {
     Unknown,
 }
 
-// A run's model, or why there is none.
-#[derive(Clone, Copy)]
-pub enum Modelled {
-    Model(u32),
-    Refused(Refusal),
-}
-
 // Whether the run has steps left to take.
 pub fn goes_on(run: Run, count: u64, budget: u64) -> bool
     ensures { result ≡ if_open run.standing (ltb count budget) false }
@@ -64,17 +57,17 @@ pub fn verdict_of(run: Run) -> Verdict
 }
 
 // The model of a satisfied run; 12 or 14 if there is none.
-pub fn model(run: Run) -> Modelled
+pub fn model(run: Run) -> Result<u32, Refusal>
     ensures value { result ≡ model_of run }
     ensures result_value { model_code result ∷ model_numbers result ≡ said (outcome (model_checks run)) (run.t ∷ []) }
 {
     if !state::well_formed(run) {
-        return Modelled::Refused(Refusal::State);
+        return Err(Refusal::State);
     }
     let standing = run.standing;
     match standing {
-        Standing::Satisfied => Modelled::Model(run.t),
-        Standing::Open => Modelled::Refused(Refusal::NoModel),
-        Standing::Refuted => Modelled::Refused(Refusal::NoModel),
+        Standing::Satisfied => Ok(run.t),
+        Standing::Open => Err(Refusal::NoModel),
+        Standing::Refuted => Err(Refusal::NoModel),
     }
 }

@@ -6,8 +6,8 @@ use mathlib.Core.List.{List, ◌++◌}
 use Prim.Native.Nat.{ℕ, ◌*◌, ◌≤◌}
 use lib.ListN.{take}
 use borrow.Author.Tests.{not-true}
+use Rattle.std.specs.Prelude.{Ok}
 use Rattle.refusals.specs.Checks.{outcome}
-use Rattle.refusals.specs.declared.Outcome.TheVariants.{Taken}
 use Rattle.words.specs.declared.Row.{Row}
 use Rattle.words.proofs.Truth.{and_l, and_r, and_i}
 use Rattle.dimensions.specs.declared.Dimensions.{Dimensions}
@@ -60,7 +60,7 @@ unfolding weighted_rule
 weighted_width n k wide t f rows low e = ap₂ choosing (heaviest-rows n k t f wide rows (λ r m. (low-positive n r (low r m), low-negative n r (low r m)))) e
 
 -- the rule of the fronts of accepted tables is the tables' rule
-pub weighted_of_fronts : (d : Dimensions) (tables : Tables) → outcome (table_checks d tables) ≡ Taken → (t f : ℕ)
+pub weighted_of_fronts : (d : Dimensions) (tables : Tables) → outcome (table_checks d tables) ≡ Ok tt → (t f : ℕ)
     → let front : ℕ → List ℕ → List Row = λ rows words. rows_of_words (take (2 * rows) words) in
     weighted_rule 32 (front d.left tables.left ++ (front d.right tables.right ++ front d.public tables.public)) t f
     ≡ weighted_rule d.n (rows_of d tables) t f

@@ -2,7 +2,7 @@
 -- Every law goes by values: `HasValue x false a c` says that x is a / c.
 use mathlib.Core.Path.{◌≡◌, sym, ap, ap₂, ◌∙◌}
 use mathlib.Core.Bool.{true, false, true≢false}
-use Prim.Native.Nat.{ℕ, ◌+◌, ◌*◌, ◌^◌, ◌≤◌, ◌<◌}
+use Prim.Native.Nat.{ℕ, ◌+◌, ◌*◌, ◌^◌, ◌<◌}
 use native.Mathlib.Nat.{mul_assoc, mul_comm, mul_right_comm, add-mul, mul-lt-mul_of_pos_right, mul-le-mul_right, le_of_mul-le-mul_right}
 use native.Mathlib.Nat.{lt_of_mul-lt-mul_right, lt_of_lt_of_le, mul-pos}
 use lib.Dec.{ltb, lit≤}

@@ -10,7 +10,8 @@ use lib.Bits.{bit_or}
 use lib.Dec.{ltb}
 use lib.ListN.{length, replicate, length-append, length-reverse, length-replicate}
 use lib.Pow.{pow_mono}
-use Rattle.refusals.specs.declared.Outcome.TheVariants.{Taken}
+use Rattle.std.specs.Prelude.{Result, Ok, Err}
+use Rattle.refusals.specs.declared.Refusal.{Refusal}
 use Rattle.words.specs.declared.Row.{Row}
 use Rattle.tables.specs.Rows.{rows_from}
 use Rattle.tables.specs.Acceptance.{low_row}
@@ -37,9 +38,9 @@ use Rattle.tally.specs.declared.Tally.{Tally}
 use Rattle.tally.specs.Tallies.{tally_of}
 use Rattle.tally.specs.Ruling.{rule_by, tally_by}
 use Rattle.tally.proofs.AfterSetting.{after_setting}
-use Rattle.indexed.specs.declared.Continued.{Continued}
+use Rattle.indexed.specs.declared.StepsTaken.{StepsTaken}
 use Rattle.indexed.specs.Tallied.{Indexed}
-use Rattle.indexed.specs.Continuing.{continued_by}
+use Rattle.indexed.specs.Continuing.{Continued, continued_by, steps_taken}
 use Rattle.indexed.proofs.RuleTests.{choice_calm}
 use Rattle.indexed.proofs.TallyAfter.{wide, ready, rule-read, tally_is}
 use Rattle.weighted.specs.Weights.{weight, heaviest, choosing, weighted_rule}
@@ -161,23 +162,26 @@ module _ (n : ℕ) (words : List ℕ) (m : ℕ) (index : List ℕ) (x : Indexed 
 
       -- where it ends, run and count are what the steps reach
       pub kept_end : if_open run.standing (ltb count times) false ≡ false → (b : Bool) → b ≡ if_open run.standing false true
-          → ◌≡◌ {A = Continued} (record { outcome = Taken; run = run; steps = count; closed = b })
+          → ◌≡◌ {A = Continued} (record { outcome = Ok tt; run = run; steps = count; closed = b })
           (continued_by n (run_with weighted_rule n (always rows) times start))
       kept_end h b e =
-          ap₂ (λ (r : Run) (c : Bool). record { outcome = Taken; run = r; steps = count; closed = c }) o.running.tidy e
+          ap₂ (λ (r : Run) (c : Bool). record { outcome = Ok tt; run = r; steps = count; closed = c }) o.running.tidy e
           ∙ ap (λ (r : Ran). continued_by n r) (running_done-with weighted_rule weighted_applies n rows times start run count o.running h)
 
 -- ---- the fresh run
 
+-- the steps that a call took; none where it is refused
+abbrev steps_in : Result StepsTaken Refusal → ℕ
+steps_in (Ok s) = s.steps
+steps_in (Err r) = 0
+
 -- count and verdict of what its steps reach are the budgeted run's answer
 pub fresh-answer-with : (n : ℕ) (rows : List Row) (budget : ℕ) (run : Run) → run ≡ run_of n fresh
-    → (r : Continued) → r ≡ continued_by n (run_with weighted_rule n (always rows) budget (state_of run))
-    → (v : Verdict) → v ≡ verdict_of r.run.standing r.run.t
-    → ◌≡◌ {A = Answer} (record { count = r.steps; verdict = v }) (answer_with weighted_rule n (always rows) budget)
+    → let c = continued_by n (run_with weighted_rule n (always rows) budget (state_of run)) in
+    (s : StepsTaken) → Ok s ≡ steps_taken c → (last : Run) → last ≡ c.run → (v : Verdict) → v ≡ verdict_of last.standing last.t
+    → ◌≡◌ {A = Answer} (record { count = s.steps; verdict = v }) (answer_with weighted_rule n (always rows) budget)
 unfolding answer_with run_of
-fresh-answer-with n rows budget run e r q v w =
-    let start : state_of run ≡ fresh = ap (λ (x : Run). state_of x) e ∙ state-back n fresh in
-    let is : r ≡ continued_by n (run_with weighted_rule n (always rows) budget fresh) =
-    q ∙ ap (λ (s : State). continued_by n (run_with weighted_rule n (always rows) budget s)) start in
-    ap (λ (x : Verdict). record { count = r.steps; verdict = x }) w
-    ∙ ap (λ (x : Continued). record { count = x.steps; verdict = verdict_of x.run.standing x.run.t }) is
+fresh-answer-with n rows budget run e s q last h v w =
+    ap₂ (λ (k : ℕ) (x : Verdict). record { count = k; verdict = x }) (ap steps_in q) (w ∙ ap (λ (r : Run). verdict_of r.standing r.t) h)
+    ∙ ap (λ (start : State). let c = continued_by n (run_with weighted_rule n (always rows) budget start) in
+    record { count = c.steps; verdict = verdict_of c.run.standing c.run.t }) (ap (λ (x : Run). state_of x) e ∙ state-back n fresh)

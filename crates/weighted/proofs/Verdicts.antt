@@ -2,8 +2,8 @@
 use mathlib.Core.Path.{◌≡◌}
 use mathlib.Core.List.{List}
 use Prim.Native.Nat.{ℕ}
+use Rattle.std.specs.Prelude.{Ok}
 use Rattle.refusals.specs.Checks.{outcome}
-use Rattle.refusals.specs.declared.Outcome.TheVariants.{Taken}
 use Rattle.words.specs.declared.Row.{Row}
 use Rattle.dimensions.specs.declared.Dimensions.{Dimensions}
 use Rattle.tables.specs.Tables.{Tables}
@@ -20,7 +20,7 @@ use Rattle.weighted.specs.Weights.{weighted_rule}
 use Rattle.weighted.specs.WeightedRun.{weighted_answer, WeightedRun}
 use Rattle.weighted.proofs.Applying.{weighted_applies}
 
-module _ (d : Dimensions) (tables : Tables) (taken : outcome (table_checks d tables) ≡ Taken) where
+module _ (d : Dimensions) (tables : Tables) (taken : outcome (table_checks d tables) ≡ Ok tt) where
   abbrev rows : ℕ → List Row
   rows = always (rows_of d tables)
 

@@ -9,13 +9,12 @@ ghost use Rattle.solver.specs.Step.{always};
 ghost use Rattle.solver.specs.Entries.{run_with};
 ghost use Rattle.tally.specs.Ruling.{rule_by};
 ghost use Rattle.indexed.specs.Tallied.{Indexed};
-ghost use Rattle.indexed.specs.Continuing.{continued_by};
+ghost use Rattle.indexed.specs.Continuing.{continued_by, steps_taken};
 ghost use Rattle.weighted.specs.Weights.{heaviest, choosing, weighted_rule};
 ghost use Rattle.weighted.specs.Floats.{Weighs, Adds, word_weight, set_weight};
 
 use crate::weights;
-use indexed::Continued;
-use refusals::Outcome;
+use indexed::StepsTaken;
 use scan::Rule;
 use state::Run;
 use tally::Tally;
@@ -27,9 +26,10 @@ fn weigh_word(weights: &mut [f64; 32], words: &[u32; 768], first: usize, set: u6
     ensures { Adds (word_weight words.now first set unset) weights.old weights.new }
 {
     let mut left = set;
+    // A loop: std has no iterator over the bits of a word.
     while left != 0 {
-        let at = 2 * (first + u64::trailing_zeros(left) as usize);
-        left = left & (left - 1);
+        let at = 2 * (first + left.trailing_zeros() as usize);
+        left &= left - 1;
         let held = words[at] | words[at + 1];
         let variables = held & unset;
         weights::raise(
@@ -71,22 +71,25 @@ fn find_rule(words: &[u32; 768], index: &[u64; 384], t: u32, f: u32, tally: Tall
     }
 }
 
-// The run after weighted steps over rows and their index, through the one that closes it and at most a given number.
+// Takes the run through weighted steps over rows and their index, to the one that closes it and at most a given number.
 pub(crate) fn run_to_close(
     words: &[u32; 768],
     rows: usize,
     index: &[u64; 384],
     times: u64,
-    run: Run,
-) -> Continued
-    requires indexed { Indexed run.n words.now rows index.now }
-    requires run_value { well_formed run ≡ true }
-    ensures { result ≡ continued_by run.n
-        (run_with weighted_rule run.n (always (rows_from words.now 0 rows)) times (state_of run)) }
+    run: &mut Run,
+) -> StepsTaken
+    requires indexed { Indexed run.old.n words.now rows index.now }
+    requires run_value { well_formed run.old ≡ true }
+    ensures value { Ok result ≡ steps_taken (continued_by run.old.n
+        (run_with weighted_rule run.old.n (always (rows_from words.now 0 rows)) times (state_of run.old))) }
+    ensures run_after { run.new ≡ (continued_by run.old.n
+        (run_with weighted_rule run.old.n (always (rows_from words.now 0 rows)) times (state_of run.old))).run }
 {
-    let mut last = run;
+    let mut last = *run;
     let mut tally = tally::survey(words, index, rows, run.t, run.f);
     let mut steps = 0;
+    // A loop: the run says when it ends.
     while verdicts::goes_on(last, steps, times) {
         let rule = find_rule(words, index, last.t, last.f, tally);
         let next = rules::follow(last, rule);
@@ -96,9 +99,8 @@ pub(crate) fn run_to_close(
         last = next;
         steps += 1;
     }
-    Continued {
-        outcome: Outcome::Taken,
-        run: last,
+    *run = last;
+    StepsTaken {
         steps,
         closed: verdicts::closed(last),
     }

@@ -9,6 +9,7 @@ ghost use Rattle.weighted.specs.Weights.{greatest, weight, weighted_rule};
 ghost use Rattle.weighted.specs.Floats.{scaled, Weighs, Raised, Adds};
 
 use scan::Rule;
+use tables::Tables;
 use words::Row;
 
 // 2 to the power minus k, by its bit pattern: the exponent's field is 1023 - k.
@@ -24,10 +25,11 @@ pub(crate) fn raise(weights: &mut [f64; 32], word: u32, gain: f64)
     ensures { Raised weights.old word gain weights.new }
 {
     let mut left = word;
+    // A loop: std has no iterator over the bits of a word.
     while left != 0 {
         let i = words::lowest(left) as usize;
-        weights[i] = weights[i] + gain;
-        left = left & (left - 1);
+        weights[i] += gain;
+        left &= left - 1;
     }
 }
 
@@ -36,34 +38,26 @@ pub(crate) fn raise(weights: &mut [f64; 32], word: u32, gain: f64)
 fn weigh_rows(weights: &mut [f64; 32], rows: &[u32], t: u32, f: u32)
     ensures { Adds (weight 32 (rows_of_words rows.now) t f) weights.old weights.new }
 {
-    let m = rows.len() / 2;
-    for i in 0..m {
-        let at = 2 * i;
-        let positive = rows[at];
-        let negative = rows[at + 1];
+    for &[positive, negative] in rows.as_chunks::<2>().0 {
         let judged = tables::judge(Row { positive, negative }, t, f);
-        let satisfied = judged.satisfied;
-        let literals = judged.literals;
-        let variables = judged.variables;
-        if satisfied {
-            continue;
+        if !judged.satisfied {
+            raise(weights, judged.variables, power(judged.literals));
         }
-        raise(weights, variables, power(literals));
     }
 }
 
 // The weights of the variables over the rows of all tables.
-fn weigh(left: &[u32], right: &[u32], public: &[u32], t: u32, f: u32) -> [f64; 32]
-    requires left_len_bound { length left.now ≤ 256 }
-    requires right_len_bound { length right.now ≤ 256 }
-    requires public_len_bound { length public.now ≤ 256 }
+fn weigh(tables: Tables<'_>, t: u32, f: u32) -> [f64; 32]
+    requires left_len_bound { length tables.left.now ≤ 256 }
+    requires right_len_bound { length tables.right.now ≤ 256 }
+    requires public_len_bound { length tables.public.now ≤ 256 }
     ensures { Weighs result (weight 32
-        (rows_of_words left.now ++ (rows_of_words right.now ++ rows_of_words public.now)) t f) }
+        (rows_of_words tables.entry.left.now ++ (rows_of_words tables.entry.right.now ++ rows_of_words tables.entry.public.now)) t f) }
 {
     let mut weights = [0.0f64; 32];
-    weigh_rows(&mut weights, left, t, f);
-    weigh_rows(&mut weights, right, t, f);
-    weigh_rows(&mut weights, public, t, f);
+    weigh_rows(&mut weights, tables.left, t, f);
+    weigh_rows(&mut weights, tables.right, t, f);
+    weigh_rows(&mut weights, tables.public, t, f);
     weights
 }
 
@@ -71,9 +65,9 @@ fn weigh(left: &[u32], right: &[u32], public: &[u32], t: u32, f: u32) -> [f64; 3
 pub(crate) fn heaviest(weights: [f64; 32]) -> u32
     ensures { result ≡ greatest (λ i j. Ieee.lt (get_or weights i nan) (get_or weights j nan)) 32 }
 {
-    let mut best = 0usize;
-    for i in 0..32usize {
-        if weights[best] < weights[i] {
+    let mut best = 0;
+    for (i, &weight) in weights.iter().enumerate() {
+        if weights[best] < weight {
             best = i;
         }
     }
@@ -81,30 +75,30 @@ pub(crate) fn heaviest(weights: [f64; 32]) -> u32
 }
 
 // The heaviest variable over the rows of all tables.
-fn choose(left: &[u32], right: &[u32], public: &[u32], t: u32, f: u32) -> u32
-    requires left_len_bound { length left.now ≤ 256 }
-    requires right_len_bound { length right.now ≤ 256 }
-    requires public_len_bound { length public.now ≤ 256 }
+fn choose(tables: Tables<'_>, t: u32, f: u32) -> u32
+    requires left_len_bound { length tables.left.now ≤ 256 }
+    requires right_len_bound { length tables.right.now ≤ 256 }
+    requires public_len_bound { length tables.public.now ≤ 256 }
     ensures { result ≡ Weights.heaviest (weight 32
-        (rows_of_words left.now ++ (rows_of_words right.now ++ rows_of_words public.now)) t f) 32 }
+        (rows_of_words tables.entry.left.now ++ (rows_of_words tables.entry.right.now ++ rows_of_words tables.entry.public.now)) t f) 32 }
 {
-    heaviest(weigh(left, right, public, t, f))
+    heaviest(weigh(tables, t, f))
 }
 
 // The rule that applies to the rows of all tables at T and F, with the heaviest variable where it is rule 4: the rows are weighed then
 // only.
-pub(crate) fn find_rule(left: &[u32], right: &[u32], public: &[u32], t: u32, f: u32) -> Rule
-    requires left_len_bound { length left.now ≤ 256 }
-    requires right_len_bound { length right.now ≤ 256 }
-    requires public_len_bound { length public.now ≤ 256 }
+pub(crate) fn find_rule(tables: Tables<'_>, t: u32, f: u32) -> Rule
+    requires left_len_bound { length tables.left.now ≤ 256 }
+    requires right_len_bound { length tables.right.now ≤ 256 }
+    requires public_len_bound { length tables.public.now ≤ 256 }
     ensures { result ≡ weighted_rule 32
-        (rows_of_words left.now ++ (rows_of_words right.now ++ rows_of_words public.now)) t f }
+        (rows_of_words tables.entry.left.now ++ (rows_of_words tables.entry.right.now ++ rows_of_words tables.entry.public.now)) t f }
 {
-    let found = scan::find_rule(left, right, public, t, f);
+    let found = scan::find_rule(tables, t, f);
     match found {
         Rule::AllSatisfied => found,
         Rule::Conflict => found,
         Rule::Unit(_, _) => found,
-        Rule::Choice(_) => Rule::Choice(choose(left, right, public, t, f)),
+        Rule::Choice(_) => Rule::Choice(choose(tables, t, f)),
     }
 }

@@ -26,7 +26,7 @@ use Rattle.solver.specs.Step.{always, later, follow, step, after}
 use Rattle.solver.specs.Entries.{Ran, run_from}
 use Rattle.solver.proofs.StepLaws.{step-well_formed, fresh-well_formed}
 use Rattle.netlist.specs.Netlist.{gates_on}
-use Rattle.repeats.specs.declared.Applied.{Applied}
+use Rattle.repeats.specs.Application.{Applied}
 use Rattle.repeats.specs.Repeats.{Accepts, Attempt, attempted, long_enough, long_ones}
 use Rattle.repeats.proofs.Applying.{long_gives, short-gives}
 use Rattle.whole_budget.specs.Applications.{attempt_gives, applications, whole_runs, last_of, enough}

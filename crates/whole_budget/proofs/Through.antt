@@ -6,8 +6,9 @@ use mathlib.Core.List.{List}
 use Prim.Native.Nat.{ℕ, suc, ◌+◌, ◌-◌, ◌≤◌, ◌<◌}
 use native.Mathlib.Omega.{arith}
 use lib.ListN.{length, drop, replicate}
+use Rattle.std.specs.Prelude.{Ok, Err}
 use Rattle.refusals.specs.Checks.{outcome}
-use Rattle.refusals.specs.declared.Outcome.TheVariants.{Taken}
+use Rattle.refusals.specs.declared.Refusal.{Refusal}
 use Rattle.dimensions.specs.declared.Dimensions.{Dimensions}
 use Rattle.dimensions.specs.Sizes.{state_wire_count, input_wires}
 use Rattle.tables.specs.Tables.{Tables}
@@ -20,11 +21,10 @@ use Rattle.solver.specs.Step.{step, after}
 use Rattle.solver.proofs.StepLaws.{step-well_formed, fresh-well_formed}
 use Rattle.wires.specs.Packing.{packed}
 use Rattle.netlist.specs.Netlist.{gates_on}
-use Rattle.repeats.specs.declared.Applied.{Applied}
-use Rattle.repeats.specs.Application.{wires_after, applied}
+use Rattle.repeats.specs.Application.{Applied, wires_after, applied, mark_result}
 use Rattle.repeats.specs.Repeats.{circuit_words}
 use Rattle.repeats.proofs.Applying.{fine}
-use Rattle.repeats.proofs.Buffers.{Agree, agree_refl, Ready, packed_agrees, filled_agrees, applied-is, ready_same}
+use Rattle.repeats.proofs.Buffers.{Agree, agree_refl, Ready, packed_agrees, filled_agrees, applied-is, applied-taken, ready_same}
 use Rattle.whole_budget.specs.Applications.{whole_runs, last_of, enough}
 use Rattle.whole_budget.proofs.Applications.{rows, enough-last}
 
@@ -57,7 +57,7 @@ module _ (d : Dimensions) (tables : Tables) (budget : ℕ) (bytes₀ wires₀ : 
     ready : Ready d tables bytes wires
     ready = ready_same d tables bytes₀ wires₀ bytes wires y o.bytes-agree o.wires_agree
 
-    ok : outcome (state_checks d run) ≡ Taken
+    ok : outcome (state_checks d run) ≡ Ok tt
     ok = ap (λ (x : Run). outcome (state_checks d x)) o.run_is ∙ fine d tables y.accepts o.state o.formed
 
     pub through_on : count < budget → (bytes' wires' : List ℕ) (run' : Run)
@@ -78,6 +78,10 @@ module _ (d : Dimensions) (tables : Tables) (budget : ℕ) (bytes₀ wires₀ : 
           wires_agree = agree_on (input_wires d + length (gates_on d)) wires' wires wires₀
               (rw w (filled_agrees d tables bytes wires ready run ok)) o.wires_agree;
         }
+
+    -- no application is refused
+    pub through_taken : (r : Refusal) → mark_result (applied d tables (circuit_words d) run bytes wires (state_wire_count d.n + 1)) ≡ Err r → ⊥
+    through_taken r e = applied-taken d tables bytes wires ready run ok r e
 
     pub through_end : budget ≤ count
         → (run ≡ last_of (run_of d.n fresh) (whole_runs d tables budget (replicate budget (enough d))))

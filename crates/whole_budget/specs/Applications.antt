@@ -11,8 +11,7 @@ use Rattle.state.specs.State.{fresh, run_of}
 use Rattle.verdicts.specs.Verdicts.{verdict_of}
 use Rattle.solver.specs.declared.Answer.{Answer}
 use Rattle.netlist.specs.Netlist.{gates_on}
-use Rattle.repeats.specs.declared.Applied.{Applied}
-use Rattle.repeats.specs.Application.{applied}
+use Rattle.repeats.specs.Application.{Applied, applied}
 use Rattle.repeats.specs.Repeats.{Attempt, circuit_words, attempted}
 use Rattle.repeats.specs.Repeating.{whole}
 

@@ -2,17 +2,17 @@
 -- 3, 7, 23, 10. Afterwards bytes and wires are zeros where they were used: the last wires would tell the closing wire, and the bytes the
 -- rows.
 -- Ask: What is left in bytes and wires? Is 23 before 10?
-use Rattle.std.specs.Prelude.{ℕ, ◌+◌, List, ◌∷◌, ◌++◌, ltb, replicate}
+use Rattle.refusals.specs.declared.Refusal.{Refusal}
+use Rattle.solver.specs.declared.Answer.{Answer}
+use Rattle.refusals.specs.Numbers.{Outcome}
+use Rattle.std.specs.Prelude.{ℕ, ◌+◌, List, ◌∷◌, ◌++◌, ltb, replicate, Result, Ok, Err}
 use Rattle.std.proofs.Math.ListN.{length}
 use Rattle.refusals.specs.Checks.{Check, check, outcome, given}
-use Rattle.refusals.specs.declared.Outcome.{Outcome}
 use Rattle.refusals.specs.declared.Refusal.TheVariants as refusal
 use Rattle.dimensions.specs.declared.Dimensions.{Dimensions}
 use Rattle.dimensions.specs.Sizes.{input_wires}
 use Rattle.tables.specs.Tables.{Tables}
 use Rattle.gates.specs.Memory.{over}
-use Rattle.solver.specs.declared.Solved.{Solved}
-use Rattle.solver.specs.declared.Solved.TheVariants.{Of, Refused}
 use Rattle.netlist.specs.Netlist.{gates_on}
 use Rattle.generator.specs.Generation.{written_words}
 use Rattle.repeats.specs.Repeating.{generation_checks, wire_checks}
@@ -37,9 +37,9 @@ module _ (d : Dimensions) (tables : Tables) (budget : ℕ) (gates bytes wires : 
   whole_allowed = outcome (whole_checks d tables budget (length gates) (length bytes) (length wires))
 
   -- what the call gives
-  unfoldable pub solved_whole : Solved
+  unfoldable pub solved_whole : Result Answer Refusal
   unfolding whole_allowed whole_answer
-  solved_whole = given whole_allowed (Of (whole_answer d tables budget)) Refused
+  solved_whole = given whole_allowed (Ok (whole_answer d tables budget)) Err
 
   -- the gate words afterwards: the generator's; refused, as they were, and so the others
   unfoldable pub gates_after_whole : List ℕ

@@ -2,12 +2,11 @@
 // (document 02, "The count kept secret too"). Refusals: 1, 2, 4, 3, 7, 23, 10.
 #![tactic(auto)]
 
-ghost use Rattle.std.specs.Prelude.{◌≡◌, ◌∷◌, ◌+◌, ◌≤◌, length, drop, replicate};
+ghost use Rattle.std.specs.Prelude.{◌≡◌, ◌∷◌, ◌+◌, ◌≤◌, length, drop, replicate, Ok};
 ghost use Rattle.refusals.specs.Checks.{outcome};
 ghost use Rattle.refusals.specs.Numbers.{said};
-ghost use Rattle.refusals.specs.declared.Outcome.TheVariants.{Taken};
 ghost use Rattle.dimensions.specs.Sizes.{input_wires};
-ghost use Rattle.tables.specs.Tables.{all_tables, lent_tables};
+ghost use Rattle.tables.specs.Tables.{lent_words, words_in};
 ghost use Rattle.tables.specs.Acceptance.{table_checks};
 ghost use Rattle.state.specs.State.{fresh, run_of};
 ghost use Rattle.solver.specs.Entries.{answer_numbers, solved_code, solved_numbers};
@@ -18,9 +17,10 @@ ghost use Rattle.whole_budget.specs.WholeBudget.{whole_checks, cleared, solved_w
 ghost use Rattle.whole_budget.specs.WholeBudget.{gates_after_whole, bytes_after_whole, wires_after_whole};
 
 use dimensions::Dimensions;
-use refusals::{Outcome, Refusal};
-use solver::{Answer, Solved};
+use refusals::Refusal;
+use solver::Answer;
 use state::Run;
+use tables::Tables;
 
 // The greatest budget that is gone through whole.
 pub const MOST_BUDGET: u64 = 65535;
@@ -28,22 +28,17 @@ pub const MOST_BUDGET: u64 = 65535;
 // Whether tables, budget, gate words, bytes and wires allow the run: 1, 2, 4, 3, 7, 23 or 10 if not.
 fn check_whole(
     d: Dimensions,
-    left: &[u32],
-    right: &[u32],
-    public: &[u32],
+    tables: Tables<'_>,
     budget: u64,
     gates: usize,
     bytes: usize,
     wires: usize,
-) -> Outcome
-    ensures { result ≡ outcome (whole_checks d (lent_tables left right public) budget gates bytes wires) }
+) -> Result<(), Refusal>
+    ensures { result ≡ outcome (whole_checks d (lent_words tables) budget gates bytes wires) }
 {
-    match repeats::check_words(d, left, right, public, gates) {
-        Outcome::Taken => {}
-        Outcome::Refused(refusal) => return Outcome::Refused(refusal),
-    }
+    repeats::check_words(d, tables, gates)?;
     if MOST_BUDGET < budget {
-        return Outcome::Refused(Refusal::WholeBudget);
+        return Err(Refusal::WholeBudget);
     }
     repeats::check_room(d, bytes, wires)
 }
@@ -52,30 +47,25 @@ fn check_whole(
 // and wires past the circuit's stay as they are.
 fn apply_through(
     d: Dimensions,
-    left: &[u32],
-    right: &[u32],
-    public: &[u32],
+    tables: Tables<'_>,
     budget: u64,
     gates: &[u32],
     bytes: &mut [u8],
     wires: &mut [u8],
-) -> Run
+) -> Result<Run, Refusal>
     requires gates_value { gates.now ≡ circuit_words d }
-    requires public_value { outcome (table_checks d (all_tables left.now right.now public.now)) ≡ Taken }
+    requires public_value { outcome (table_checks d (words_in tables)) ≡ Ok tt }
     requires d_in_bounds { (input_wires d ≤ length bytes.old) × (input_wires d + length (gates_on d) ≤ length wires.old) }
-    ensures value { result ≡ last_of (run_of d.n fresh)
-        (whole_runs d (lent_tables left right public) budget (replicate budget (enough d))) }
+    ensures value { result ≡ Ok (last_of (run_of d.n fresh)
+        (whole_runs d (lent_words tables) budget (replicate budget (enough d)))) }
     ensures bytes_unchanged { drop (input_wires d) bytes.new ≡ drop (input_wires d) bytes.old }
     ensures wires_unchanged { drop (input_wires d + length (gates_on d)) wires.new ≡ drop (input_wires d + length (gates_on d)) wires.old }
 {
     let mut last = Run::fresh(d.n);
-    let mut done = 0;
-    while done < budget {
-        let next = repeats::apply(d, left, right, public, gates, bytes, wires, last);
-        last = next.run;
-        done += 1;
+    for _ in 0..budget {
+        repeats::apply(d, tables, gates, bytes, wires, &mut last)?;
     }
-    last
+    Ok(last)
 }
 
 // Puts zeros over the first `count` bytes.
@@ -83,11 +73,7 @@ fn clear(bytes: &mut [u8], count: usize)
     requires { count ≤ length bytes.old }
     ensures { bytes.new ≡ cleared count bytes.old }
 {
-    let mut i = 0;
-    while i < count {
-        bytes[i] = 0;
-        i += 1;
-    }
+    bytes[..count].fill(0);
 }
 
 // Generates the circuit of these dimensions into the gate words, then applies it to the fresh run as many times as the budget says, closed
@@ -95,46 +81,32 @@ fn clear(bytes: &mut [u8], count: usize)
 // were used. Refused, all is as it was.
 pub fn solve_whole(
     d: Dimensions,
-    left: &[u32],
-    right: &[u32],
-    public: &[u32],
+    tables: Tables<'_>,
     budget: u64,
     gates: &mut [u32],
     bytes: &mut [u8],
     wires: &mut [u8],
-) -> Solved
-    ensures value { result ≡ solved_whole d (lent_tables left right public) budget gates.old bytes.old wires.old }
-    ensures gates_after { gates.new ≡ gates_after_whole d (lent_tables left right public) budget gates.old bytes.old
+) -> Result<Answer, Refusal>
+    ensures value { result ≡ solved_whole d (lent_words tables) budget gates.old bytes.old wires.old }
+    ensures gates_after { gates.new ≡ gates_after_whole d (lent_words tables) budget gates.old bytes.old
         wires.old }
-    ensures bytes_after { bytes.new ≡ bytes_after_whole d (lent_tables left right public) budget gates.old bytes.old
+    ensures bytes_after { bytes.new ≡ bytes_after_whole d (lent_words tables) budget gates.old bytes.old
         wires.old }
-    ensures wires_after { wires.new ≡ wires_after_whole d (lent_tables left right public) budget gates.old bytes.old
+    ensures wires_after { wires.new ≡ wires_after_whole d (lent_words tables) budget gates.old bytes.old
         wires.old }
     ensures result_value { solved_code result ∷ solved_numbers result
-        ≡ said (outcome (whole_checks d (lent_tables left right public) budget (length gates.old)
-        (length bytes.old) (length wires.old))) (answer_numbers (whole_answer d (lent_tables left right public) budget)) }
+        ≡ said (outcome (whole_checks d (lent_words tables) budget (length gates.old)
+        (length bytes.old) (length wires.old))) (answer_numbers (whole_answer d (lent_words tables) budget)) }
 {
     let lent = gates.len();
-    match check_whole(
-        d,
-        left,
-        right,
-        public,
-        budget,
-        lent,
-        bytes.len(),
-        wires.len(),
-    ) {
-        Outcome::Taken => {}
-        Outcome::Refused(refusal) => return Solved::Refused(refusal),
-    }
+    check_whole(d, tables, budget, lent, bytes.len(), wires.len())?;
     let words = repeats::write_circuit(d, gates);
     let circuit = &gates[..words];
-    let last = apply_through(d, left, right, public, budget, circuit, bytes, wires);
+    let last = apply_through(d, tables, budget, circuit, bytes, wires)?;
     let inputs = d.input_wires();
     clear(bytes, inputs);
     clear(wires, inputs + words / 3);
-    Solved::Of(Answer {
+    Ok(Answer {
         count: budget,
         verdict: verdicts::verdict_of(last),
     })

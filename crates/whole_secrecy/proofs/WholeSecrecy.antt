@@ -7,8 +7,10 @@ use Prim.Native.Nat.{ℕ, suc, min, ◌+◌, ◌*◌, ◌≤◌, ◌<◌}
 use native.Mathlib.Omega.{arith}
 use lib.Dec.{ltb}
 use lib.ListN.{length, get_or, replicate}
+use Rattle.std.specs.Prelude.{Result, Ok, Err}
+use Rattle.refusals.specs.declared.Refusal.{Refusal}
+use Rattle.refusals.specs.Numbers.{Outcome}
 use Rattle.refusals.specs.Checks.{Check, check, outcome, given}
-use Rattle.refusals.specs.declared.Outcome.{Outcome}
 use Rattle.refusals.specs.declared.Refusal.TheVariants as refusal
 use Rattle.refusals.proofs.Outcomes.{outcome-taken}
 use Rattle.words.specs.declared.Row.{Row}
@@ -24,8 +26,6 @@ use Rattle.state.specs.State.{State, fresh, run_of, state_of}
 use Rattle.verdicts.specs.declared.Verdict.{Verdict}
 use Rattle.verdicts.specs.Verdicts.{verdict_of}
 use Rattle.solver.specs.declared.Answer.{Answer}
-use Rattle.solver.specs.declared.Solved.{Solved}
-use Rattle.solver.specs.declared.Solved.TheVariants.{Of, Refused}
 use Rattle.solver.specs.Step.{after}
 use Rattle.solver.specs.Entries.{answer_of}
 use Rattle.solver.proofs.StepLaws.{fresh-well_formed}
@@ -120,9 +120,9 @@ module _ (d : Dimensions) (tables : Tables) (acc : Accepts d tables) (budget : �
     by-later = outcome-taken (table_checks d tables) later acc
 
 -- what a call leaves, by what the checks say and by the verdict
-remains_by : Dimensions → ℕ → List ℕ → List ℕ → List ℕ → Outcome → Answer → Solved × List ℕ × List ℕ × List ℕ
+remains_by : Dimensions → ℕ → List ℕ → List ℕ → List ℕ → Outcome → Answer → Result Answer Refusal × List ℕ × List ℕ × List ℕ
 remains_by d budget gates bytes wires o a = (
-  given o (Of a) Refused,
+  given o (Ok a) Err,
   given o (written_words d gates) (λ r. gates),
   given o (cleared (input_wires d) bytes) (λ r. bytes),
   given o (cleared (input_wires d + length (gates_on d)) wires) (λ r. wires),

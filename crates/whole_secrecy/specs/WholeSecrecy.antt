@@ -1,7 +1,9 @@
 -- The run that repeats the circuit through a whole budget, as one statement about the generated circuit of some dimensions: history, end,
 -- bound, secrecy and what a call leaves. Document 02, "The count kept secret too" and "Fewer variables, fewer steps".
 -- Ask: Is there a mark in what is seen, or a premise on the count?
-use Rattle.std.specs.Prelude.{ℕ, suc, ◌≤◌, ◌<◌, min, ◌≡◌, true, List, length, get_or}
+use Rattle.refusals.specs.declared.Refusal.{Refusal}
+use Rattle.solver.specs.declared.Answer.{Answer}
+use Rattle.std.specs.Prelude.{ℕ, suc, ◌≤◌, ◌<◌, min, ◌≡◌, true, List, length, get_or, Result}
 use Rattle.words.specs.declared.Row.{Row}
 use Rattle.dimensions.specs.declared.Dimensions.{Dimensions}
 use Rattle.tables.specs.Tables.{Tables}
@@ -9,7 +11,6 @@ use Rattle.tables.specs.Rows.{rows_of_public, rows_of}
 use Rattle.state.specs.declared.Run.{Run}
 use Rattle.state.specs.State.{fresh, run_of, state_of}
 use Rattle.verdicts.specs.declared.Verdict.{Verdict}
-use Rattle.solver.specs.declared.Solved.{Solved}
 use Rattle.solver.specs.Step.{always, after}
 use Rattle.solver.specs.Entries.{answer_of}
 use Rattle.demand2.specs.Demand2.{most_steps}
@@ -45,7 +46,7 @@ seen_whole d tables budget attempts =
     (circuit_text_of d, length runs, answer_text (min d.n 32) (whole_answer_in d.n budget runs), rows_of_public d tables)
 
 -- what a call gives, and what it leaves in gate words, bytes and wires
-abbrev pub remains : Dimensions → Tables → ℕ → List ℕ → List ℕ → List ℕ → Solved × List ℕ × List ℕ × List ℕ
+abbrev pub remains : Dimensions → Tables → ℕ → List ℕ → List ℕ → List ℕ → Result Answer Refusal × List ℕ × List ℕ × List ℕ
 remains d tables budget gates bytes wires = (
   solved_whole d tables budget gates bytes wires,
   gates_after_whole d tables budget gates bytes wires,

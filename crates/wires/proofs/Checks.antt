@@ -7,9 +7,9 @@ use lib.Dec.{ltb}
 use lib.ListN.{length, take, length-map}
 use lib.Seq.{take_at}
 use borrow.Author.Tests.{lt-ltb, le-ltb, ltb-false}
+use Rattle.std.specs.Prelude.{Ok, Err}
+use Rattle.refusals.specs.Numbers.{Outcome}
 use Rattle.refusals.specs.Checks.{Check, check, outcome}
-use Rattle.refusals.specs.declared.Outcome.{Outcome}
-use Rattle.refusals.specs.declared.Outcome.TheVariants.{Taken, Refused}
 use Rattle.refusals.specs.declared.Refusal.{Refusal}
 use Rattle.refusals.specs.declared.Refusal.TheVariants.{Wires}
 use Rattle.refusals.proofs.Outcomes.{outcome-taken, outcome-refused, check_passed, checks-taken, refused-taken}
@@ -33,15 +33,15 @@ module _ (d : Dimensions) (tables : Tables) (run : Run) (room : ℕ) where
   abbrev later : List Check
   later = check (ltb room (input_wires d)) Wires ∷ state_checks d run
 
-  pub refuse_tables : (r : Refusal) → outcome (table_checks d tables) ≡ Refused r → Refused r ≡ outcome (pack_checks d tables run room)
+  pub refuse_tables : (r : Refusal) → outcome (table_checks d tables) ≡ Err r → Err r ≡ outcome (pack_checks d tables run room)
   refuse_tables r e = sym (outcome-refused (table_checks d tables) later r e)
 
-  module _ (e : outcome (table_checks d tables) ≡ Taken) where
+  module _ (e : outcome (table_checks d tables) ≡ Ok tt) where
     rest : outcome (pack_checks d tables run room) ≡ outcome later
     rest = outcome-taken (table_checks d tables) later e
 
     -- where the tables are taken and there are fewer bytes than input wires, packing is refused for the wires
-    pub refuse_room : room < input_wires d → Refused Wires ≡ outcome (pack_checks d tables run room)
+    pub refuse_room : room < input_wires d → Err Wires ≡ outcome (pack_checks d tables run room)
     refuse_room h = sym (rest ∙ rw (lt-ltb room (input_wires d) h))
 
     -- where the tables are taken and there is a byte for each input wire, the checks of the run decide
@@ -58,12 +58,12 @@ pub record Passed (d : Dimensions) (tables : Tables) (run : Run) (room : ℕ) : 
   pub same : run.n ≡ d.n
 
 -- where packing is taken, tables are accepted, each input wire has a byte, and the run is well-formed with as many variables as the dimensions
-pub passed : (d : Dimensions) (tables : Tables) (run : Run) (room : ℕ) → outcome (pack_checks d tables run room) ≡ Taken → Passed d tables run room
+pub passed : (d : Dimensions) (tables : Tables) (run : Run) (room : ℕ) → outcome (pack_checks d tables run room) ≡ Ok tt → Passed d tables run room
 passed d tables run room e = go (outcome (table_checks d tables)) refl
   where
     go : (o : Outcome) → outcome (table_checks d tables) ≡ o → Passed d tables run room
-    go (Refused r) q = absurd (refused-taken (refuse_tables d tables run room r q ∙ e))
-    go Taken q =
+    go (Err r) q = absurd (refused-taken (refuse_tables d tables run room r q ∙ e))
+    go (Ok _) q =
         let k = sym (rest d tables run room q) ∙ e in
         let s = checks-taken (ltb room (input_wires d)) Wires _ k in record {
           allowed = accepted d tables q;
@@ -75,18 +75,18 @@ passed d tables run room e = go (outcome (table_checks d tables)) refl
 -- ---- the entries
 
 module _ (d : Dimensions) (tables : Tables) (run : Run) (bytes : List ℕ) where
-  pub pack-refused : (r : Refusal) → outcome (pack_checks d tables run (length bytes)) ≡ Refused r → bytes ≡ packed d tables run bytes
+  pub pack-refused : (r : Refusal) → outcome (pack_checks d tables run (length bytes)) ≡ Err r → bytes ≡ packed d tables run bytes
   unfolding packed
   pack-refused r e = rw e
 
   -- where packing is taken, the lent bytes afterwards have the input values written over their front
-  pub pack-taken : outcome (pack_checks d tables run (length bytes)) ≡ Taken → over (bytes_of (input_bits d tables (state_of run)))
+  pub pack-taken : outcome (pack_checks d tables run (length bytes)) ≡ Ok tt → over (bytes_of (input_bits d tables (state_of run)))
       bytes ≡ packed d tables run bytes
   unfolding packed
   pack-taken e = rw e
 
   -- the front then holds the input values, as many bytes as there are input wires
-  pub packed-front : outcome (pack_checks d tables run (length bytes)) ≡ Taken → take (input_wires d) (packed d tables run bytes)
+  pub packed-front : outcome (pack_checks d tables run (length bytes)) ≡ Ok tt → take (input_wires d) (packed d tables run bytes)
       ≡ bytes_of (input_bits d tables (state_of run))
   packed-front e =
       ap (take (input_wires d)) (sym (pack-taken e))

@@ -1,18 +1,22 @@
 -- Wires stored in bytes from a place on: one more, and a list after a list. From `sets` of two lists in a row.
 use mathlib.Core.Path.{◌≡◌, refl, sym, ap, ap₂, ◌∙◌}
-use mathlib.Core.Bool.{Bool}
-use mathlib.Core.List.{List, [], ◌∷◌, ◌++◌, map-append}
+use mathlib.Core.Bool.{Bool, false}
+use mathlib.Core.List.{List, [], ◌∷◌, ◌++◌, map-append, append_assoc}
 use Prim.Native.Nat.{ℕ, suc, ◌+◌, ◌*◌, ◌≤◌, ◌<◌}
 use native.Mathlib.Nat.{zero-add, mul-zero, mul-suc, mul-le-mul_left}
 use native.Mathlib.Numerals.{add-one}
 use native.Mathlib.Omega.{arith}
-use lib.ListN.{length, set, drop, length-map}
+use lib.ListN.{length, get_or, set, take, drop, length-map}
 use lib.Seq.{sets, sets-eq, length-sets}
+use borrow.Rule.Slice.PartMut.{put_mid}
+use Rattle.std.proofs.lemmas.List.{get_or-map, ext_get_or}
+use Rattle.std.proofs.lemmas.List.Edits.{paste_all}
+use Rattle.std.proofs.lemmas.Slice.{put_mid-paste}
 use Rattle.words.specs.Booleans.{digit}
 use Rattle.words.proofs.Stores.{sets_append}
 use Rattle.gates.specs.Memory.{bytes_of, over}
 use Rattle.wires.specs.Layout.{upto, joined}
-use Rattle.wires.proofs.Series.{length-upto, upto-more, length-joined, joined-more}
+use Rattle.wires.proofs.Series.{length-upto, upto-at, length-joined, joined-more}
 
 -- the bytes b with wires stored at a place
 abbrev pub stored : List ℕ → ℕ → List Bool → List ℕ
@@ -32,15 +36,25 @@ pub stored-then : (b : List ℕ) {c d : List ℕ} (at next : ℕ) (v w : List Bo
     → d ≡ stored c next w → d ≡ stored b at (v ++ w)
 stored-then b at next v w e k f = f ∙ ap₂ (λ (l : List ℕ) (p : ℕ). stored l p w) e k ∙ sym (stored_append b at v w)
 
--- a turn of a loop that stores f 0, f 1, ..
-pub stored-wire : (b : List ℕ) (at : ℕ) (f : ℕ → Bool) (c : List ℕ) (i x : ℕ) → c ≡ stored b at (upto f i) → x ≡ digit (f i)
-    → set c (at + i) x ≡ stored b at (upto f (i + 1))
-stored-wire b at f c i x e h =
-    ap₂ (λ (l : List ℕ) (y : ℕ). set l (at + i) y) e h
-    ∙ sym (ap (λ (k : ℕ). stored b at (upto f k)) (add-one i)
-    ∙ ap (stored b at) (upto-more f i)
-    ∙ stored_append b at (upto f i) (f i ∷ [])
-    ∙ ap (λ (k : ℕ). set (stored b at (upto f i)) (at + k) (digit (f i))) (length-upto f i))
+-- a part of n bytes that holds the digits of f 0, f 1, .., written in place
+module _ (f : ℕ → Bool) (n : ℕ) where
+  digits-length : length (bytes_of (upto f n)) ≡ n
+  digits-length = length-map (upto f n) digit ∙ length-upto f n
+
+  digit_at : (i : ℕ) → i < n → get_or (bytes_of (upto f n)) i 0 ≡ digit (f i)
+  digit_at i h =
+      let b : i < length (upto f n) = omega (arith, length-upto f n) in
+      get_or-map digit (upto f n) i false 0 b ∙ ap digit (upto-at f n i h)
+
+  pub stored-part : (b part : List ℕ) (at k : ℕ) → k ≡ n → length part ≡ n → at + n ≤ length b
+      → ((i : ℕ) → i < n → get_or part i 0 ≡ digit (f i)) → put_mid at k b part ≡ stored b at (upto f n)
+  stored-part b part at k e size room each =
+      let same : part ≡ bytes_of (upto f n) = ext_get_or 0 part (bytes_of (upto f n)) (size ∙ sym digits-length)
+      (λ i l. let h : i < n = omega arith in each i h ∙ sym (digit_at i h)) in
+      put_mid-paste at k b part (bytes_of (upto f n)) n same (sym e) (sym digits-length)
+      ∙ paste_all b at (bytes_of (upto f n)) n (sym digits-length)
+      ∙ ap (λ (m : ℕ). take at b ++ (bytes_of (upto f n) ++ drop (at + m) b)) (sym digits-length)
+      ∙ sym (sets-eq (bytes_of (upto f n)) b at (omega (arith, digits-length)) ∙ append_assoc (take at b) (bytes_of (upto f n)) _)
 
 -- two wires
 pub stored-two : (b : List ℕ) (at : ℕ) (p q : Bool) (x y : ℕ) → x ≡ digit p → y ≡ digit q → set (set b at x) (at + 1) y ≡ stored b at (p ∷ (q ∷ []))

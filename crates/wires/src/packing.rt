@@ -30,10 +30,8 @@ fn put_set(n: usize, word: u32, bytes: &mut [u8], at: usize) -> usize
     ensures value { result ≡ at + n }
     ensures bytes_after { bytes.new ≡ sets bytes.old at (bytes_of (upto (bit word) n)) }
 {
-    let mut i = 0;
-    while i < n {
-        bytes[at + i] = byte(words::bit(word, i as u32));
-        i += 1;
+    for (i, wire) in bytes[at..at + n].iter_mut().enumerate() {
+        *wire = byte(words::bit(word, i as u32));
     }
     at + n
 }
@@ -44,10 +42,8 @@ fn put_one(n: usize, k: usize, bytes: &mut [u8], at: usize) -> usize
     ensures value { result ≡ at + n }
     ensures bytes_after { bytes.new ≡ sets bytes.old at (bytes_of (upto (λ i. eqb i k) n)) }
 {
-    let mut i = 0;
-    while i < n {
-        bytes[at + i] = byte(i == k);
-        i += 1;
+    for (i, wire) in bytes[at..at + n].iter_mut().enumerate() {
+        *wire = byte(i == k);
     }
     at + n
 }
@@ -71,10 +67,8 @@ pub(crate) fn put_rows(n: usize, words: &[u32], rows: usize, bytes: &mut [u8], a
     ensures bytes_after { bytes.new ≡ sets bytes.old at (bytes_of (rows_bits n (rows_from words.now 0 rows))) }
 {
     let mut next = at;
-    let mut j = 0;
-    while j < rows {
+    for j in 0..rows {
         next = put_row(n, tables::row_at(words, j), bytes, next);
-        j += 1;
     }
     next
 }
@@ -115,11 +109,9 @@ fn put_levels(n: usize, levels: [Level; 32], depth: usize, bytes: &mut [u8], at:
     ensures bytes_after { bytes.new ≡ sets bytes.old at (bytes_of (levels_bits n levels depth n)) }
 {
     let mut next = at;
-    let mut l = 0;
-    while l < n {
+    for l in 0..n {
         let level = level_at(n, levels, depth, l);
         next = put_level(n, level, bytes, next);
-        l += 1;
     }
     next
 }
@@ -128,22 +120,14 @@ fn put_levels(n: usize, levels: [Level; 32], depth: usize, bytes: &mut [u8], at:
 fn is_satisfied(standing: Standing) -> bool
     ensures { result ≡ is_satisfied standing }
 {
-    match standing {
-        Standing::Open => false,
-        Standing::Satisfied => true,
-        Standing::Refuted => false,
-    }
+    matches!(standing, Standing::Satisfied)
 }
 
 // Whether the run is closed as refuted.
 fn is_refuted(standing: Standing) -> bool
     ensures { result ≡ is_refuted standing }
 {
-    match standing {
-        Standing::Open => false,
-        Standing::Satisfied => false,
-        Standing::Refuted => true,
-    }
+    matches!(standing, Standing::Refuted)
 }
 
 // The two closing wires.

@@ -1,33 +1,19 @@
--- `has_stray` meets its contract. The loop's invariant: no plane below p has a stray bit.
-use mathlib.Core.Path.{sym, ◌∙◌}
-use Prim.Native.Nat.{◌-◌}
+-- `has_stray` meets its contract: one plane has a stray bit, or none.
+use mathlib.Core.Path.{◌≡◌, refl}
+use mathlib.Core.Bool.{true, false}
+use Prim.Native.Nat.{ℕ, ◌*◌, ◌+◌, ◌/◌}
 use native.Mathlib.Omega.{arith}
-use Rattle.columns.proofs.Strays.{none-start, none-next, found, none}
+use borrow.Author.Rules.{rules}
+use borrow.Author.Tests.{tests}
+use Rattle.std.proofs.lemmas.Iterator.{YieldsList-from_range, cases_from_any}
+use Rattle.columns.proofs.Strays.{plane_has, any-planes}
 use Rattle.columns.proofs.has_stray.Goals as goal
-
-pub loop-p-init : goal.loop-p-init
-loop-p-init c = let a = c.args in (omega arith, omega arith, none-start a.n a.rows a.planes.now)
-
-pub plane_stray-requires : goal.plane_stray-requires
-plane_stray-requires c =
-    (c.requires.0, omega arith, c.requires.1, omega (arith, c.requires.2))
-
-pub returns-then-plane_stray : goal.returns-then-plane_stray
-returns-then-plane_stray c =
-    let a = c.args in
-    found a.n a.rows a.planes.now c.loop-p.p (omega arith) (sym c.plane_stray.ensures ∙ c.if-plane_stray.true)
-
-pub loop-p-preserved : goal.loop-p-preserved
-loop-p-preserved c =
-    let a = c.args in
-    let l = c.loop-p in (
-      omega arith,
-      l.invariant.1,
-      none-next a.n a.rows a.planes.now l.p l.invariant.2 (sym c.plane_stray.ensures ∙ c.if-plane_stray.false),
-    )
 
 pub returns : goal.returns
 returns c =
-    let l = c.loop-p in
     let a = c.args in
-    none a.n a.rows a.planes.now l.p (omega arith) l.invariant.2
+    let k : ℕ = 2 * ((a.rows + 31) / 32) in
+    let has = plane_has a.n a.rows a.planes.now in
+    any-planes a.n a.rows a.planes.now c.any.result k refl
+    (cases_from_any _ _ _ (λ p. has p ≡ true) (λ p. has p ≡ false) c.any.ensures.ran (YieldsList-from_range 0 k k (search rules) (omega arith))
+    (λ p q k. search (rules, tests)) (λ p q k. search (rules, tests)))

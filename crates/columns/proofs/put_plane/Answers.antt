@@ -1,15 +1,12 @@
--- `put_plane` meets its contract: what is left to store gives what the whole plane gives.
-use Prim.Native.Nat.{◌-◌}
+-- `put_plane` meets its contract: the part of the planes is the words.
+use mathlib.Core.Path.{◌≡◌}
 use native.Mathlib.Omega.{arith}
+use lib.ListN.{length}
 use borrow.Author.Rules.{rules}
-use Rattle.words.proofs.Stores.{storing_start, storing_next, storing_end}
+use Rattle.columns.proofs.Storing.{part_stored}
 use Rattle.columns.proofs.put_plane.Goals as goal
 
-pub loop-i-init : goal.loop-i-init
-loop-i-init c = (omega arith, search rules, storing_start _ _ _)
-
-pub loop-i-preserved : goal.loop-i-preserved
-loop-i-preserved c = let l = c.loop-i in (omega arith, l.invariant.1, storing_next _ _ _ l.i l.planes l.invariant.2 (omega arith))
-
 pub returns : goal.returns
-returns c = let l = c.loop-i in (storing_end _ _ _ l.i l.planes l.invariant.2 (omega arith), l.invariant.1)
+returns c =
+    let size : length c.args.words ≡ 32 = search rules in
+    (part_stored c.args.planes.now _ c.args.words c.args.at _ c.copy_from_slice.ensures.after (omega arith) (omega arith), size)

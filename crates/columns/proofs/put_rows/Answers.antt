@@ -1,30 +1,19 @@
--- `put_rows` meets its contract: what is left to store gives what all the words give.
-use mathlib.Core.Path.{sym, ap, ◌∙◌}
+-- `put_rows` meets its contract: after the loop the part of the table is the words of the rows.
+use mathlib.Core.Path.{◌≡◌}
 use mathlib.Core.List.{[]}
-use Prim.Native.Nat.{ℕ, ◌-◌, ◌/◌, ◌%◌}
-use native.Mathlib.Nat.{zero-add}
+use Prim.Native.Nat.{ℕ, ◌/◌, ◌%◌}
 use native.Mathlib.Omega.{arith}
-use lib.ListN.{get_or}
-use Rattle.squares.proofs.Tabulating.{length-tabulate, at-tabulate}
-use Rattle.words.proofs.Stores.{storing_start, storing_value, storing_end}
+use lib.ListN.{length, get_or}
+use Rattle.std.proofs.Common.{length-take, length-drop}
+use Rattle.squares.proofs.Tabulating.{length-tabulate, tabulated}
+use Rattle.columns.proofs.Storing.{part_stored}
 use Rattle.columns.proofs.put_rows.Goals as goal
-
-pub loop-x-init : goal.loop-x-init
-loop-x-init c = (omega arith, storing_start _ _ _)
-
-pub loop-x-preserved : goal.loop-x-preserved
-loop-x-preserved c =
-    let l = c.loop-x in
-    let a = c.args in
-    let f : ℕ → ℕ = λ x. get_or (get_or a.rows (x % 2) []) (x / 2) 0 in (
-      omega arith,
-      storing_value _ _ _ l.x l.table l.invariant.1 (omega (arith, length-tabulate f 0 a.k)) (f l.x)
-          (sym (at-tabulate f 0 a.k l.x (omega arith) ∙ ap f (zero-add l.x))),
-    )
 
 pub returns : goal.returns
 returns c =
-    let l = c.loop-x in
     let a = c.args in
-    let f : ℕ → ℕ = λ x. get_or (get_or a.rows (x % 2) []) (x / 2) 0 in
-    storing_end _ _ _ l.x l.table l.invariant.1 (omega (arith, length-tabulate f 0 a.k))
+    let word : ℕ → ℕ = λ x. get_or (get_or a.rows (x % 2) []) (x / 2) 0 in
+    let size : length c.loop-x.word-items ≡ a.k = omega (arith, length-take {A = ℕ}, length-drop {A = ℕ}) in
+    part_stored a.table.now c.loop-x.word-items _ a.at _
+    (tabulated word a.k c.loop-x.word-items size (λ j h. c.loop-x.invariant j (omega arith)))
+    (omega (arith, length-tabulate word 0 a.k)) (omega arith)

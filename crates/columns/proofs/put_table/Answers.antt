@@ -1,5 +1,4 @@
 -- `put_table` meets its contract: the squares left to restore give what all squares give.
-use Prim.Native.Nat.{◌-◌}
 use native.Mathlib.Omega.{arith}
 use Rattle.columns.proofs.Restoring.{restoring_start, restoring_next, restoring_end, share-small}
 use Rattle.columns.proofs.put_table.Goals as goal

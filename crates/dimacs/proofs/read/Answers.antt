@@ -1,32 +1,34 @@
 -- `read` meets its contract: the header's refusal or its n and m lead where the definition's do.
-use mathlib.Core.Path.{sym, ◌∙◌}
-use Rattle.refusals.proofs.Outcomes.{held-said}
-use Rattle.dimacs.specs.declared.Table.{Table}
-use Rattle.dimacs.proofs.Texts.{overlong, by_header, limits}
+use mathlib.Core.Path.{sym, ap, ◌∙◌}
+use Rattle.refusals.proofs.Outcomes.{passed_on}
+use Rattle.dimacs.specs.Text.{table_of, table_read}
+use Rattle.dimacs.proofs.Texts.{overlong, head_limits, by_head, head_refused}
+use Rattle.dimacs.proofs.ThreeTexts.{table-said}
 use Rattle.dimacs.proofs.read.Goals as goal
 
 pub returns-then-text-gt65536 : goal.returns-then-text-gt65536
 returns-then-text-gt65536 c =
     let a = c.args in
-    let proved = held-said (λ (t : Table). t.outcome)
-    (c.refuse.ensures ∙ sym (overlong a.least a.text.now c.if-text-gt65536.true)) in
+    let proved = table-said (table_of a.least a.text.now) (sym (ap table_read (overlong a.least a.text.now c.if-text-gt65536.true))) in
     record { value = proved.0; outcome_value = proved.1 }
+
+pub returns-in_err-header : goal.returns-in_err-header
+returns-in_err-header c =
+    let a = c.args in
+    rw (passed_on _ _ c.from_residual.ensures.1)
+    (let proved = table-said (table_of a.least a.text.now)
+    (sym (ap table_read (head_refused a.least a.text.now _ c.read_header.ensures.value c.if-text-gt65536.false _ c.in_err-header.was))) in
+    record { value = proved.0; outcome_value = proved.1 })
 
 pub read_rows-requires : goal.read_rows-requires
 read_rows-requires c =
-    let proved = limits c.args.least _ _ c.read_header-header.ensures.value _ _ c.in-Of.is in
+    let proved = head_limits c.args.least c.args.text.now _ c.read_header.ensures.value _ c.in_ok-header.was in
     record { n_le_most_variables = proved.0; m_le_most_rows = proved.1 }
 
-pub returns-in-Of : goal.returns-in-Of
-returns-in-Of c =
-    let proved = held-said (λ (t : Table). t.outcome)
+pub returns : goal.returns
+returns c =
+    let a = c.args in
+    let proved = table-said (table_of a.least a.text.now)
     (c.read_rows.ensures
-    ∙ sym (by_header c.args.least _ c.if-text-gt65536.false _ c.read_header-header.ensures.value _ c.in-Of.is)) in
-    record { value = proved.0; outcome_value = proved.1 }
-
-pub returns-in-Refused : goal.returns-in-Refused
-returns-in-Refused c =
-    let proved = held-said (λ (t : Table). t.outcome)
-    (c.refuse-in-Refused.ensures
-    ∙ sym (by_header c.args.least _ c.if-text-gt65536.false _ c.read_header-header.ensures.value _ c.in-Refused.is)) in
+    ∙ sym (ap table_read (by_head a.least a.text.now _ c.read_header.ensures.value c.if-text-gt65536.false _ c.in_ok-header.was))) in
     record { value = proved.0; outcome_value = proved.1 }

@@ -6,18 +6,17 @@ use borrow.Author.Tests.{ltb-false}
 use Rattle.words.proofs.Truth.{or_l, or_r}
 use Rattle.dimensions.specs.Sizes.{most_variables, most_rows}
 use Rattle.refusals.specs.declared.Refusal.TheVariants.{Text}
-use Rattle.refusals.proofs.Outcomes.{held-said}
 use Rattle.clauses.specs.First.{clauses_from}
-use Rattle.dimacs.specs.declared.Table.{Table}
-use Rattle.dimacs.specs.Text.{refused, body_of}
+use Rattle.dimacs.specs.Text.{refused, body_of, table_read}
+use Rattle.dimacs.specs.Body.{body_within}
+use Rattle.dimacs.proofs.ThreeTexts.{table-said}
 use Rattle.dimacs.proofs.read_body.Goals as goal
 
 pub returns-then-n-m : goal.returns-then-n-m
 returns-then-n-m c =
     let a = c.args in
-    let proved = held-said (λ (t : Table). t.outcome)
-    (c.refuse.ensures
-    ∙ sym (ap (λ (t : Bool). cond t (refused Text) (body_of a.n a.m (clauses_from a.n a.text.now a.start))) c.if-n-m.true)) in
+    let proved = table-said (body_within a.n a.m (clauses_from a.n a.text.now a.start))
+    (sym (ap (λ (t : Bool). table_read (cond t (refused Text) (body_of a.n a.m (clauses_from a.n a.text.now a.start)))) c.if-n-m.true)) in
     record { value = proved.0; outcome_value = proved.1 }
 
 pub read_rows-requires : goal.read_rows-requires
@@ -31,7 +30,7 @@ read_rows-requires c =
 pub returns : goal.returns
 returns c =
     let a = c.args in
-    let proved = held-said (λ (t : Table). t.outcome)
+    let proved = table-said (body_within a.n a.m (clauses_from a.n a.text.now a.start))
     (c.read_rows.ensures
-    ∙ sym (ap (λ (t : Bool). cond t (refused Text) (body_of a.n a.m (clauses_from a.n a.text.now a.start))) c.if-n-m.false)) in
+    ∙ sym (ap (λ (t : Bool). table_read (cond t (refused Text) (body_of a.n a.m (clauses_from a.n a.text.now a.start)))) c.if-n-m.false)) in
     record { value = proved.0; outcome_value = proved.1 }

@@ -1,5 +1,4 @@
 -- `check_lines` meets its contract. The loop's invariant: what is left gives what the whole gives.
-use Prim.Native.Nat.{◌-◌}
 use native.Mathlib.Omega.{arith}
 use Rattle.lexer.proofs.Runs.{end_ge, end_le}
 use Rattle.drat.proofs.Whole.{in_line, reading_start, reading_more, reading_end}

@@ -1,7 +1,7 @@
 -- `fill` meets its contract: accepted tables have 384 rows at most, one table's after the other's.
 use mathlib.Core.Path.{refl}
 use native.Mathlib.Omega.{arith}
-use Rattle.tables.specs.Tables.{Tables, all_tables}
+use Rattle.tables.specs.Tables.{Tables, words_in}
 use Rattle.tables.proofs.Accepted.{Accepted, accepted}
 use Rattle.drat.proofs.Entry.{all-rows}
 use Rattle.drat.proofs.fill.Goals as goal
@@ -9,7 +9,7 @@ use Rattle.drat.proofs.fill.Goals.{Start}
 
 -- the tables
 abbrev tables : Start → Tables
-tables s = all_tables s.args.left.now s.args.right.now s.args.public.now
+tables s = words_in s.args.tables
 
 -- what is known of them
 limits : (s : Start) → Accepted s.args.d (tables s)

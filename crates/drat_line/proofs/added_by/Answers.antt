@@ -3,5 +3,5 @@ use mathlib.Core.Path.{sym, ap}
 use Rattle.drat_line.specs.Lines.{added_by}
 use Rattle.drat_line.proofs.added_by.Goals as goal
 
-pub returns-in-Of : goal.returns-in-Of
-returns-in-Of c = sym (ap added_by c.in-Of.is)
+pub returns-in-Some : goal.returns-in-Some
+returns-in-Some c = sym (ap added_by c.in-Some.is)

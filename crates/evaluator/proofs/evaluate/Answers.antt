@@ -10,6 +10,6 @@ returns-then-bits c =
 
 pub returns-then-bits-2 : goal.returns-then-bits-2
 returns-then-bits-2 c =
-    let e = c.try_out_large.ensures in
+    let e = c.try_out-then-bits-2.ensures in
     let t = also_said (e.value, e.wires_after) in
     record { value = t.0; wires_after = t.1.0; result_value = t.1.1 }

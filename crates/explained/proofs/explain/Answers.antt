@@ -1,10 +1,10 @@
 -- `explain` meets its contract: a closed run tells nothing, and over the fronts of accepted buffers an open one tells what it does over the tables.
-use mathlib.Core.Path.{◌≡◌, sym, ◌∙◌}
+use mathlib.Core.Path.{◌≡◌, ◌∙◌}
 use mathlib.Core.Bool.{true}
 use Prim.Native.Nat.{◌*◌, ◌≤◌}
 use native.Mathlib.Omega.{arith}
 use lib.Seq.{length-take-le}
-use Rattle.tables.specs.Tables.{Tables, all_tables}
+use Rattle.tables.specs.Tables.{Tables, words_in}
 use Rattle.tables.proofs.Accepted.{Accepted, accepted}
 use Rattle.state.specs.State.{state_of}
 use Rattle.state.specs.WellFormed.{well_formed}
@@ -14,7 +14,7 @@ use Rattle.state.proofs.HeldRun.{formed_run_e, length-levels}
 use Rattle.explained.proofs.Telling.{explains_open, explains_satisfied, explains_refuted}
 use Rattle.explained.proofs.Fronts.{told_of_fronts}
 use Rattle.explained.proofs.explain.Goals as goal
-use Rattle.explained.proofs.explain.Goals.{After-struct_known-3-1, Start}
+use Rattle.explained.proofs.explain.Goals.{In-Open, Start}
 
 -- at most 32 levels are used
 deep : (run : Run) → well_formed run ≡ true → run.depth ≤ 32
@@ -24,11 +24,11 @@ deep run e =
 
 -- the tables at the start
 abbrev tables : Start → Tables
-tables s = all_tables s.args.left.now s.args.right.now s.args.public.now
+tables s = words_in s.args.tables
 
 -- what is known of the tables there
-known : (c : After-struct_known-3-1) → Accepted c.args.d (tables (goal.at.After-struct_known-3-1 c).Start)
-known c = accepted c.args.d (tables (goal.at.After-struct_known-3-1 c).Start) c.requires.public_value
+known : (c : In-Open) → Accepted c.args.d (tables (goal.at.In-Open c).Start)
+known c = accepted c.args.d (tables (goal.at.In-Open c).Start) c.requires.public_value
 
 pub returns-in-Satisfied : goal.returns-in-Satisfied
 returns-in-Satisfied c = explains_satisfied _ _ (state_of c.args.run) c.in-Satisfied.is
@@ -36,28 +36,21 @@ returns-in-Satisfied c = explains_satisfied _ _ (state_of c.args.run) c.in-Satis
 pub returns-in-Refuted : goal.returns-in-Refuted
 returns-in-Refuted c = explains_refuted _ _ (state_of c.args.run) c.in-Refuted.is
 
-pub slice_bounds-tell-end : goal.slice_bounds-tell-end
-slice_bounds-tell-end c = sym (length-take-le _ _ (known c).left-length)
-
-pub slice_bounds-tell-end-2 : goal.slice_bounds-tell-end-2
-slice_bounds-tell-end-2 c = sym (length-take-le _ _ (known c).right_length)
-
-pub slice_bounds-tell-end-3 : goal.slice_bounds-tell-end-3
-slice_bounds-tell-end-3 c = sym (length-take-le _ _ (known c).public_length)
-
 pub tell-requires : goal.tell-requires
 tell-requires c =
-    let a = known c in
-    record {
-      left_len_bound = omega (arith, length-take-le (2 * c.args.d.left) c.args.left.now a.left-length, a.size.left-most);
-      right_len_bound = omega (arith, length-take-le (2 * c.args.d.right) c.args.right.now a.right_length, a.size.right_most);
+    let a = known (goal.at.tell-requires c).In-Open in
+    rw (c.rows.ensures.left, c.rows.ensures.right, c.rows.ensures.public) record {
+      left_len_bound = omega (arith, length-take-le (2 * c.args.d.left) c.args.tables.left.now a.left-length, a.size.left-most);
+      right_len_bound = omega (arith, length-take-le (2 * c.args.d.right) c.args.tables.right.now a.right_length, a.size.right_most);
       public_len_bound =
-          omega (arith, length-take-le (2 * c.args.d.public) c.args.public.now a.public_length, a.size.public_most);
+          omega (arith, length-take-le (2 * c.args.d.public) c.args.tables.public.now a.public_length, a.size.public_most);
       depth_bound =
           deep c.args.run c.requires.run_value;
     }
 
 pub returns : goal.returns
 returns c =
-    c.tell.ensures ∙ told_of_fronts c.args.d (tables (goal.at.returns c).Start) c.requires.public_value (state_of c.args.run)
+    c.tell.ensures
+    ∙ rw (c.rows.ensures.left, c.rows.ensures.right, c.rows.ensures.public)
+    (told_of_fronts c.args.d (tables (goal.at.returns c).Start) c.requires.public_value (state_of c.args.run))
     ∙ explains_open _ _ (state_of c.args.run) c.in-Open.is

@@ -9,7 +9,7 @@ use Rattle.explained.proofs.tell.Goals.{Start}
 
 -- the rows there
 abbrev rows : Start → List Row
-rows s = rows_of_words s.args.left.now ++ (rows_of_words s.args.right.now ++ rows_of_words s.args.public.now)
+rows s = rows_of_words s.args.tables.left.now ++ (rows_of_words s.args.tables.right.now ++ rows_of_words s.args.tables.public.now)
 
 pub returns-in-AllSatisfied : goal.returns-in-AllSatisfied
 returns-in-AllSatisfied c =

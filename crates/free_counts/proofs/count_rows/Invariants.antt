@@ -1,10 +1,7 @@
--- `count_rows` meets its contract. The loop's invariant: the rows that are left give what all give. The measure is how many those are.
-use Prim.Native.Nat.{◌-◌}
-use Rattle.free_counts.proofs.Counting.{Counted}
+-- `count_rows` meets its contract. The loop's invariant: the bytes below the index are their rows' counts.
+use Rattle.std.proofs.Common.{◌≡◌, ℕ, ◌<◌, get_or}
+use Rattle.tables.specs.Rows.{row_at, free_literals}
 use Rattle.free_counts.proofs.count_rows.Given as goal
 
 abbrev pub invariant-loop-i : goal.invariant-loop-i
-invariant-loop-i l = Counted l.words l.rows l.t l.f l.initial.counts l.at l.counts l.i
-
-abbrev pub decreases-loop-i : goal.decreases-loop-i
-decreases-loop-i l = l.rows - l.i
+invariant-loop-i l = (k : ℕ) → k < l.i → get_or l.count-items k 0 ≡ free_literals 32 (row_at l.words k) l.t l.f

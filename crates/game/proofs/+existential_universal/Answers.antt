@@ -16,11 +16,11 @@ existential-returns-then-unset-eq0 t c =
     let s = c.args in
     c.all_true.ensures ∙ none_left s.turns s.unset (rows_of_words s.rows.now) (bit s.t) c.if-unset-eq0.true
 
-pub existential-returns-in-Decided : goal.existential-returns-in-Decided
-existential-returns-in-Decided t c =
+pub existential-returns-in-Some : goal.existential-returns-in-Some
+existential-returns-in-Some t c =
     let s = c.args in
     sym
-    (forced-cut (rows_of_words s.rows.now) s.t s.f c.in-Decided.b (sym c.cut.ensures ∙ c.in-Decided.is)
+    (forced-cut (rows_of_words s.rows.now) s.t s.f c.in-Some.b (sym c.cut.ensures ∙ c.in-Some.is)
     (turns_in s.turns s.unset) c.requires.f_value (bit s.t) (apart_agrees s.t s.f c.requires.apart))
 
 pub existential-universal-first-requires : goal.existential-universal-first-requires
@@ -57,11 +57,11 @@ universal-returns-then-unset-eq0 t c =
     let s = c.args in
     ap not (c.all_true.ensures ∙ none_left s.turns s.unset (rows_of_words s.rows.now) (bit s.t) c.if-unset-eq0.true)
 
-pub universal-returns-in-Decided : goal.universal-returns-in-Decided
-universal-returns-in-Decided t c =
+pub universal-returns-in-Some : goal.universal-returns-in-Some
+universal-returns-in-Some t c =
     let s = c.args in
     ap not (sym
-    (forced-cut (rows_of_words s.rows.now) s.t s.f c.in-Decided.b (sym c.cut.ensures ∙ c.in-Decided.is)
+    (forced-cut (rows_of_words s.rows.now) s.t s.f c.in-Some.b (sym c.cut.ensures ∙ c.in-Some.is)
     (turns_in s.turns s.unset) c.requires.f_value (bit s.t) (apart_agrees s.t s.f c.requires.apart)))
 
 pub universal-existential-first-requires : goal.universal-existential-first-requires

@@ -8,4 +8,4 @@ pub returns-in_default : goal.returns-in_default
 returns-in_default c = full_undecided (rows_of_words c.args.rows.now) c.args.t c.ranges.t.fits (sym c.cut.ensures ∙ c.in_default.is)
 
 pub returns : goal.returns
-returns c = full-decided (rows_of_words c.args.rows.now) c.args.t c.ranges.t.fits _ (sym c.cut.ensures ∙ c.in-Decided.is)
+returns c = full-decided (rows_of_words c.args.rows.now) c.args.t c.ranges.t.fits _ (sym c.cut.ensures ∙ c.in-Some.is)

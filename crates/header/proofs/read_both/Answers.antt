@@ -15,5 +15,5 @@ returns-in_default-read_number c =
 pub returns : goal.returns
 returns c =
     c.check_limits.ensures
-    ∙ both c.args.least _ _ (omega arith) _ _ _ _ (sym c.read_number.ensures ∙ c.in-Value.is)
-    (sym c.read_number-2.ensures ∙ c.in-Value-read_number.is)
+    ∙ both c.args.least _ _ (omega arith) _ _ _ _ (sym c.read_number.ensures ∙ c.in-Some.is)
+    (sym c.read_number-2.ensures ∙ c.in-Some-read_number.is)

@@ -11,11 +11,11 @@ use Rattle.host_circuits.specs.Circuits.{sizes_given}
 use Rattle.host_circuits.proofs.Sizes.{sizes-refused, sizes-taken, ceiling-low}
 use Rattle.host_circuits.proofs.forkhemit_sizes.Goals as goal
 
-pub returns-in-Refused : goal.returns-in-Refused
-returns-in-Refused c =
-    let is = sym c.in-Refused.is ∙ rw c.dimensions-d.ensures at c.check.ensures.value in
+pub returns-in-Err : goal.returns-in-Err
+returns-in-Err c =
+    let is = sym c.in-Err.is ∙ rw c.dimensions-d.ensures at c.check.ensures.value in
     let a = c.args in record {
-      value = c.number.ensures ∙ ap code_of is;
+      value = c.from.ensures ∙ ap code_of is;
       sizes_after = sizes-refused (host_dimensions a.n a.left_rows a.right_rows a.public_rows) _ (sym is) a.sizes.now;
     }
 
@@ -29,7 +29,7 @@ pub returns : goal.returns
 returns c =
     let lent = c.args.sizes.now in
     let k = c.ceiling-ceiling.ensures in
-    let is = sym c.in-Taken.is ∙ c.check.ensures.value in record {
+    let is = sym c.in_default.is ∙ c.check.ensures.value in record {
       value = ap code_of (rw c.dimensions-d.ensures at is);
       sizes_after = (λ i. k i ∷ (3 * k i ∷ (c.input_wires.ensures i ∷ (c.state_wires.ensures i ∷ []))))
           ∙ sizes-taken c.dimensions-d.result lent (sym is) ∙ ap (λ (d : Dimensions). sizes_given d lent) c.dimensions-d.ensures;

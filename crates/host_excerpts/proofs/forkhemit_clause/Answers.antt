@@ -2,7 +2,9 @@
 use mathlib.Core.Path.{sym, ap, ◌∙◌}
 use mathlib.Core.List.{List}
 use Prim.Native.Nat.{ℕ}
-use Rattle.excerpts.specs.declared.Placed.{Placed}
+use Rattle.std.specs.Prelude.{Result}
+use Rattle.refusals.specs.declared.Refusal.{Refusal}
+use Rattle.excerpts.specs.declared.Place.{Place}
 use Rattle.excerpts.specs.Excerpts.{placed_code, placed_numbers}
 use Rattle.lent.specs.Lent.{numbers_or}
 use Rattle.host_excerpts.proofs.forkhemit_clause.Goals as goal
@@ -12,23 +14,23 @@ use Rattle.host_excerpts.proofs.forkhemit_clause.Goals.{After-dimensions-d}
 abbrev lent : After-dimensions-d → List ℕ
 lent c = let tables = c in tables.args.place.now
 
-pub returns-in-Of : goal.returns-in-Of
-returns-in-Of c =
+pub returns-in-Ok : goal.returns-in-Ok
+returns-in-Ok c =
     let told = c in
     let place = told in
-    let is = sym told.in-Of.is ∙ rw place.dimensions-d.ensures at place.clause_place.ensures.value in
+    let is = sym told.in-Ok.is ∙ rw place.dimensions-d.ensures at place.clause_place.ensures.value in
     record {
       value = ap placed_code is;
-      place_after = ap (λ (p : Placed). numbers_or (placed_numbers p) (lent (goal.at.returns-in-Of place).After-dimensions-d))
+      place_after = ap (λ (p : Result Place Refusal). numbers_or (placed_numbers p) (lent (goal.at.returns-in-Ok place).After-dimensions-d))
           is;
     }
 
-pub returns-in-Refused : goal.returns-in-Refused
-returns-in-Refused c =
+pub returns-in-Err : goal.returns-in-Err
+returns-in-Err c =
     let told = c in
     let place = told in
-    let is = sym told.in-Refused.is ∙ rw place.dimensions-d.ensures at place.clause_place.ensures.value in
+    let is = sym told.in-Err.is ∙ rw place.dimensions-d.ensures at place.clause_place.ensures.value in
     record {
-      value = c.number.ensures ∙ ap placed_code is;
-      place_after = ap (λ (p : Placed). numbers_or (placed_numbers p) (lent (goal.at.returns-in-Refused place).After-dimensions-d)) is;
+      value = c.from.ensures ∙ ap placed_code is;
+      place_after = ap (λ (p : Result Place Refusal). numbers_or (placed_numbers p) (lent (goal.at.returns-in-Err place).After-dimensions-d)) is;
     }

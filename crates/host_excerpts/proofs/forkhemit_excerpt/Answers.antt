@@ -24,15 +24,15 @@ judged : (c : After-check_excerpt) → let s = c in
     s.args.left_text.now s.args.right_text.now s.args.row)
 judged c = rw c.dimensions-d.ensures at c.check_excerpt.ensures.value
 
-pub returns-in-Refused : goal.returns-in-Refused
-returns-in-Refused c =
+pub returns-in-Err : goal.returns-in-Err
+returns-in-Err c =
     let told = c in
     let check = told in
-    let s = check in let proved = refused_call (excerpt_checks (sizes (goal.at.returns-in-Refused s).Start) (tables (goal.at.returns-in-Refused s).Start)
+    let s = check in let proved = refused_call (excerpt_checks (sizes (goal.at.returns-in-Err s).Start) (tables (goal.at.returns-in-Err s).Start)
     s.args.left_text.now s.args.right_text.now s.args.row)
-    (clause_bytes (sizes (goal.at.returns-in-Refused s).Start) (tables (goal.at.returns-in-Refused s).Start) s.args.left_text.now s.args.right_text.now
+    (clause_bytes (sizes (goal.at.returns-in-Err s).Start) (tables (goal.at.returns-in-Err s).Start) s.args.left_text.now s.args.right_text.now
     s.args.row)
-    s.args.bytes.now s.args.length.now _ (sym (judged (goal.at.returns-in-Refused check).After-check_excerpt) ∙ told.in-Refused.is) _ c.number.ensures in
+    s.args.bytes.now s.args.length.now _ (sym (judged (goal.at.returns-in-Err check).After-check_excerpt) ∙ told.in-Err.is) _ c.from.ensures in
     record { value = proved.0; bytes_after = proved.1.0; length_after = proved.1.1 }
 
 pub returns : goal.returns
@@ -44,7 +44,7 @@ returns c =
     let s = check in let proved = taken_call (excerpt_checks (sizes (goal.at.returns s).Start) (tables (goal.at.returns s).Start) s.args.left_text.now
     s.args.right_text.now s.args.row)
     (clause_bytes (sizes (goal.at.returns s).Start) (tables (goal.at.returns s).Start) s.args.left_text.now s.args.right_text.now s.args.row)
-    s.args.bytes.now s.args.length.now (sym (judged (goal.at.returns check).After-check_excerpt) ∙ told.in-Taken.is) _
+    s.args.bytes.now s.args.length.now (sym (judged (goal.at.returns check).After-check_excerpt) ∙ told.in_default.is) _
     (rw check.dimensions-d.ensures at part.clause_bytes-part.ensures) _ _ _
     (give.give.ensures.value, (give.give.ensures.bytes_after, give.give.ensures.length_after)) in
     record { value = proved.0; bytes_after = proved.1.0; length_after = proved.1.1 }

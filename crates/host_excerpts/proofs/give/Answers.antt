@@ -8,7 +8,7 @@ use Rattle.host_excerpts.proofs.give.Goals as goal
 
 pub returns-then-bytes-part : goal.returns-then-bytes-part
 returns-then-bytes-part c =
-    let a = c.args in let proved = no_room a.part.now a.bytes.now a.length.now c.if-bytes-part.true _ c.number.ensures in
+    let a = c.args in let proved = no_room a.part.now a.bytes.now a.length.now c.if-bytes-part.true _ c.from.ensures in
     record { value = proved.0; bytes_after = proved.1.0; length_after = proved.1.1 }
 
 pub returns : goal.returns

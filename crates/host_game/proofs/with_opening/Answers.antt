@@ -3,16 +3,16 @@ use mathlib.Core.Path.{sym, ap, ap₂, ◌∙◌}
 use mathlib.Core.List.{[], ◌∷◌}
 use Prim.Native.Nat.{ℕ}
 use native.Mathlib.Numerals.{add-one}
+use Rattle.std.specs.Prelude.{Bool, Option}
 use Rattle.words.proofs.Truth.{byte-digit}
 use Rattle.game.specs.Game.{opening_numbers}
-use Rattle.game.specs.declared.Opening.{Opening}
 use Rattle.host_game.proofs.with_opening.Goals as goal
 
-pub returns-in-Fixes : goal.returns-in-Fixes
-returns-in-Fixes c =
+pub returns-in-Some : goal.returns-in-Some
+returns-in-Some c =
     let side = c.args.side in
-    ap₂ (λ (v b : ℕ). side ∷ (v ∷ (b ∷ []))) (add-one _) (byte-digit c.in-Fixes.b)
-    ∙ ap (λ (o : Opening). side ∷ opening_numbers o) (sym c.in-Fixes.is)
+    ap₂ (λ (v b : ℕ). side ∷ (v ∷ (b ∷ []))) (add-one _) (byte-digit c.in-Some.b)
+    ∙ ap (λ (o : Option (ℕ × Bool)). side ∷ opening_numbers o) (sym c.in-Some.is)
 
-pub returns-in-Nothing : goal.returns-in-Nothing
-returns-in-Nothing c = ap (λ (o : Opening). c.args.side ∷ opening_numbers o) (sym c.in-Nothing.is)
+pub returns-in-None : goal.returns-in-None
+returns-in-None c = ap (λ (o : Option (ℕ × Bool)). c.args.side ∷ opening_numbers o) (sym c.in-None.is)

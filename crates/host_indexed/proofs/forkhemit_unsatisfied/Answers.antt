@@ -2,7 +2,8 @@
 use mathlib.Core.Path.{sym, ap, ◌∙◌}
 use mathlib.Core.List.{List}
 use Prim.Native.Nat.{ℕ}
-use Rattle.indexed.specs.declared.Counted.{Counted}
+use Rattle.std.specs.Prelude.{Result}
+use Rattle.refusals.specs.declared.Refusal.{Refusal}
 use Rattle.indexed.specs.Entries.{counted_code, counted_numbers}
 use Rattle.lent.specs.Lent.{numbers_or}
 use Rattle.host_indexed.proofs.forkhemit_unsatisfied.Goals as goal
@@ -12,18 +13,18 @@ use Rattle.host_indexed.proofs.forkhemit_unsatisfied.Goals.{After-unsatisfied}
 abbrev lent : After-unsatisfied → List ℕ
 lent c = c.args.number.now
 
-pub returns-in-Of : goal.returns-in-Of
-returns-in-Of c =
+pub returns-in-Ok : goal.returns-in-Ok
+returns-in-Ok c =
     let gave = rw (c.load.ensures, c.dimensions-d.ensures) at c.unsatisfied.ensures.value in
-    let is = sym c.in-Of.is ∙ gave in record {
+    let is = sym c.in-Ok.is ∙ gave in record {
       value = ap counted_code is;
-      number_after = ap (λ (k : Counted). numbers_or (counted_numbers k) (lent (goal.at.returns-in-Of c).After-unsatisfied)) is;
+      number_after = ap (λ (k : Result ℕ Refusal). numbers_or (counted_numbers k) (lent (goal.at.returns-in-Ok c).After-unsatisfied)) is;
     }
 
-pub returns-in-Refused : goal.returns-in-Refused
-returns-in-Refused c =
+pub returns-in-Err : goal.returns-in-Err
+returns-in-Err c =
     let gave = rw (c.load.ensures, c.dimensions-d.ensures) at c.unsatisfied.ensures.value in
-    let is = sym c.in-Refused.is ∙ gave in record {
-      value = c.number.ensures ∙ ap counted_code is;
-      number_after = ap (λ (k : Counted). numbers_or (counted_numbers k) (lent (goal.at.returns-in-Refused c).After-unsatisfied)) is;
+    let is = sym c.in-Err.is ∙ gave in record {
+      value = c.from.ensures ∙ ap counted_code is;
+      number_after = ap (λ (k : Result ℕ Refusal). numbers_or (counted_numbers k) (lent (goal.at.returns-in-Err c).After-unsatisfied)) is;
     }

@@ -5,8 +5,7 @@ use Prim.Native.Nat.{ℕ, min}
 use native.Mathlib.Omega.{arith}
 use lib.ListN.{length, take}
 use Rattle.refusals.specs.Checks.{given}
-use Rattle.refusals.specs.Numbers.{code_of}
-use Rattle.refusals.specs.declared.Outcome.{Outcome}
+use Rattle.refusals.specs.Numbers.{Outcome, code_of}
 use Rattle.text.specs.declared.Text.{Text}
 use Rattle.text.specs.Texts.{text_of}
 use Rattle.text.proofs.Appending.{text_back}
@@ -17,15 +16,15 @@ use Rattle.lent.specs.Lent.{front}
 use Rattle.host_lines.specs.Answers.{answer_from}
 use Rattle.host_lines.proofs.forkhemit_answer.Goals as goal
 
-pub returns-in-Refused : goal.returns-in-Refused
-returns-in-Refused c =
+pub returns-in-Err : goal.returns-in-Err
+returns-in-Err c =
     let check = c in
     let byte = check in
     let a = byte.args in
     let text = answer_text (as_byte a.n) (answer_from a.count a.verdict a.model) in
-    let is = sym c.in-Refused.is ∙ rw byte.byte-k.ensures at check.check_variables.ensures.value in
+    let is = sym c.in-Err.is ∙ rw byte.byte-k.ensures at check.check_variables.ensures.value in
     record {
-      value = c.number.ensures ∙ ap code_of is;
+      value = c.from.ensures ∙ ap code_of is;
       text_after = ap (λ (o : Outcome). given o (front text a.text.now) (λ r. a.text.now)) is;
       length_after = ap (λ (o : Outcome). given o (length text ∷ []) (λ r. a.length.now)) is;
     }
@@ -39,7 +38,7 @@ returns c =
     let byte = check in
     let a = byte.args in
     let text = answer_text (as_byte a.n) (answer_from a.count a.verdict a.model) in
-    let is = sym told.in-Taken.is ∙ rw byte.byte-k.ensures at check.check_variables.ensures.value in
+    let is = sym told.in_default.is ∙ rw byte.byte-k.ensures at check.check_variables.ensures.value in
     let low : min byte.byte-k.result 32 ≡ as_byte a.n = omega (arith, byte.byte-k.ensures, taken-low (as_byte a.n) (sym is)) in
     let e = print.answer_text-printed.ensures ∙ (λ i. text_of (answer_text (low i) (record { count = a.count; verdict = verdict.verdict_from.ensures i }))) in
     record {

@@ -3,5 +3,5 @@ use mathlib.Core.Path.{sym, ap}
 use Rattle.tables.specs.Rows.{look_number}
 use Rattle.host_runs.proofs.look_number.Goals as goal
 
-pub returns-in-Variable : goal.returns-in-Variable
-returns-in-Variable c = ap look_number (sym c.in-Variable.is)
+pub returns-in-Some : goal.returns-in-Some
+returns-in-Some c = ap look_number (sym c.in-Some.is)

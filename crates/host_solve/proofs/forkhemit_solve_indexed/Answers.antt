@@ -1,6 +1,8 @@
 -- `forkhemit_solve_indexed` meets its contract: the indexed run is that of the numbers as bytes, and what it gives is given on.
 use mathlib.Core.Path.{ap, ◌∙◌}
-use Rattle.solver.specs.declared.Solved.{Solved}
+use Rattle.std.specs.Prelude.{Result}
+use Rattle.refusals.specs.declared.Refusal.{Refusal}
+use Rattle.solver.specs.declared.Answer.{Answer}
 use Rattle.solver.specs.Entries.{solved_code, solved_numbers}
 use Rattle.lent.specs.Lent.{numbers_or}
 use Rattle.host_solve.proofs.forkhemit_solve_indexed.Goals as goal
@@ -10,5 +12,5 @@ returns c =
     let answer = c.args.answer.now in
     let gave = rw c.dimensions-d.ensures at c.solve_indexed.ensures.value in record {
       value = c.give.ensures.value ∙ ap solved_code gave;
-      answer_after = c.give.ensures.answer_after ∙ ap (λ (x : Solved). numbers_or (solved_numbers x) answer) gave;
+      answer_after = c.give.ensures.answer_after ∙ ap (λ (x : Result Answer Refusal). numbers_or (solved_numbers x) answer) gave;
     }

@@ -1,14 +1,12 @@
 -- `forkhemit_step_weighted` meets its contract: the weighted step is that of the numbers as bytes and of the run in the words, and stored where it is taken.
 use mathlib.Core.Path.{ap, ◌∙◌}
-use Rattle.solver.specs.declared.Stepped.{Stepped}
 use Rattle.refusals.specs.Numbers.{code_of}
-use Rattle.host_runs.specs.Runs.{step_stored}
+use Rattle.lent.specs.Lent.{stored_if}
 use Rattle.host_weighted.proofs.forkhemit_step_weighted.Goals as goal
 
 pub returns : goal.returns
 returns c =
-    let words = c.args.run.now in
-    let gave = rw (c.load.ensures, c.dimensions-d.ensures) at c.step_weighted-stepped.ensures.value in record {
-      value = c.code.ensures ∙ ap (λ (x : Stepped). code_of x.outcome) gave;
-      run_after = c.store_if.ensures ∙ ap (λ (x : Stepped). step_stored x words) gave;
+    let gave = rw (c.load-next.ensures, c.dimensions-d.ensures) at c.step_weighted-outcome.ensures in record {
+      value = c.code.ensures ∙ ap code_of gave.value;
+      run_after = c.store_if.ensures ∙ (λ i. stored_if (gave.value i) (gave.run_after i) c.args.run.now);
     }

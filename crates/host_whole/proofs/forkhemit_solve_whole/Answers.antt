@@ -1,7 +1,9 @@
 -- `forkhemit_solve_whole` meets its contract: the run is that of the numbers as bytes, and what it gives is given on.
 use mathlib.Core.Path.{ap, ◌∙◌}
+use Rattle.std.specs.Prelude.{Result}
+use Rattle.refusals.specs.declared.Refusal.{Refusal}
+use Rattle.solver.specs.declared.Answer.{Answer}
 use Rattle.tables.specs.Tables.{all_tables}
-use Rattle.solver.specs.declared.Solved.{Solved}
 use Rattle.solver.specs.Entries.{solved_code, solved_numbers}
 use Rattle.lent.specs.Lent.{numbers_or}
 use Rattle.whole_budget.specs.WholeBudget.{solved_whole, gates_after_whole, bytes_after_whole, wires_after_whole}
@@ -18,5 +20,5 @@ returns c =
       gates_after = e.gates_after ∙ (λ i. gates_after_whole (d i) t a.budget a.gates.now a.bytes.now a.wires.now);
       bytes_after = e.bytes_after ∙ (λ i. bytes_after_whole (d i) t a.budget a.gates.now a.bytes.now a.wires.now);
       wires_after = e.wires_after ∙ (λ i. wires_after_whole (d i) t a.budget a.gates.now a.bytes.now a.wires.now);
-      answer_after = c.give.ensures.answer_after ∙ ap (λ (x : Solved). numbers_or (solved_numbers x) a.answer.now) gave;
+      answer_after = c.give.ensures.answer_after ∙ ap (λ (x : Result Answer Refusal). numbers_or (solved_numbers x) a.answer.now) gave;
     }

@@ -5,7 +5,7 @@ use Prim.Native.Nat.{◌^◌, ◌<◌}
 use native.Mathlib.Omega.{arith}
 use Rattle.refusals.specs.Checks.{outcome}
 use Rattle.words.specs.declared.Row.{Row}
-use Rattle.tables.specs.Tables.{Tables, all_tables}
+use Rattle.tables.specs.Tables.{Tables, words_in}
 use Rattle.indexed.specs.Entries.{indexed_checks}
 use Rattle.indexed.proofs.Made.{made-rows, made}
 use Rattle.indexed.proofs.Checks.{judged}
@@ -14,7 +14,7 @@ use Rattle.indexed.proofs.check_accepted.Goals.{Start}
 
 -- the tables at the start
 abbrev tables : Start → Tables
-tables s = all_tables s.args.left.now s.args.right.now s.args.public.now
+tables s = words_in s.args.tables
 
 t_low : (s : Start) → s.args.run.t < 2 ^ 32
 t_low s = omega arith

@@ -1,13 +1,13 @@
 -- `count_unsatisfied` meets its contract: the number of the tally is that of the rows.
 use native.Mathlib.Omega.{arith}
-use Rattle.tables.specs.Tables.{Tables, all_tables}
+use Rattle.tables.specs.Tables.{Tables, words_in}
 use Rattle.indexed.proofs.Made.{counted_is}
 use Rattle.indexed.proofs.count_unsatisfied.Goals as goal
 use Rattle.indexed.proofs.count_unsatisfied.Goals.{Start}
 
 -- the tables at the start
 abbrev tables : Start → Tables
-tables s = all_tables s.args.left.now s.args.right.now s.args.public.now
+tables s = words_in s.args.tables
 
 pub returns : goal.returns
 returns c =

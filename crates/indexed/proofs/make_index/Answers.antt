@@ -1,12 +1,12 @@
 -- `make_index` meets its contract: the gathered words of accepted tables hold exactly their rows.
-use Rattle.tables.specs.Tables.{Tables, all_tables}
+use Rattle.tables.specs.Tables.{Tables, words_in}
 use Rattle.indexed.proofs.Made.{gathered-made}
 use Rattle.indexed.proofs.make_index.Goals as goal
 use Rattle.indexed.proofs.make_index.Goals.{Start}
 
 -- the tables at the start
 abbrev tables : Start → Tables
-tables s = all_tables s.args.left.now s.args.right.now s.args.public.now
+tables s = words_in s.args.tables
 
 pub returns : goal.returns
 returns c =

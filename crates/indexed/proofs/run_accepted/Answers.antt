@@ -3,7 +3,7 @@ use mathlib.Core.Path.{ap₂, ◌∙◌}
 use mathlib.Core.List.{List}
 use Prim.Native.Nat.{ℕ}
 use Rattle.words.specs.declared.Row.{Row}
-use Rattle.tables.specs.Tables.{Tables, all_tables}
+use Rattle.tables.specs.Tables.{Tables, words_in}
 use Rattle.solver.specs.Step.{always}
 use Rattle.solver.specs.Entries.{run_from}
 use Rattle.state.specs.State.{state_of}
@@ -15,7 +15,7 @@ use Rattle.indexed.proofs.run_accepted.Goals.{Start}
 
 -- the tables at the start
 abbrev tables : Start → Tables
-tables s = all_tables s.args.left.now s.args.right.now s.args.public.now
+tables s = words_in s.args.tables
 
 pub run_to_close-requires : goal.run_to_close-requires
 run_to_close-requires c =

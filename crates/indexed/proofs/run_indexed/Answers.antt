@@ -1,5 +1,5 @@
 -- `run_indexed` meets its contract: count and verdict are those of the run that the fresh one's steps reach.
-use Rattle.tables.specs.Tables.{Tables, all_tables}
+use Rattle.tables.specs.Tables.{Tables, words_in}
 use Rattle.tables.proofs.Accepted.{accepted}
 use Rattle.indexed.proofs.Continuing.{fresh_ready, fresh-answer}
 use Rattle.indexed.proofs.run_indexed.Goals as goal
@@ -7,7 +7,7 @@ use Rattle.indexed.proofs.run_indexed.Goals.{Start}
 
 -- the tables at the start
 abbrev tables : Start → Tables
-tables s = all_tables s.args.left.now s.args.right.now s.args.public.now
+tables s = words_in s.args.tables
 
 pub run_accepted-reached-requires : goal.run_accepted-reached-requires
 run_accepted-reached-requires c =

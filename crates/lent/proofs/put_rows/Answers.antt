@@ -10,9 +10,9 @@ use Rattle.lent.proofs.put_rows.Goals as goal
 
 pub slice_bounds-put_words-end : goal.slice_bounds-put_words-end
 slice_bounds-put_words-end c =
-    omega (arith, c.least-end.ensures, length-take c.least-end.result c.args.words)
+    omega (arith, c.min-end.ensures, length-take c.min-end.result c.args.words)
 
 pub returns : goal.returns
 returns c =
-    let t = first-values c.args.words (2 * c.args.rows) c.least-end.result (omega (arith, c.least-end.ensures)) in
+    let t = first-values c.args.words (2 * c.args.rows) c.min-end.result (omega (arith, c.min-end.ensures)) in
     c.put_words.ensures ∙ ap (λ (v : List ℕ). front v c.args.lent.now) t

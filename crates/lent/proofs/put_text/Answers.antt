@@ -12,6 +12,6 @@ pub returns : goal.returns
 returns c =
     let a = c.args in
     let size : length a.text.bytes ≡ 256 = search rules in
-    let count : c.least-end.result ≡ min a.text.length (length a.text.bytes) = omega arith in
-    ap (λ (l : List ℕ). l ++ drop c.least-end.result a.lent.now) c.copy_from_slice.ensures.after
-    ∙ front_copied a.text.bytes a.text.length c.least-end.result count a.lent.now (omega arith)
+    let count : c.min-end.result ≡ min a.text.length (length a.text.bytes) = omega arith in
+    ap (λ (l : List ℕ). l ++ drop c.min-end.result a.lent.now) c.copy_from_slice.ensures.after
+    ∙ front_copied a.text.bytes a.text.length c.min-end.result count a.lent.now (omega arith)

@@ -17,5 +17,5 @@ returns-in_default-clause-bytes_after c =
 pub returns : goal.returns
 returns c =
     let put = text_put c.args.d c.args.gates.now c.requires.gates_value c.args.bytes.now (omega (arith, c.requires.gates_len_bound)) _ _ _
-    (sym c.write_lines.ensures.value ∙ c.in-Lines.is) c.write_lines.ensures.bytes_after in
+    (sym c.write_lines.ensures.value ∙ c.in-Ok.is) c.write_lines.ensures.bytes_after in
     record { value = put.0; bytes_after = put.1 }

@@ -1,30 +1,44 @@
 -- `read_number` meets its contract: the digits after the sign are held, and the sign is added.
-use mathlib.Core.Path.{sym, ap, ◌∙◌}
-use Rattle.numbers.specs.CappedNumbers.{number_held}
-use Rattle.numbers.proofs.Decimals.{number-empty, plain_value, plain-none, minus-none, minus-zero, minus-value}
+use mathlib.Core.Path.{◌≡◌, sym, ap, ◌∙◌}
+use mathlib.Core.Bool.{true}
+use mathlib.Core.List.{List}
+use Prim.Native.Nat.{ℕ}
+use lib.Dec.{eqb}
+use lib.ListN.{drop, get_or}
+use Rattle.std.specs.Prelude.{Option}
+use Rattle.numbers.specs.Numbers.{decimal_of}
+use Rattle.numbers.specs.CappedNumbers.{digits_held}
+use Rattle.numbers.proofs.Decimals.{has_minus, plain_value, plain-none, minus-none, minus-zero, minus-value}
 use Rattle.numbers.proofs.read_number.Goals as goal
+use Rattle.numbers.proofs.read_number.Goals.{In-Some}
 
-pub returns-then-word-eq0 : goal.returns-then-word-eq0
-returns-then-word-eq0 c = sym (ap number_held (number-empty _ c.if-word-eq0.true))
+pub returns-in_err-read_digits : goal.returns-in_err-read_digits
+returns-in_err-read_digits c =
+    c.from_residual.ensures
+    ∙ sym (plain-none c.args.word.now (sym (has_minus c.args.word.now) ∙ c.in_default.ensures.cases) (sym c.in_err-read_digits.ensures))
 
 pub returns-in_default : goal.returns-in_default
 returns-in_default c =
-    sym (plain-none _ c.if-word-eq0.false c.if-word-ne45.true (sym c.read_digits.ensures ∙ c.in_default.is))
+    sym (plain_value c.args.word.now (sym (has_minus c.args.word.now) ∙ c.in_default.ensures.cases) _ (sym c.in_ok-read_digits.ensures))
 
-pub returns-then-word-ne45 : goal.returns-then-word-ne45
-returns-then-word-ne45 c =
-    sym (plain_value _ c.if-word-eq0.false c.if-word-ne45.true _ (sym c.read_digits.ensures ∙ c.in-Value.is))
+-- a minus comes first, and what is read is the bytes after it
+minus : (c : In-Some) → eqb (get_or c.args.word.now 0 0) 45 ≡ true
+minus c = sym (has_minus c.args.word.now) ∙ c.in-Some.ensures.cases.0
 
-pub returns-in_default-read_digits : goal.returns-in_default-read_digits
-returns-in_default-read_digits c =
-    sym (minus-none _ c.if-word-eq0.false c.if-word-ne45.false (sym c.read_digits-2.ensures ∙ c.in_default-read_digits.is))
+behind : (c : In-Some) (d : Option ℕ) → d ≡ digits_held (decimal_of c.in-Some.digits.now) → digits_held (decimal_of (drop 1 c.args.word.now)) ≡ d
+behind c d e = ap (λ (w : List ℕ). digits_held (decimal_of w)) (sym c.in-Some.ensures.cases.1) ∙ sym e
+
+pub returns-in_err-v : goal.returns-in_err-v
+returns-in_err-v c =
+    let d = (goal.at.returns-in_err-v c).In-Some in
+    c.from_residual-in_err-v.ensures ∙ sym (minus-none c.args.word.now (minus d) (behind d _ c.in_err-v.ensures))
 
 pub returns-then-v-eq0 : goal.returns-then-v-eq0
 returns-then-v-eq0 c =
-    sym (minus-zero _ c.if-word-eq0.false c.if-word-ne45.false _ (sym c.read_digits-2.ensures ∙ c.in-Value-read_digits.is)
-    c.if-v-eq0.true)
+    let d = (goal.at.returns-then-v-eq0 c).In-Some in
+    sym (minus-zero c.args.word.now (minus d) _ (behind d _ c.in_ok-v.ensures) c.if-v-eq0.true)
 
 pub returns : goal.returns
 returns c =
-    sym (minus-value _ c.if-word-eq0.false c.if-word-ne45.false _ (sym c.read_digits-2.ensures ∙ c.in-Value-read_digits.is)
-    c.if-v-eq0.false)
+    let d = (goal.at.returns c).In-Some in
+    sym (minus-value c.args.word.now (minus d) _ (behind d _ c.in_ok-v.ensures) c.if-v-eq0.false)

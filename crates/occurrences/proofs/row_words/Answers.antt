@@ -1,12 +1,12 @@
 -- `row_words` meets its contract: stores one after the other are one run of stores.
-use Rattle.tables.specs.Tables.{Tables, all_tables}
+use Rattle.tables.specs.Tables.{Tables, words_in}
 use Rattle.occurrences.proofs.Storing.{gathered-is}
 use Rattle.occurrences.proofs.row_words.Goals as goal
 use Rattle.occurrences.proofs.row_words.Goals.{Start}
 
 -- the tables' words
 abbrev tables : Start → Tables
-tables s = all_tables s.args.left.now s.args.right.now s.args.public.now
+tables s = words_in s.args.tables
 
 pub returns : goal.returns
 returns c =

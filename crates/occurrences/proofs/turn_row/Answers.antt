@@ -29,9 +29,6 @@ offset_bounds-index-at c = record { fits = omega (arith, low c) }
 pub bounds-index-at : goal.bounds-index-at
 bounds-index-at c = omega (arith, low (goal.at.bounds-index-at c).In-loop-left)
 
-pub offset_bounds-index-at-in-loop-left : goal.offset_bounds-index-at-in-loop-left
-offset_bounds-index-at-in-loop-left c = record { fits = omega (arith, low (goal.at.offset_bounds-index-at-in-loop-left c).In-loop-left) }
-
 pub bounds-index-at-in-loop-left : goal.bounds-index-at-in-loop-left
 bounds-index-at-in-loop-left c = omega (arith, low (goal.at.bounds-index-at-in-loop-left c).In-loop-left)
 

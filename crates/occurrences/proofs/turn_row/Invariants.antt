@@ -1,5 +1,4 @@
 -- `turn_row` meets its contract. The loop's invariant: turning the literals left gives what turning all of them gives. The measure is their word.
-use Prim.Native.Nat.{◌-◌}
 use Rattle.occurrences.proofs.Turning.{Turning}
 use Rattle.occurrences.proofs.turn_row.Given as goal
 

@@ -1,5 +1,5 @@
 -- `marked` meets its contract. The loop's invariant: the word has the marks from v on.
-use mathlib.Core.Path.{◌≡◌, sym, ap, ◌∙◌}
+use mathlib.Core.Path.{sym, ap, ◌∙◌}
 use mathlib.Core.Bool.{Bool}
 use Prim.Native.Nat.{ℕ, ◌+◌, ◌-◌, ◌*◌}
 use native.Mathlib.Omega.{arith}
@@ -9,46 +9,18 @@ use Rattle.words.specs.Booleans.{digit}
 use Rattle.words.proofs.Truth.{digit_lt}
 use Rattle.words.proofs.WordOf.{word-start, word-turn, word_room, word_end}
 use Rattle.page.specs.Reading.{mark_place, marked}
-use Rattle.page.proofs.Marking.{bool_digit, place-small}
+use Rattle.page.proofs.Marking.{bool_digit}
 use Rattle.page.proofs.marked.Goals as goal
 
 pub loop-v-init : goal.loop-v-init
-loop-v-init c = (
-  omega arith,
-  word-start (λ j. eqb
-      (get_or c.args.page.now (mark_place c.args.watches (c.args.n + j)) 0) 35) c.args.n,
-)
-
-pub overflow_mul-at : goal.overflow_mul-at
-overflow_mul-at c = let p = place-small c.args.watches (c.loop-v.v - 1) (omega arith) c.requires.1 c.requires.2 in
-    let a = p.0 in
-    let b = p.1 in
-    omega arith
-
-pub overflow_mul-at-in-loop-v : goal.overflow_mul-at-in-loop-v
-overflow_mul-at-in-loop-v c = let p = place-small c.args.watches (c.loop-v.v - 1) (omega arith) c.requires.1 c.requires.2 in
-    let a = p.0 in
-    let b = p.1 in
-    omega arith
-
-pub overflow_add-at : goal.overflow_add-at
-overflow_add-at c = let p = place-small c.args.watches (c.loop-v.v - 1) (omega arith) c.requires.1 c.requires.2 in
-    let a = p.0 in
-    let b = p.1 in
-    omega arith
-
-pub overflow_add-at-in-loop-v : goal.overflow_add-at-in-loop-v
-overflow_add-at-in-loop-v c = let p = place-small c.args.watches (c.loop-v.v - 1) (omega arith) c.requires.1 c.requires.2 in
-    let a = p.0 in
-    let b = p.1 in
-    omega arith
+loop-v-init c = word-start (λ j. eqb (get_or c.args.page.now (mark_place c.args.watches (c.args.n + j)) 0) 35) c.args.n
 
 pub overflow_mul-word : goal.overflow_mul-word
 overflow_mul-word c = let l = c.loop-v in
     record {
       fits = omega (
         arith,
-        l.invariant.1,
+        l.invariant,
         word_room (λ j. eqb (get_or c.args.page.now (mark_place c.args.watches (l.v + j)) 0) 35)
             c.args.n l.v c.loop-v-test.true c.requires.0,
       );
@@ -59,7 +31,7 @@ overflow_add-word c = let l = c.loop-v in
     record {
       fits = omega (
         arith,
-        l.invariant.1,
+        l.invariant,
         bool_digit (eqb c.byte.result 35),
         digit_lt (eqb c.byte.result 35),
         word_room (λ j. eqb (get_or c.args.page.now (mark_place c.args.watches (l.v + j)) 0) 35) c.args.n l.v
@@ -68,16 +40,15 @@ overflow_add-word c = let l = c.loop-v in
     }
 
 pub loop-v-preserved : goal.loop-v-preserved
-loop-v-preserved c = let l = c.loop-v in
-    let p : ℕ → Bool = λ v. eqb (get_or c.args.page.now (mark_place c.args.watches v) 0) 35 in (
-      omega arith,
-      ap (λ (x : ℕ). x + 2 * l.word) (bool_digit (eqb c.byte.result 35) ∙ ap (λ (x : ℕ). digit (eqb x 35)) c.byte.ensures)
-          ∙ ap (λ (x : ℕ). digit (p (l.v - 1)) + 2 * x) l.invariant.1
-          ∙ sym (word-turn p c.args.n l.v c.loop-v-test.true l.invariant.0),
-    )
+loop-v-preserved c =
+    let l = c.loop-v in
+    let p : ℕ → Bool = λ v. eqb (get_or c.args.page.now (mark_place c.args.watches v) 0) 35 in
+    ap (λ (x : ℕ). x + 2 * l.word) (bool_digit (eqb c.byte.result 35) ∙ ap (λ (x : ℕ). digit (eqb x 35)) c.byte.ensures)
+    ∙ ap (λ (x : ℕ). digit (p (l.v - 1)) + 2 * x) l.invariant
+    ∙ sym (word-turn p c.args.n l.v c.loop-v-test.true l.auto.v)
 
 pub returns : goal.returns
 unfolding marked
-returns c = let l = c.loop-v in
-    let e : l.v ≡ 0 = omega arith in
-    l.invariant.1 ∙ word_end (λ v. eqb (get_or c.args.page.now (mark_place c.args.watches v) 0) 35) c.args.n l.v e
+returns c =
+    let l = c.loop-v in
+    l.invariant ∙ word_end (λ v. eqb (get_or c.args.page.now (mark_place c.args.watches v) 0) 35) c.args.n l.v (omega arith)

@@ -7,15 +7,15 @@ use Rattle.page.proofs.show.Goals as goal
 pub show_model-requires : goal.show_model-requires
 show_model-requires c =
     let a = c.args in
-    let w = model-taken a.run _ (sym c.in-Model.is
+    let w = model-taken a.run _ (sym c.in-Ok.is
     ∙ c.model.ensures.value) in
     let f = shown a.run w.0 in
     (f.least, f.most)
 
-pub returns-in-Model : goal.returns-in-Model
-returns-in-Model c =
+pub returns-in-Ok : goal.returns-in-Ok
+returns-in-Ok c =
     let a = c.args in
-    let w = model-taken a.run _ (sym c.in-Model.is
+    let w = model-taken a.run _ (sym c.in-Ok.is
     ∙ c.model.ensures.value) in
     let call = c.show_model in
     let e = c.show_model.ensures.value ∙ page_shaped a.run a.pilots a.watches a.page.now w.0 in
@@ -25,9 +25,9 @@ returns-in-Model c =
       result_value = (outcome-said e).1;
     }
 
-pub returns-in-Refused : goal.returns-in-Refused
-returns-in-Refused c =
+pub returns-in-Err : goal.returns-in-Err
+returns-in-Err c =
     let a = c.args in
     let e = page-refused a.run a.pilots a.watches a.page.now _
-    (model-refused a.run _ (sym c.in-Refused.is ∙ c.model.ensures.value)) in
+    (model-refused a.run _ (sym c.in-Err.is ∙ c.model.ensures.value)) in
     record { value = e; page_after = page-left a.run a.pilots a.watches a.page.now _ e a.run.t refl; result_value = (outcome-said e).1 }

@@ -1,5 +1,4 @@
 -- `follows` meets its contract: a variable in both signs is a bit that both words have.
-use borrow.Author.Rules.{rules}
 use native.Mathlib.Omega.{arith}
 use Rattle.scan.specs.Rules.{rows_of_words}
 use Rattle.propagation.proofs.BothSigns.{both_signs, one-sign_apart, one-sign}
@@ -12,7 +11,7 @@ returns-then-clause-ne0 c =
 pub reaches-requires : goal.reaches-requires
 reaches-requires c =
     let a = c.args in
-    record { count_in_bounds = search rules; apart = one-sign_apart (rows_of_words a.rows.now) a.clause (omega arith) c.if-clause-ne0.false }
+    one-sign_apart (rows_of_words a.rows.now) a.clause (omega arith) c.if-clause-ne0.false
 
 pub returns : goal.returns
 returns c =

@@ -1,54 +1,39 @@
--- `force_rows` meets its contract. The loop's invariant: what the rows left give is what all give.
-use Prim.Native.Nat.{◌-◌}
-use native.Mathlib.Omega.{arith}
+-- `force_rows` meets its contract: the pairs of words are the rows in their order, and each turn forces its row's literal.
+use Rattle.std.proofs.Common.{◌≡◌, ◌/◌, length, ap, ◌∙◌, arith}
+use Rattle.words.specs.declared.Row.{Row}
+use Rattle.tables.specs.Rows.{row_at}
+use Rattle.scan.proofs.Fronts.{row-of_pair}
+use Rattle.propagation.specs.Passes.{after_row}
 use Rattle.propagation.proofs.Passes.{left-start, left_conflict, left-more, left_end}
 use Rattle.propagation.proofs.force_rows.Goals as goal
+use Rattle.propagation.proofs.force_rows.Goals.{After-force_row-next}
 
-pub loop-i-init : goal.loop-i-init
-loop-i-init c = let a = c.args in left-start a.words.now a.count a.t a.f
+-- the row that a turn reads
+forced : (c : After-force_row-next) → let l = c.loop-positive in c.force_row-next.result ≡ after_row (row_at c.args.rows.now l.positive-index) l.t l.f
+forced c =
+    let l = c.loop-positive in
+    c.force_row-next.ensures ∙ ap (λ (r : Row). after_row r l.t l.f)
+    (rw c.as_chunks.ensures.front (row-of_pair c.args.rows.now (length c.args.rows.now / 2) l.positive-index (omega arith)))
 
-pub overflow_mul-positive : goal.overflow_mul-positive
-overflow_mul-positive c = omega arith
-
-pub offset_bounds-words-i : goal.offset_bounds-words-i
-offset_bounds-words-i c = omega arith
-
-pub bounds-words-i : goal.bounds-words-i
-bounds-words-i c = omega arith
-
-pub overflow_mul-negative : goal.overflow_mul-negative
-overflow_mul-negative c = omega arith
-
-pub overflow_add-negative : goal.overflow_add-negative
-overflow_add-negative c = omega arith
-
-pub offset_bounds-words-i-in-loop-i : goal.offset_bounds-words-i-in-loop-i
-offset_bounds-words-i-in-loop-i c = omega arith
-
-pub bounds-words-i-in-loop-i : goal.bounds-words-i-in-loop-i
-bounds-words-i-in-loop-i c = omega arith
+pub loop-positive-init : goal.loop-positive-init
+loop-positive-init c = let a = c.args in left-start a.rows.now _ a.t a.f
 
 pub returns-then-next : goal.returns-then-next
 returns-then-next c =
-    let r = c.force_row-next in
+    let l = c.loop-positive in
     let a = c.args in
-    left_conflict a.words.now a.count a.t a.f c.loop-i.i c.loop-i.held c.loop-i.denied c.loop-i.invariant (omega arith)
-    r.result c.force_row-next.ensures c.if-next.true
+    left_conflict a.rows.now _ a.t a.f l.positive-index l.t l.f l.invariant (omega arith)
+    c.force_row-next.result (forced (goal.at.returns-then-next c).After-force_row-next) c.if-next.true
 
-pub overflow_add-i : goal.overflow_add-i
-overflow_add-i c = omega arith
-
-pub loop-i-smaller : goal.loop-i-smaller
-loop-i-smaller c = omega arith
-
-pub loop-i-preserved : goal.loop-i-preserved
-loop-i-preserved c =
-    let r = c.force_row-next in
+pub loop-positive-preserved : goal.loop-positive-preserved
+loop-positive-preserved c =
+    let l = c.loop-positive in
     let a = c.args in
-    left-more a.words.now a.count a.t a.f c.loop-i.i c.loop-i.held c.loop-i.denied c.loop-i.invariant (omega arith)
-    r.result c.force_row-next.ensures c.if-next.false
+    left-more a.rows.now _ a.t a.f l.positive-index l.t l.f l.invariant (omega arith)
+    c.force_row-next.result (forced (goal.at.loop-positive-preserved c).After-force_row-next) c.if-next.false
 
 pub returns : goal.returns
 returns c =
+    let l = c.loop-positive in
     let a = c.args in
-    left_end a.words.now a.count a.t a.f c.loop-i.i c.loop-i.held c.loop-i.denied c.loop-i.invariant (omega arith)
+    left_end a.rows.now _ a.t a.f l.positive-index l.t l.f l.invariant (omega arith)

@@ -26,21 +26,17 @@ none_left listed turns zero h = refl
 none_left listed turns (suc i) h = absurd (omega arith)
 
 pub loop-i-init : goal.loop-i-init
-loop-i-init c = (omega arith, refl)
+loop-i-init c = refl
 
 pub loop-i-preserved-then-not-bit : goal.loop-i-preserved-then-not-bit
-loop-i-preserved-then-not-bit c = (
-  omega arith,
-  sym (one-put _ c.loop-i.turns c.loop-i.i c.loop-i-test.true
-      (sym c.bit.ensures ∙ c.if-not-bit.true)) ∙ c.loop-i.invariant.1,
-)
+loop-i-preserved-then-not-bit c =
+    sym (one-put _ c.loop-i.turns c.loop-i.i c.loop-i-test.true
+    (sym c.bit.ensures ∙ c.if-not-bit.true)) ∙ c.loop-i.invariant
 
 pub loop-i-preserved : goal.loop-i-preserved
-loop-i-preserved c = (
-  omega arith,
-  sym (one-passed _ c.loop-i.turns c.loop-i.i c.loop-i-test.true
-      (sym c.bit.ensures ∙ c.if-not-bit.false)) ∙ c.loop-i.invariant.1,
-)
+loop-i-preserved c =
+    sym (one-passed _ c.loop-i.turns c.loop-i.i c.loop-i-test.true
+    (sym c.bit.ensures ∙ c.if-not-bit.false)) ∙ c.loop-i.invariant
 
 pub returns : goal.returns
-returns c = sym (none_left _ c.loop-i.turns c.loop-i.i c.loop-i-test.false) ∙ c.loop-i.invariant.1
+returns c = sym (none_left _ c.loop-i.turns c.loop-i.i c.loop-i-test.false) ∙ c.loop-i.invariant

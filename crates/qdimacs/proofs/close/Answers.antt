@@ -43,4 +43,4 @@ returns c =
     let ps = parts_from is_blank a.line.now a.at in
     closed a.p a.some ps true
     (last a.some ps c.if-not-some.false
-    (missing is_blank _ _ (sym c.next_part.ensures ∙ c.in-Nothing.is)))
+    (missing is_blank _ _ (sym c.next_part.ensures ∙ c.in-None.is)))

@@ -43,4 +43,4 @@ returns-in_default c =
 pub returns : goal.returns
 returns c =
     let a = c.args in
-    blank_passed a.n a.before a.line.now (missing is_separator _ _ (sym c.next_part.ensures ∙ c.in-Nothing.is))
+    blank_passed a.n a.before a.line.now (missing is_separator _ _ (sym c.next_part.ensures ∙ c.in-None.is))

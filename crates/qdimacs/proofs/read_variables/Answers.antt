@@ -5,11 +5,11 @@ use Rattle.lexer.specs.Bytes.{is_blank}
 use Rattle.lexer.proofs.Cuts.{Found, found, missing}
 use Rattle.qdimacs.proofs.OneLine.{no_letter, long_letter, own_letter}
 use Rattle.qdimacs.proofs.read_variables.Goals as goal
-use Rattle.qdimacs.proofs.read_variables.Goals.{In-At}
+use Rattle.qdimacs.proofs.read_variables.Goals.{In-Some}
 
 -- the first part
-first : (c : In-At) → Found is_blank c.args.line.now 0 c.in-At.letter c.in-At.end
-first c = found is_blank _ _ _ _ (sym c.next_part.ensures ∙ c.in-At.is)
+first : (c : In-Some) → Found is_blank c.args.line.now 0 c.in-Some.letter c.in-Some.end
+first c = found is_blank _ _ _ _ (sym c.next_part.ensures ∙ c.in-Some.is)
 
 pub returns-in_default : goal.returns-in_default
 returns-in_default c =
@@ -22,9 +22,9 @@ overflow_sub-end c = omega (arith, (first c).filled)
 pub returns-then-end-letter-ne1 : goal.returns-then-end-letter-ne1
 returns-then-end-letter-ne1 c =
     let a = c.args in
-    long_letter a.n a.before a.universal a.line.now _ _ (first (goal.at.returns-then-end-letter-ne1 c).In-At) c.if-end-letter-ne1.true
+    long_letter a.n a.before a.universal a.line.now _ _ (first (goal.at.returns-then-end-letter-ne1 c).In-Some) c.if-end-letter-ne1.true
 
 pub returns : goal.returns
 returns c =
     let a = c.args in
-    c.read_numbers.ensures ∙ sym (own_letter a.n a.before a.universal a.line.now _ _ (first (goal.at.returns c).In-At) c.if-end-letter-ne1.false)
+    c.read_numbers.ensures ∙ sym (own_letter a.n a.before a.universal a.line.now _ _ (first (goal.at.returns c).In-Some) c.if-end-letter-ne1.false)

@@ -5,7 +5,7 @@ use Prim.Native.Nat.{ℕ, ◌+◌}
 use native.Mathlib.Omega.{arith}
 use lib.Dec.{ltb}
 use lib.ListN.{length}
-use Rattle.refusals.specs.declared.Outcome.TheVariants.{Taken, Refused}
+use Rattle.std.specs.Prelude.{Ok, Err}
 use Rattle.refusals.specs.declared.Refusal.TheVariants.{Wires}
 use Rattle.refusals.proofs.Outcomes.{outcome-said}
 use Rattle.sections.specs.declared.Addresses.{Addresses}
@@ -27,12 +27,12 @@ overflow_cast-a c = omega arith
 
 pub returns-then-bytes-input_wires : goal.returns-then-bytes-input_wires
 returns-then-bytes-input_wires c =
-    let proved = outcome-said (sym (ap (λ (b : Bool). cond b (Refused Wires) Taken)
+    let proved = outcome-said (sym (ap (λ (b : Bool). cond b (Err Wires) (Ok tt))
     (sym (second (goal.at.returns-then-bytes-input_wires c).After-input_wires) ∙ c.if-bytes-input_wires.true))) in
     record { value = proved.0; result_value = proved.1 }
 
 pub returns : goal.returns
 returns c =
-    let proved = outcome-said (sym (ap (λ (b : Bool). cond b (Refused Wires) Taken)
+    let proved = outcome-said (sym (ap (λ (b : Bool). cond b (Err Wires) (Ok tt))
     (sym (second (goal.at.returns c).After-input_wires) ∙ c.if-bytes-input_wires.false))) in
     record { value = proved.0; result_value = proved.1 }

@@ -10,16 +10,17 @@ use Rattle.scan.proofs.find_rule.Goals.{After-survey_rows-found}
 
 -- after all tables
 surveyed : (c : After-survey_rows-found) → let a = c.args in
-    rule_after c.survey_rows-found.result [] a.t a.f ≡ rule 32 (rows_of_words a.left.now ++ (rows_of_words a.right.now ++ rows_of_words a.public.now)) a.t a.f
+    rule_after c.survey_rows-found.result [] a.t a.f
+    ≡ rule 32 (rows_of_words a.tables.left.now ++ (rows_of_words a.tables.right.now ++ rows_of_words a.tables.public.now)) a.t a.f
 surveyed c =
     let a = c.args in
     let first = c.survey_rows-first in
     let second = c.survey_rows-second in
     let found = c.survey_rows-found in
-    let rest = rows_of_words a.right.now ++ rows_of_words a.public.now in
-    rule_of_all a.t a.f (rows_of_words a.left.now ++ rest) found.result
-    (adds_more a.t a.f (rows_of_words a.left.now) rest none first.result found.result first.ensures
-    (adds_more a.t a.f (rows_of_words a.right.now) (rows_of_words a.public.now) first.result second.result found.result
+    let rest = rows_of_words a.tables.right.now ++ rows_of_words a.tables.public.now in
+    rule_of_all a.t a.f (rows_of_words a.tables.left.now ++ rest) found.result
+    (adds_more a.t a.f (rows_of_words a.tables.left.now) rest none first.result found.result first.ensures
+    (adds_more a.t a.f (rows_of_words a.tables.right.now) (rows_of_words a.tables.public.now) first.result second.result found.result
     second.ensures found.ensures))
 
 pub returns-then-conflict : goal.returns-then-conflict

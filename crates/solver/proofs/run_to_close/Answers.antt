@@ -1,9 +1,8 @@
 -- `run_to_close` meets its contract. The loop's invariant: what is left of the budget from the present run gives what the whole gives from the fresh one. The
 -- measure is what is left of the budget.
 use mathlib.Core.Path.{sym, ◌∙◌}
-use Prim.Native.Nat.{◌-◌}
 use native.Mathlib.Omega.{arith}
-use Rattle.tables.specs.Tables.{Tables, all_tables}
+use Rattle.tables.specs.Tables.{Tables, words_in}
 use Rattle.tables.proofs.Accepted.{accepted}
 use Rattle.solver.proofs.BudgetedRun.{running_fresh, running_less, running_on, running_end}
 use Rattle.solver.proofs.run_to_close.Goals as goal
@@ -11,7 +10,7 @@ use Rattle.solver.proofs.run_to_close.Goals.{Start}
 
 -- the tables at the start
 abbrev tables : Start → Tables
-tables s = all_tables s.args.left.now s.args.right.now s.args.public.now
+tables s = words_in s.args.tables
 
 pub loop-d-init : goal.loop-d-init
 loop-d-init c =

@@ -2,7 +2,7 @@
 use mathlib.Core.Path.{◌≡◌, refl, ap₂, subst, ◌∙◌}
 use mathlib.Core.Bool.{true, false}
 use mathlib.Core.List.{List}
-use Prim.Native.Nat.{ℕ, ◌+◌, ◌-◌, ◌*◌, ◌/◌, ◌%◌, ◌<◌}
+use Prim.Native.Nat.{ℕ, ◌+◌, ◌*◌, ◌/◌, ◌%◌, ◌<◌}
 use native.Mathlib.Omega.{arith}
 use lib.Dec.{eqb}
 use lib.ListN.{get_or, set}
@@ -37,22 +37,14 @@ module _ (words : List ℕ) (d j : ℕ) where
       subst (λ (x : ℕ). Filled (mixed_word words d) 32 x (set (set next (2 * j) u) (2 * j + 1) v)) e twice
 
 pub loop-j-init : goal.loop-j-init
-loop-j-init c = (omega arith, filled-start _ 32 _ refl)
-
-pub low-requires : goal.low-requires
-low-requires c = c.requires
-
-pub high-requires : goal.high-requires
-high-requires c = c.requires
+loop-j-init c = filled-start _ 32 _ refl
 
 pub loop-j-preserved : goal.loop-j-preserved
 loop-j-preserved c =
     let a = c.args in
-    let l = c.loop-j in (
-      omega arith,
-      both-filled a.words a.d l.j l.next l.invariant.1 (omega arith) c.word-a.result c.word-b.result
-          c.low.result c.high.result c.word-a.ensures c.word-b.ensures c.low.ensures c.high.ensures,
-    )
+    let l = c.loop-j in
+    both-filled a.words a.d l.j l.next l.invariant (omega arith) c.word-a.result c.word-b.result
+    c.low.result c.high.result c.word-a.ensures c.word-b.ensures c.low.ensures c.high.ensures
 
 pub returns : goal.returns
-returns c = let l = c.loop-j in filled_end _ 32 (2 * l.j) l.next l.invariant.1 (omega arith)
+returns c = let l = c.loop-j in filled_end _ 32 (2 * l.j) l.next l.invariant (omega arith)

@@ -1,12 +1,11 @@
--- `chain` meets its contract. The loop's invariant: the first i levels before the present T and F decide what the whole decides. The measure is i.
-use mathlib.Core.Path.{◌≡◌}
-use Prim.Native.Nat.{◌≤◌}
+-- `chain` meets its contract. The loop's invariant: the levels that the iterator still has, before the present T and F, decide what the whole decides.
+use Rattle.std.proofs.Common.{◌≡◌, reverse}
+use Rattle.std.specs.Slice.Iter.{iter_rest}
+use Rattle.std.specs.Iterator.Adapters.{rev_source}
 use Rattle.state.specs.State.{levels_of}
 use Rattle.state.specs.WellFormed.{chain}
 use Rattle.state.proofs.chain.Given as goal
 
-abbrev pub invariant-loop-i : goal.invariant-loop-i
-invariant-loop-i l = (l.i ≤ l.depth) × (chain l.n l.t l.f (levels_of l.i l.levels) ≡ chain l.n l.t-2 l.f-2 (levels_of l.depth l.levels))
-
-abbrev pub decreases-loop-i : goal.decreases-loop-i
-decreases-loop-i l = l.i
+abbrev pub invariant-loop-level : goal.invariant-loop-level
+invariant-loop-level l =
+    chain l.n l.t l.f (reverse (iter_rest (rev_source l.level-iterator))) ≡ chain l.n l.fn.t l.fn.f (levels_of l.fn.depth l.fn.levels)

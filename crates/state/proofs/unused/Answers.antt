@@ -1,17 +1,15 @@
--- `unused` meets its contract. The loop's invariant: the levels from i on decide what the whole decides. The measure is what is left of the 32 levels.
-use mathlib.Core.Path.{◌∙◌}
-use Prim.Native.Nat.{◌-◌}
-use native.Mathlib.Omega.{arith}
-use Rattle.state.proofs.StateTests.{unused-none, unused-stop, unused_on}
+-- `unused` meets its contract: the chain's test of each level's three words is the definition's.
+use Rattle.std.proofs.Common.{◌∙◌, rules, bit_or, nat_eq}
+use Rattle.std.proofs.lemmas.Iterator.{YieldsList-from_slice}
+use Rattle.std.proofs.lemmas.Iterator.Adapters.{YieldsList-from_skip}
+use Rattle.std.proofs.lemmas.Iterator.Search.{all_from_yields_List}
+use borrow.Author.Tests.{tests}
+use Rattle.state.specs.declared.Level.{Level}
+use Rattle.state.proofs.StateTests.{unused-all}
 use Rattle.state.proofs.unused.Goals as goal
 
-pub returns-then-level-ne0 : goal.returns-then-level-ne0
-returns-then-level-ne0 c =
-    unused-stop _ c.loop-i.i (omega arith) c.if-level-ne0.true ∙ c.loop-i.invariant
-
-pub loop-i-preserved : goal.loop-i-preserved
-loop-i-preserved c =
-    unused_on _ c.loop-i.i (omega arith) c.if-level-ne0.false ∙ c.loop-i.invariant
-
 pub returns : goal.returns
-returns c = unused-none _ c.loop-i.i (omega arith) ∙ c.loop-i.invariant
+returns c =
+    all_from_yields_List (λ (l : Level). nat_eq (bit_or (bit_or l.t l.f) l.chosen) 0) _ _ c.all.result c.all.ensures.ran
+    (YieldsList-from_skip c.args.depth (YieldsList-from_slice c.args.levels cc) cc) (λ x b q k. search (rules, tests))
+    ∙ unused-all _

@@ -8,5 +8,5 @@ use Rattle.stored.proofs.words.Goals as goal
 pub returns : goal.returns
 returns c =
     let levels : length c.args.run.levels ≡ 32 = search rules in
-    stored-all c.args.run (replicate 101 0) levels refl _ _ _ c.number.ensures
+    stored-all c.args.run (replicate 101 0) levels refl _ _ _ c.from.ensures
     c.depth_word.ensures c.put_levels.ensures

@@ -1,24 +1,13 @@
--- `all_below` meets its contract. The loop's invariant: the words that are left answer for all. The measure is how many those are.
-use mathlib.Core.Path.{refl, sym, ◌∙◌}
-use Prim.Native.Nat.{◌-◌}
-use borrow.Author.Rules.{rules}
-use Rattle.tables.proofs.Below.{below_fails, below-goes, below-ends}
+-- `all_below` meets its contract: the chain tests each word as the definition does.
+use Rattle.std.proofs.Common.{◌∙◌, ◌^◌, rules, nat_lt}
+use Rattle.std.proofs.lemmas.Iterator.{YieldsList-from_slice}
+use Rattle.std.proofs.lemmas.Iterator.Search.{all_from_yields_List}
+use borrow.Author.Tests.{tests}
+use Rattle.tables.proofs.Below.{below-all}
 use Rattle.tables.proofs.all_below.Goals as goal
 
-pub loop-i-init : goal.loop-i-init
-loop-i-init c = (search rules, refl)
-
-pub returns-then-not-below : goal.returns-then-not-below
-returns-then-not-below c =
-    sym (sym c.loop-i.invariant.1
-    ∙ below_fails _ _ _ c.loop-i-test.true (sym c.below.ensures ∙ c.if-not-below.true))
-
-pub loop-i-preserved : goal.loop-i-preserved
-loop-i-preserved c = (
-  search rules,
-  sym (below-goes _ _ _ c.loop-i-test.true (sym c.below.ensures ∙ c.if-not-below.false))
-      ∙ c.loop-i.invariant.1,
-)
-
 pub returns : goal.returns
-returns c = sym (sym c.loop-i.invariant.1 ∙ below-ends _ _ _ c.loop-i.invariant.0 c.loop-i-test.false)
+returns c =
+    all_from_yields_List (λ w. nat_lt w (2 ^ c.args.n)) _ _ c.all.result c.all.ensures.ran (YieldsList-from_slice c.args.words.now cc)
+    (λ x b q k. search (rules, tests))
+    ∙ below-all _ _

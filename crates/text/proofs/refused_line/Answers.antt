@@ -11,5 +11,5 @@ returns c =
     refused_composed c.args.given c.empty.result c.append.result
     c.decimal.result c.append-2.result
     c.empty.ensures c.append.ensures
-    (c.decimal.ensures ∙ ap (λ (x : ℕ). appended c.append.result (decimal x)) c.number.ensures)
+    (c.decimal.ensures ∙ ap (λ (x : ℕ). appended c.append.result (decimal x)) c.from.ensures)
     c.append-2.ensures

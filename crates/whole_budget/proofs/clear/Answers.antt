@@ -1,22 +1,16 @@
--- `clear` meets its contract. The loop's invariant: the bytes are zeros up to the place that is next, and from there on what they were.
-use native.Mathlib.Omega.{arith}
-use Rattle.whole_budget.proofs.Clearing.{clearing_start, clearing_on, clearing_end}
+-- `clear` meets its contract: `fill` writes as many zeros as there are bytes in the part.
+use mathlib.Core.Path.{◌≡◌, sym, ap, ◌∙◌}
+use mathlib.Core.List.{List, ◌++◌}
+use Prim.Native.Nat.{ℕ}
+use lib.ListN.{drop, replicate}
+use lib.Seq.{length-take-le}
+use Rattle.whole_budget.proofs.Clearing.{cleared-is}
 use Rattle.whole_budget.proofs.clear.Goals as goal
 
-pub loop-i-init : goal.loop-i-init
-loop-i-init c = clearing_start _ _
-
-pub bounds-bytes-i : goal.bounds-bytes-i
-bounds-bytes-i c = omega (arith, c.loop-i.invariant.long, c.loop-i-test.true, c.requires)
-
-pub overflow_add-i : goal.overflow_add-i
-overflow_add-i c = omega (arith, c.loop-i-test.true)
-
-pub loop-i-smaller : goal.loop-i-smaller
-loop-i-smaller c = omega (arith, c.loop-i-test.true)
-
-pub loop-i-preserved : goal.loop-i-preserved
-loop-i-preserved c = clearing_on _ _ c.requires _ _ c.loop-i.invariant c.loop-i-test.true
-
 pub returns : goal.returns
-returns c = clearing_end _ _ _ _ c.loop-i.invariant c.loop-i-test.false
+returns c =
+    let k = c.args.count in
+    let zeros : c.fill.new.self ≡ replicate k 0 =
+    c.fill.ensures.after (λ y e. e) ∙ ap (λ (n : ℕ). replicate n 0) (length-take-le k c.args.bytes.now c.requires) in
+    ap (λ (l : List ℕ). l ++ drop k c.args.bytes.now) zeros
+    ∙ sym (cleared-is k c.args.bytes.now)

@@ -13,7 +13,9 @@ returns c =
     let second = c.search-found in
     let first = c.search-in_left in
     let a = c.args in
-    three-tables (shows 32 a.t a.f a.rule) (rows_of_words a.left.now) (rows_of_words a.right.now) (rows_of_words a.public.now) _ _ first.result
+    three-tables (shows 32 a.t a.f a.rule) (rows_of_words a.tables.left.now) (rows_of_words a.tables.right.now) (rows_of_words a.tables.public.now) _ _
+    first.result
     second.result c.search.result
-    (omega (arith, table-length a.left.now 0 (length a.left.now / 2))) (omega (arith, table-length a.right.now 0 (length a.right.now / 2)))
+    (omega (arith, table-length a.tables.left.now 0 (length a.tables.left.now / 2)))
+    (omega (arith, table-length a.tables.right.now 0 (length a.tables.right.now / 2)))
     c.search-in_left.ensures c.search-found.ensures c.search.ensures

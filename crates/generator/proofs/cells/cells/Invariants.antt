@@ -1,7 +1,6 @@
 -- `cells` meets its contract: each turn places one more cell after those before.
 use mathlib.Core.Path.{◌≡◌}
-use Prim.Native.Nat.{◌+◌, ◌*◌, ◌-◌, ◌≤◌}
-use lib.ListN.{length}
+use Prim.Native.Nat.{◌*◌, ◌-◌}
 use lib.Seq.{sets}
 use Rattle.gates.specs.Memory.{words_of}
 use Rattle.netlist.specs.Arrays.{cells}
@@ -10,8 +9,4 @@ use Rattle.generator.proofs.cells.cells.Given as goal
 
 abbrev pub invariant-loop-i : goal.invariant-loop-i
 invariant-loop-i l =
-    (l.i ≤ l.n) × (l.at ≡ l.base + length l.template * l.i)
-    × (l.words ≡ sets l.initial.words (3 * (l.base - l.inputs)) (words_of (cells (gates_in l.template) l.slots l.steps l.base l.i)))
-
-abbrev pub decreases-loop-i : goal.decreases-loop-i
-decreases-loop-i l = l.n - l.i
+    l.words ≡ sets l.initial.words (3 * (l.base - l.inputs)) (words_of (cells (gates_in l.template) l.slots l.steps l.base l.i))

@@ -1,11 +1,7 @@
 -- `place` meets its contract: each turn stores a gate's three words, and what is left of the template gives the rest.
 use Prim.Native.Nat.{◌*◌, ◌-◌}
-use lib.ListN.{length}
 use Rattle.generator.proofs.Placing.{Placing}
 use Rattle.generator.proofs.cells.place.Given as goal
 
 abbrev pub invariant-loop-i : goal.invariant-loop-i
-invariant-loop-i l = Placing l.initial.words l.template l.slots l.base (3 * (l.base - l.inputs)) l.words l.p l.i
-
-abbrev pub decreases-loop-i : goal.decreases-loop-i
-decreases-loop-i l = length l.template - l.i
+invariant-loop-i l = Placing l.initial.words l.template l.slots l.base (3 * (l.base - l.inputs)) l.words l.i

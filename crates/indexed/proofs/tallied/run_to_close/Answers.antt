@@ -1,7 +1,6 @@
 -- `run_to_close` meets its contract. The loop's invariant is that of the plain run, and that the tally is exact; the measure is how many steps are left.
 use mathlib.Core.Path.{◌≡◌, sym, ◌∙◌}
 use lib.ListN.{length}
-use Prim.Native.Nat.{◌-◌}
 use native.Mathlib.Omega.{arith}
 use Rattle.solver.proofs.BudgetedRun.{running_less}
 use Rattle.indexed.proofs.TallyAfter.{survey_exact}

@@ -1,32 +1,21 @@
--- `trim` meets its contract: what comes before `end`, trimmed, is the text trimmed.
-use mathlib.Core.Path.{◌≡◌, sym, ap, ◌∙◌}
-use Prim.Native.Nat.{ℕ}
-use native.Mathlib.Omega.{arith}
-use lib.ListN.{length, take}
-use lib.Seq.{take-length}
-use Rattle.lexer.specs.Bytes.{run, trimmed}
+-- `trim` meets its contract: the bytes that it counts from the back are the run in front of the text turned round.
+use Rattle.std.proofs.Common.{rules, tests, ◌-◌, ◌∙◌, ap, length, ℕ}
+use Rattle.std.specs.Prelude.{reverse}
+use Rattle.std.proofs.lemmas.Iterator.Adapters.{YieldsList-from_rev_slice}
+use Rattle.std.proofs.lemmas.Iterator.Consumers.{count_from_yields_List}
+use Rattle.std.proofs.lemmas.Iterator.Search.{YieldsList-from_take_while}
+use lib.ListN.{length-drop, length-reverse}
+use Rattle.lexer.specs.Bytes.{trimmed}
 use Rattle.lexer.specs.Kinds.{passes}
-use Rattle.lexer.proofs.Trims.{trim_less, trim_stop}
+use Rattle.lexer.proofs.Runs.{run_is}
 use Rattle.lexer.proofs.kinds.trim.Goals as goal
 
-pub loop-end-init : goal.loop-end-init
-loop-end-init c = (omega arith, ap (trimmed (passes c.args.kind)) (take-length c.args.text.now))
-
-pub returns-then-not-is_kind : goal.returns-then-not-is_kind
-returns-then-not-is_kind c =
-    trim_stop _ _ _ c.loop-end-test.true c.loop-end.invariant.0 (sym c.is_kind.ensures ∙ c.if-not-is_kind.true)
-    ∙ ap length c.loop-end.invariant.1
-
-pub loop-end-preserved : goal.loop-end-preserved
-loop-end-preserved c = (
-  omega arith,
-  sym (trim_less _ _ _ c.loop-end-test.true c.loop-end.invariant.0 (sym c.is_kind.ensures ∙ c.if-not-is_kind.false))
-      ∙ c.loop-end.invariant.1,
-)
-
 pub returns : goal.returns
-unfolding trimmed run
+unfolding trimmed
 returns c =
-    let z : c.loop-end.end ≡ 0 = omega arith in
-    z ∙ sym (ap (λ (i : ℕ). length (trimmed (passes c.args.kind) (take i c.args.text.now))) z)
-    ∙ ap length c.loop-end.invariant.1
+    let p = passes c.args.kind in
+    let text = c.args.text.now in
+    let counted = count_from_yields_List c.take_while.result _ c.count.ensures.ran
+    (YieldsList-from_take_while _ p (YieldsList-from_rev_slice text (cc)) c.take_while.ensures.closure c.take_while.ensures.done
+    (λ x b q k. search (rules, tests))) in
+    simp (length-reverse, length-drop) (ap (λ (x : ℕ). length text - x) (counted ∙ run_is p (reverse text)))

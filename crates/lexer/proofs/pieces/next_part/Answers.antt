@@ -1,10 +1,7 @@
--- `next_part` meets its contract: the piece lies between the two places that `skip` and `find` give.
-use mathlib.Core.Path.{sym}
-use Rattle.lexer.proofs.Cuts.{first-at, first-none}
+-- `next_part` meets its contract: the first piece starts at the place that `skip` gives.
+use Rattle.std.proofs.Common.{◌∙◌}
+use Rattle.lexer.proofs.Cuts.{first_piece, part_starts}
 use Rattle.lexer.proofs.pieces.next_part.Goals as goal
 
-pub returns-then-text-from : goal.returns-then-text-from
-returns-then-text-from c = sym (first-none _ _ _ (rw c.skip-from.ensures at c.if-text-from.true))
-
 pub returns : goal.returns
-returns c = sym (first-at _ _ _ _ _ c.skip-from.ensures c.find.ensures c.if-text-from.false)
+returns c = c.piece_at.ensures ∙ rw c.skip.ensures (first_piece _ _ _ _ _ (part_starts _ _ _))

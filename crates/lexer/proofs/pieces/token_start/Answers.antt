@@ -1,6 +1,6 @@
 -- `token_start` meets its contract: the first token from `i` on is the first from `at` on.
 use mathlib.Core.Path.{refl, sym, ap, ◌∙◌}
-use Prim.Native.Nat.{◌-◌, ◌≤◌}
+use Prim.Native.Nat.{◌≤◌}
 use native.Mathlib.Omega.{arith}
 use Rattle.lexer.specs.Blanks.{token_start}
 use Rattle.lexer.proofs.Runs.{end_ge}

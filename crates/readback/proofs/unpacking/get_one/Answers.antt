@@ -1,33 +1,15 @@
--- `get_one` meets its contract. The loop's invariant: no wire below `i` is set. The measure is how many wires are left.
-use mathlib.Core.Path.{sym}
-use Prim.Native.Nat.{◌+◌}
-use native.Mathlib.Omega.{arith}
-use borrow.Author.Count.{below_none, below_more}
-use borrow.Author.Tests.{eq-eqb, ne_eqb}
-use Rattle.words.proofs.Upto.{lowest-none}
-use Rattle.readback.specs.Unpacking.{wire_in}
-use Rattle.readback.proofs.Words.{lowest-at}
+-- `get_one` meets its contract: the first byte of the part that is 1 is the lowest wire that is set.
 use borrow.Author.Rules.{rules}
+use borrow.Author.Tests.{tests}
+use mathlib.Core.Path.{◌≡◌, ◌∙◌}
+use mathlib.Core.Logic.{◌≢◌}
+use Rattle.std.proofs.lemmas.Iterator.{YieldsList-from_slice, IsFirst-from_position}
+use Rattle.readback.proofs.Words.{lowest-found}
 use Rattle.readback.proofs.unpacking.get_one.Goals as goal
 
-pub loop-i-init : goal.loop-i-init
-loop-i-init c = (search rules, below_none _)
-
-pub returns-then-bytes-at-eq1 : goal.returns-then-bytes-at-eq1
-returns-then-bytes-at-eq1 c =
-    record {
-      value = sym (lowest-at (λ i. wire_in c.args.bytes.now (c.args.at + i)) c.args.n c.loop-i.i c.loop-i-test.true
-          (eq-eqb _ _ c.if-bytes-at-eq1.true) c.loop-i.invariant.1);
-      upper_bound = omega arith;
-    }
-
-pub loop-i-preserved : goal.loop-i-preserved
-loop-i-preserved c = (search rules, below_more _ _ c.loop-i.invariant.1 (ne_eqb _ _ c.if-bytes-at-eq1.false))
-
-pub returns : goal.returns
-returns c =
-    record {
-      value = sym (lowest-none (λ i. wire_in c.args.bytes.now (c.args.at + i)) c.args.n
-          (λ k h. c.loop-i.invariant.1 k (omega (arith, c.loop-i-test.false))));
-      upper_bound = omega arith;
-    }
+pub returns-clause-value : goal.returns-clause-value
+returns-clause-value c =
+    c.unwrap_or.ensures
+    ∙ lowest-found c.args.bytes.now c.args.at c.args.n c.requires c.position.result
+    (IsFirst-from_position _ _ _ (λ x. x ≡ 1) (λ x. x ≢ 1) c.position.ensures.ran (YieldsList-from_slice _ c.iter.ensures.rest)
+    (λ x q k. search (rules, tests)) (λ x q k. search (rules, tests)))

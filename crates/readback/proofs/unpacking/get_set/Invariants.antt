@@ -1,12 +1,8 @@
--- `get_set` meets its contract. The loop's invariant: `word` has the wires from `i` on. The measure is `i`.
-use mathlib.Core.Path.{◌≡◌}
-use Prim.Native.Nat.{◌≤◌, ◌+◌, ◌-◌}
-use Rattle.words.specs.Sets.{word_of}
-use Rattle.readback.specs.Unpacking.{wire_in}
+-- `get_set` meets its contract. The loop's invariant: `word` has the wires behind those that are left.
+use Rattle.std.specs.Slice.Iter.{iter_rest}
+use Rattle.std.specs.Iterator.Adapters.{rev_source}
+use Rattle.readback.proofs.Words.{Gathered}
 use Rattle.readback.proofs.unpacking.get_set.Given as goal
 
-abbrev pub invariant-loop-i : goal.invariant-loop-i
-invariant-loop-i l = (l.i ≤ l.n) × (l.word ≡ word_of (λ j. wire_in l.bytes (l.at + (l.i + j))) (l.n - l.i))
-
-abbrev pub decreases-loop-i : goal.decreases-loop-i
-decreases-loop-i l = l.i
+abbrev pub invariant-loop-byte : goal.invariant-loop-byte
+invariant-loop-byte l = Gathered l.bytes l.at l.n (iter_rest (rev_source l.byte-iterator)) l.word

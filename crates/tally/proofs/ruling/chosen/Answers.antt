@@ -1,29 +1,17 @@
--- `chosen` meets its contract: no variable below the one looked at passes.
-use Prim.Native.Nat.{◌-◌}
-use mathlib.Core.Path.{sym, ◌∙◌}
-use mathlib.Core.Bool.{◌&&◌}
-use native.Mathlib.Omega.{arith}
-use borrow.Author.Count.{below_more}
+-- `chosen` meets its contract: what `find` gives of the variables is the lowest that passes.
+use Rattle.std.proofs.Common.{◌≡◌, ℕ, Bool, true, false, ◌&&◌, ◌∙◌, rules}
+use Rattle.std.proofs.lemmas.Iterator.{first_from_Range}
+use borrow.Author.Tests.{tests}
 use Rattle.words.specs.Sets.{bit}
 use Rattle.tally.specs.Ruling.{stands_in}
-use Rattle.tally.proofs.RulingLaws.{lowest-here, lowest_past}
+use Rattle.tally.proofs.RulingLaws.{lowest_found}
 use Rattle.tally.proofs.ruling.chosen.Goals as goal
-
-pub loop-v-init : goal.loop-v-init
-loop-v-init c = (omega arith, λ k h. absurd (omega arith))
-
-pub returns-then-passes : goal.returns-then-passes
-returns-then-passes c =
-    let l = c.loop-v in
-    let x = c.args in
-    lowest-here (λ k. bit x.unset k && stands_in x.index.now k x.set) l.v l.invariant.1 c.loop-v-test.true
-    (sym c.passes.ensures ∙ c.if-passes.true)
-
-pub loop-v-preserved : goal.loop-v-preserved
-loop-v-preserved c = let l = c.loop-v in (omega arith, below_more _ _ l.invariant.1 (sym c.passes.ensures ∙ c.if-passes.false))
 
 pub returns : goal.returns
 returns c =
-    let l = c.loop-v in
     let x = c.args in
-    lowest_past (λ k. bit x.unset k && stands_in x.index.now k x.set) l.v l.invariant.1 l.invariant.0 c.loop-v-test.false
+    let p : ℕ → Bool = λ v. bit x.unset v && stands_in x.index.now v x.set in
+    c.unwrap_or.ensures
+    ∙ lowest_found p c.find.result
+    (first_from_Range _ _ _ c.find.result (λ v. p v ≡ true) (λ v. p v ≡ false) c.find.ensures.ran
+    (λ v q k. search (rules, tests)) (λ v q k. search (rules, tests)))

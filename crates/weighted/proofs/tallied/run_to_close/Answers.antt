@@ -1,14 +1,15 @@
 -- `run_to_close` meets its contract. The loop's invariant is that of every loop of weighted steps, and that the tally is exact; the measure is how many
 -- steps are left.
-use mathlib.Core.Path.{◌≡◌, sym, ◌∙◌}
+use mathlib.Core.Path.{◌≡◌, sym, ap, ◌∙◌}
 use mathlib.Core.Bool.{true, false}
-use Prim.Native.Nat.{◌-◌, ◌<◌}
+use Prim.Native.Nat.{◌<◌}
 use native.Mathlib.Omega.{arith}
 use lib.Dec.{ltb}
 use lib.ListN.{length}
 use Rattle.state.specs.State.{if_open}
 use Rattle.solver.proofs.BudgetedRun.{running_less-with}
 use Rattle.indexed.proofs.TallyAfter.{survey_exact}
+use Rattle.indexed.specs.Continuing.{Continued, steps_taken}
 use Rattle.weighted.specs.Weights.{weighted_rule}
 use Rattle.weighted.proofs.Applying.{weighted_applies}
 use Rattle.weighted.proofs.KeptRun.{kept_from, kept_on, kept_end}
@@ -16,8 +17,8 @@ use Rattle.weighted.proofs.tallied.run_to_close.Goals as goal
 use Rattle.weighted.proofs.tallied.run_to_close.Goals.{After-find_rule-rule, Start}
 
 -- a run has 32 levels
-room : (s : Start) → length s.args.run.levels ≡ 32
-room s = s.well_formed.1.1.1.1.0.1.1.1.1.1.1.1.0.1.0.1
+room : (s : Start) → length s.args.run.now.levels ≡ 32
+room s = omega arith
 
 -- the loop's turn goes on, from the rule found
 goes : (c : After-find_rule-rule) → let l = c.loop-tally in
@@ -49,5 +50,6 @@ loop-tally-preserved c =
 
 pub returns : goal.returns
 returns c =
-    kept_end _ _ _ _ c.requires.indexed _ _ c.loop-tally.last c.loop-tally.tally _ c.loop-tally.invariant
-    (sym c.goes_on.ensures ∙ c.loop-tally-test.false) _ c.closed.ensures
+    let is = kept_end _ _ _ _ c.requires.indexed _ _ c.loop-tally.last c.loop-tally.tally _ c.loop-tally.invariant
+    (sym c.goes_on.ensures ∙ c.loop-tally-test.false) _ c.closed.ensures in
+    record { value = ap steps_taken is; run_after = ap (λ (c : Continued). c.run) is }

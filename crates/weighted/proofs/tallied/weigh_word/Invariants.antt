@@ -1,5 +1,5 @@
 -- `weigh_word` meets its contract: the weights held and what the rows left add are what the whole set adds. The measure is what is left.
-use Prim.Native.Nat.{◌-◌, ◌^◌, ◌<◌}
+use Prim.Native.Nat.{◌^◌, ◌<◌}
 use Rattle.weighted.specs.Floats.{word_weight}
 use Rattle.weighted.proofs.Weighing.{Weighing}
 use Rattle.weighted.proofs.tallied.weigh_word.Given as goal

@@ -10,5 +10,5 @@ pub returns : goal.returns
 returns c =
     let a = c.args in
     c.heaviest.ensures
-    ∙ heaviest-all a.t a.f a.left.now a.right.now a.public.now (length a.left.now / 2) (length a.right.now / 2)
-    (length a.public.now / 2) (omega arith) (omega arith) (omega arith) c.weigh.result c.weigh.ensures
+    ∙ heaviest-all a.t a.f a.tables.left.now a.tables.right.now a.tables.public.now (length a.tables.left.now / 2) (length a.tables.right.now / 2)
+    (length a.tables.public.now / 2) (omega arith) (omega arith) (omega arith) c.weigh.result c.weigh.ensures

@@ -12,11 +12,11 @@ use Rattle.weighted.proofs.weights.find_rule.Goals.{After-find_rule-found}
 -- the rule that the scan found is the giant step's
 found : (c : After-find_rule-found) → let a = c.args in
     (k : Rule) → c.find_rule-found.result ≡ k
-    → let rows = rows_of_words a.left.now ++ (rows_of_words a.right.now ++ rows_of_words a.public.now) in
+    → let rows = rows_of_words a.tables.left.now ++ (rows_of_words a.tables.right.now ++ rows_of_words a.tables.public.now) in
     choosing (heaviest (weight 32 rows a.t a.f) 32) k ≡ weighted_rule 32 rows a.t a.f
 found c k e =
     let a = c.args in
-    told 32 (rows_of_words a.left.now ++ (rows_of_words a.right.now ++ rows_of_words a.public.now)) a.t a.f c.find_rule-found.result k
+    told 32 (rows_of_words a.tables.left.now ++ (rows_of_words a.tables.right.now ++ rows_of_words a.tables.public.now)) a.t a.f c.find_rule-found.result k
     c.find_rule-found.ensures.value e
 
 pub returns-in-AllSatisfied : goal.returns-in-AllSatisfied

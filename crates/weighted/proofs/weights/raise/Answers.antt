@@ -24,9 +24,6 @@ offset_bounds-weights-i c = record { fits = omega (arith, below c) }
 pub bounds-weights-i : goal.bounds-weights-i
 bounds-weights-i c = below c
 
-pub offset_bounds-weights-i-in-loop-left : goal.offset_bounds-weights-i-in-loop-left
-offset_bounds-weights-i-in-loop-left c = record { fits = omega (arith, below (goal.at.offset_bounds-weights-i-in-loop-left c).After-lowest-i) }
-
 pub bounds-weights-i-in-loop-left : goal.bounds-weights-i-in-loop-left
 bounds-weights-i-in-loop-left c = below (goal.at.bounds-weights-i-in-loop-left c).After-lowest-i
 

@@ -1,5 +1,4 @@
 -- `raise` meets its contract: what is left of the word falls, and its lowest bit's weight is raised at each turn.
-use Prim.Native.Nat.{◌-◌}
 use Rattle.weighted.proofs.Raising.{Raising}
 use Rattle.weighted.proofs.weights.raise.Given as goal
 

@@ -9,6 +9,6 @@ use Rattle.weighted.proofs.weights.weigh.Goals as goal
 pub returns : goal.returns
 returns c =
     let a = c.args in
-    weigh_all a.t a.f a.left.now a.right.now a.public.now (length a.left.now / 2) (length a.right.now / 2)
-    (length a.public.now / 2) (omega arith) (omega arith) (omega arith) (replicate 32 (of_bits binary64 0)) _ _ _
+    weigh_all a.t a.f a.tables.left.now a.tables.right.now a.tables.public.now (length a.tables.left.now / 2) (length a.tables.right.now / 2)
+    (length a.tables.public.now / 2) (omega arith) (omega arith) (omega arith) (replicate 32 (of_bits binary64 0)) _ _ _
     (λ i b. get_or-replicate 32 i (of_bits binary64 0) nan b) c.weigh_rows.ensures c.weigh_rows-2.ensures c.weigh_rows-3.ensures

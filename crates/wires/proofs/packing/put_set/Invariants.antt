@@ -1,15 +1,8 @@
--- `put_set` meets its contract. The loop's invariant: the wires below `i` are stored, and the other bytes stay.
-use mathlib.Core.Path.{◌≡◌}
-use Prim.Native.Nat.{◌≤◌, ◌-◌}
-use lib.ListN.{length}
-use lib.Seq.{sets}
+-- `put_set` meets its contract. The loop's invariant: the bytes below the index are their wires'.
+use Rattle.std.proofs.Common.{◌≡◌, ℕ, ◌<◌, get_or}
+use Rattle.words.specs.Booleans.{digit}
 use Rattle.words.specs.Sets.{bit}
-use Rattle.gates.specs.Memory.{bytes_of}
-use Rattle.wires.specs.Layout.{upto}
 use Rattle.wires.proofs.packing.put_set.Given as goal
 
 abbrev pub invariant-loop-i : goal.invariant-loop-i
-invariant-loop-i l = (l.i ≤ l.n) × (length l.bytes ≡ length l.initial.bytes) × (l.bytes ≡ sets l.initial.bytes l.at (bytes_of (upto (bit l.word) l.i)))
-
-abbrev pub decreases-loop-i : goal.decreases-loop-i
-decreases-loop-i l = l.n - l.i
+invariant-loop-i l = (j : ℕ) → j < l.i → get_or l.wire-items j 0 ≡ digit (bit l.word j)

@@ -1,8 +1,0 @@
--- `Read::refused` meets its contract: its run is that of `Run::fresh`.
-use mathlib.Core.Path.{ap}
-use Rattle.refusals.specs.declared.Outcome.TheVariants.{Refused}
-use Rattle.state.specs.declared.Run.{Run}
-use Rattle.readback.proofs.Read.refused.Goals as goal
-
-pub returns : goal.returns
-returns c = ap (λ (x : Run). record { outcome = Refused c.args.refusal; run = x }) c.fresh.ensures
