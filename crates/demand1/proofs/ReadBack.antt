@@ -18,7 +18,8 @@ use Rattle.dimensions.specs.Sizes.{outside, state_wire_count}
 use Rattle.state.specs.declared.Run.{Run}
 use Rattle.state.specs.State.{state_of, run_of, fresh}
 use Rattle.state.specs.WellFormed.{well_formed, well_formed_state, unused}
-use Rattle.readback.specs.Reading.{Read, read_checks, read_back}
+use Rattle.readback.specs.declared.Read.{Read}
+use Rattle.readback.specs.Reading.{read_checks, read_back}
 use Rattle.readback.specs.Unpacking as Unpacking
 use Rattle.readback.specs.Unpacking.{holds_state, last_first}
 use Rattle.readback.proofs.Checks.{no_variables, no_room, no_state, read_taken}

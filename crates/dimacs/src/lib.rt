@@ -75,8 +75,9 @@ pub fn read(text: &[u8], least: u8) -> Result<Table, Refusal>
     if 65536 < text.len() {
         return Err(Refusal::Text);
     }
-    let header = header::read_header(text, least)?;
-    read_rows(text, header.end, header.n, header.m)
+    let header = header::read_header(text, least);
+    let (n, m) = header.sizes?;
+    read_rows(text, header.end, n, m)
 }
 
 // The tables of the two stations' texts and of the public one: the left text's refusal, the right's, the public's, then 6.

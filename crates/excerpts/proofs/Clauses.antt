@@ -16,7 +16,8 @@ use Rattle.lexer.specs.Places.{part, first_of}
 use Rattle.lexer.specs.Blanks.{tokens_past}
 use Rattle.lexer.proofs.Tokens.{found}
 use Rattle.numbers.specs.Numbers.{Number, number, malformed, number_read}
-use Rattle.header.specs.Header.{HeaderLine, header_of}
+use Rattle.header.specs.declared.Header.{Header}
+use Rattle.header.specs.Header.{header_of}
 use Rattle.clauses.specs.Rows.{Literal, row_of}
 use Rattle.clauses.specs.Clauses.{Reading, clause, ended, unreadable, joined_literal, before, clauses}
 use Rattle.clauses.specs.First.{clauses_from, empty_row, with_literals, first}
@@ -142,11 +143,11 @@ module _ (n : ℕ) (text : List ℕ) (start k : ℕ) where
 
 -- ---- after the header
 
-module _ (text : List ℕ) (k : ℕ) (h : HeaderLine) (e : h ≡ header_of 1 text) where
+module _ (text : List ℕ) (k : ℕ) (h : Header) (e : h ≡ header_of 1 text) where
   by-sizes : (s : Result (ℕ × ℕ) Refusal) → h.sizes ≡ s → skip k (behind_header text h.end s) ≡ clause_of text k
   unfolding clause_of
   by-sizes s q =
-      ap (λ (x : Result (ℕ × ℕ) Refusal). skip k (behind_header text h.end x)) (sym q) ∙ ap (λ (x : HeaderLine). skip k (behind_header text x.end x.sizes)) e
+      ap (λ (x : Result (ℕ × ℕ) Refusal). skip k (behind_header text h.end x)) (sym q) ∙ ap (λ (x : Header). skip k (behind_header text x.end x.sizes)) e
 
   pub no_header : (r : Refusal) → h.sizes ≡ Err r → Unreadable ≡ first (clause_of text k)
   no_header r q = ap first (sym (skip-none k) ∙ by-sizes (Err r) q)

@@ -95,10 +95,11 @@ fn nth_clause(text: &[u8], start: usize, n: u8, k: usize) -> Clause
 fn find_clause(text: &[u8], k: usize) -> Clause
     ensures { result ≡ first (clause_of text.now k) }
 {
-    let Ok(header) = header::read_header(text, 1) else {
+    let header = header::read_header(text, 1);
+    let Ok((n, _)) = header.sizes else {
         return Clause::Unreadable;
     };
-    nth_clause(text, header.end, header.n, k)
+    nth_clause(text, header.end, n, k)
 }
 
 // The place from one byte up to another.

@@ -2,15 +2,21 @@
 use mathlib.Core.Path.{◌≡◌, refl, ap, sym, ◌∙◌}
 use mathlib.Core.Bool.{Bool, true, false, ◌&&◌, cond, and-false}
 use mathlib.Core.List.{List, [], ◌∷◌}
-use Prim.Native.Nat.{ℕ, zero, suc, ◌+◌, ◌*◌, ◌/◌, ◌^◌, ◌≤◌, ◌<◌}
+use Prim.Native.Nat.{ℕ, zero, suc, ◌+◌, ◌*◌, ◌/◌, ◌%◌, ◌^◌, ◌≤◌, ◌<◌}
 use native.Mathlib.Omega.{arith}
 use borrow.Author.Tests.{ltb-true, lt-ltb, le-ltb, le-leb, lt-leb, eqb-true, ne_eqb}
 use lib.Dec.{ltb, leb, eqb}
 use lib.ListN.{length, get_or, drop}
 use Rattle.std.specs.Simd.{first_chunks}
-use Rattle.words.proofs.Truth.{and_l, and_r}
+use Rattle.words.proofs.Truth.{and_l, and_r, on}
 use Rattle.gates.specs.Memory.{drives, accepted}
+use Rattle.gates.proofs.InMemory.{accepted-length}
 use Rattle.gates.proofs.Chunks.{drop-chunk}
+
+-- words whose number is no multiple of 3 are not accepted
+pub accepted_uneven : (m : ℕ) (ws : List ℕ) → (length ws % 3 ≡ 0 → ⊥) → accepted m ws ≡ false
+accepted_uneven m ws h =
+    on (accepted m ws) (λ e. absurd (h (omega (arith, accepted-length m ws e)))) (λ e. e)
 
 -- beyond all words the number of wires does not matter
 pub accepted_far : (m n : ℕ) (ws : List ℕ) → 2 ^ 32 ≤ m → 2 ^ 32 ≤ n → ((i : ℕ) → get_or ws i 0 < 2 ^ 32) → accepted m ws ≡ accepted n ws

@@ -49,10 +49,13 @@ fn all_gates(gates: &[u32], n: usize) -> bool
     ensures { result ≡ Memory.accepted n gates.now }
 {
     let (gates, rest) = gates.as_chunks::<3>();
+    if !rest.is_empty() {
+        return false;
+    }
     for (i, &[kind, a, b]) in gates.iter().enumerate() {
         if !drives(kind, a, b, n + i) {
             return false;
         }
     }
-    rest.is_empty()
+    true
 }

@@ -11,22 +11,23 @@ use Rattle.lexer.specs.Pieces.{cut, not_empty, parts_from}
 use Rattle.numbers.specs.Numbers.{digits_after, decimal_of, number_read}
 use Rattle.refusals.specs.declared.Refusal.{Refusal}
 use Rattle.refusals.specs.declared.Refusal.TheVariants.{Variables, RowCount, Text}
-use Rattle.header.specs.Header.{HeaderLine, past_remarks, header_of, sizes_said}
+use Rattle.header.specs.declared.Header.{Header}
+use Rattle.header.specs.Header.{past_remarks, header_of, sizes_said}
 
 -- in a station's text
-header : String → HeaderLine
+header : String → Header
 unfolding header_of past_remarks parts_from cut not_empty run trimmed same number_read decimal_of digits_after
 header s = header_of 1 (bytes s)
 
 -- in that of the public rest rules
-header_of_public : String → HeaderLine
+header_of_public : String → Header
 unfolding header_of past_remarks parts_from cut not_empty run trimmed same number_read decimal_of digits_after
 header_of_public s = header_of 0 (bytes s)
 
-abbrev sizes : ℕ → ℕ → ℕ → HeaderLine
+abbrev sizes : ℕ → ℕ → ℕ → Header
 sizes n m end = record { sizes = Ok (n, m); end = end }
 
-abbrev refused : Refusal → ℕ → HeaderLine
+abbrev refused : Refusal → ℕ → Header
 refused r end = record { sizes = Err r; end = end }
 
 plain : header "p cnf 32 128\n1 0" ≡ sizes 32 128 12

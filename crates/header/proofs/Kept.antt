@@ -21,7 +21,8 @@ use Rattle.lexer.specs.Blanks.{start, further}
 use Rattle.lexer.proofs.Runs.{end_ge}
 use Rattle.lexer.proofs.Kept.{part_kept_from, kept-is, first-kept, line-run, line-take, line-drop, other-kept, remark_kept}
 use Rattle.refusals.specs.declared.Refusal.TheVariants.{Text}
-use Rattle.header.specs.Header.{HeaderLine, past_remarks, sizes_of, headed, header_of}
+use Rattle.header.specs.declared.Header.{Header}
+use Rattle.header.specs.Header.{past_remarks, sizes_of, headed, header_of}
 use Rattle.header.proofs.Lines.{other-line, last_line, remark_line, no_line, header_at}
 
 abbrev in_line : ℕ → Bool
@@ -92,13 +93,13 @@ module _ (least : ℕ) (text : List ℕ) where
     pub sizes : (header_of least (without_remarks text)).sizes ≡ (header_of least text).sizes
     pub rest : drop (header_of least (without_remarks text)).end (without_remarks text) ≡ part_kept_from further (drop (header_of least text).end text)
 
-  same : (v : List ℕ) (g h : HeaderLine) → without_remarks text ≡ v → header_of least v ≡ g → header_of least text ≡ h
+  same : (v : List ℕ) (g h : Header) → without_remarks text ≡ v → header_of least v ≡ g → header_of least text ≡ h
       → g.sizes ≡ h.sizes → drop g.end v ≡ part_kept_from further (drop h.end text) → Same
   same v g h w eg eh s r =
       let e : header_of least (without_remarks text) ≡ g = ap (header_of least) w ∙ eg in
       record {
-        sizes = ap (λ (x : HeaderLine). x.sizes) e ∙ s ∙ sym (ap (λ (x : HeaderLine). x.sizes) eh);
-        rest = ap₂ (λ (x : HeaderLine) (l : List ℕ). drop x.end l) e w ∙ r ∙ sym (ap (λ (x : HeaderLine). part_kept_from further (drop x.end text)) eh);
+        sizes = ap (λ (x : Header). x.sizes) e ∙ s ∙ sym (ap (λ (x : Header). x.sizes) eh);
+        rest = ap₂ (λ (x : Header) (l : List ℕ). drop x.end l) e w ∙ r ∙ sym (ap (λ (x : Header). part_kept_from further (drop x.end text)) eh);
       }
 
   -- a text of remarks alone

@@ -1,5 +1,5 @@
 -- The lines before the header, one at a time: past a remark come the lines of the text that follows it.
-use mathlib.Core.Path.{◌≡◌, refl, sym, ap, ap₂, ◌∙◌}
+use mathlib.Core.Path.{◌≡◌, sym, ap, ap₂, ◌∙◌}
 use mathlib.Core.Bool.{Bool, not}
 use mathlib.Core.List.{List, [], ◌∷◌}
 use Prim.Native.Nat.{ℕ, suc, ◌+◌, ◌-◌, ◌≤◌, ◌<◌}
@@ -9,8 +9,7 @@ use lib.Dec.{eqb}
 use lib.ListN.{length, drop, take, get_or, drop_of_length-le, length-drop, length-take}
 use lib.Seq.{drop-cons, drop-drop}
 use borrow.Author.Tests.{eq-eqb, ne_eqb, eqb-true}
-use Rattle.std.specs.Prelude.{Result, Ok, Err}
-use Rattle.refusals.specs.declared.Refusal.{Refusal}
+use Rattle.std.specs.Prelude.{Err}
 use Rattle.words.proofs.Truth.{on}
 use Rattle.lexer.specs.Bytes.{is_line_feed, run, trimmed}
 use Rattle.lexer.specs.Remarks.{is_remark}
@@ -19,7 +18,7 @@ use Rattle.lexer.specs.Places.{run_end, part}
 use Rattle.refusals.specs.declared.Refusal.TheVariants.{Text}
 use Rattle.lexer.proofs.Runs.{end_le}
 use Rattle.lexer.proofs.Cuts.{later, cut-first}
-use Rattle.header.specs.Header.{HeaderLine, past_remarks, sizes_of, headed, header_of, sizes_before, header_read, sizes_found, sizes_said, header_said}
+use Rattle.header.specs.Header.{past_remarks, sizes_of, headed, header_of, sizes_said, header_said}
 use Rattle.header.specs.declared.Header.{Header}
 
 abbrev in_line : ℕ → Bool
@@ -89,35 +88,7 @@ module _ (text : List ℕ) (at : ℕ) where
       let place : at + length (take k (drop at text)) ≡ end = simp (length-take, length-drop) (omega (arith, e, bound)) in
       ap (headed least text) lines_first ∙ ap₂ (λ (i j : ℕ). record { sizes = sizes_of least (take i (drop at text)); end = j }) width place
 
--- ---- a header as it is read
-
--- n and m of what is read are the line's
-found_before : (s : Result (ℕ × ℕ) Refusal) (end : ℕ) → sizes_found (sizes_before s end) ≡ s
-found_before (Ok (n, m)) end = refl
-found_before (Err r) end = refl
-
--- what is read says its number and its values
-pub said : (least : ℕ) (text : List ℕ) (h : Result Header Refusal) → h ≡ header_read (header_of least text)
-    → (h ≡ header_read (header_of least text)) × (sizes_said (sizes_found h) ≡ header_said least text)
-said least text h e =
-    let line = header_of least text in
-    (e, ap (λ (x : Result Header Refusal). sizes_said (sizes_found x)) e ∙ ap sizes_said (found_before line.sizes line.end))
-
--- the line of a header that was read
-pub line-read : (line : HeaderLine) (x : Result Header Refusal) → x ≡ header_read line → (h : Header) → x ≡ Ok h
-    → record { sizes = Ok (h.n, h.m); end = h.end } ≡ line
-line-read line x e h q = go line.sizes line.end (sym e ∙ q)
-  where
-    go : (s : Result (ℕ × ℕ) Refusal) (end : ℕ) → sizes_before s end ≡ Ok h → ◌≡◌ {A = HeaderLine} (record { sizes = Ok (h.n, h.m); end = h.end })
-        (record { sizes = s; end = end })
-    go (Ok (n, m)) end k = let z : ◌≡◌ {A = Header} h (record { n = n; m = m; end = end }) = cc in
-        ap (λ (y : Header). record { sizes = Ok (y.n, y.m); end = y.end }) z
-    go (Err r) end k = absurd (let z : ◌≡◌ {A = ℕ} 0 1 = cc in omega arith)
-
--- that of a header that was refused
-pub line-refused : (line : HeaderLine) (x : Result Header Refusal) → x ≡ header_read line → (r : Refusal) → x ≡ Err r → line.sizes ≡ Err r
-line-refused line x e r q = go line.sizes line.end (sym e ∙ q)
-  where
-    go : (s : Result (ℕ × ℕ) Refusal) (end : ℕ) → sizes_before s end ≡ Err r → s ≡ Err r
-    go (Ok (n, m)) end k = absurd (let z : ◌≡◌ {A = ℕ} 0 1 = cc in omega arith)
-    go (Err p) end k = let z : p ≡ r = cc in ap Err z
+-- what is given says its number and its values
+pub said : (least : ℕ) (text : List ℕ) (h : Header) → h ≡ header_of least text
+    → (h ≡ header_of least text) × (sizes_said h.sizes ≡ header_said least text)
+said least text h e = (e, ap (λ (x : Header). sizes_said x.sizes) e)

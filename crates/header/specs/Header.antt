@@ -51,33 +51,14 @@ header_parts least (p ∷ (f ∷ ps)) =
 abbrev pub sizes_of : ℕ → List ℕ → Result (ℕ × ℕ) Refusal
 sizes_of least line = header_parts least (parts_from is_blank (trimmed is_tail line) 0)
 
--- what the line of a header says, n and m or a refusal, and the place past it
-pub record HeaderLine : Type 0 where
-  pub sizes : Result (ℕ × ℕ) Refusal
-  pub end : ℕ
-
 -- the header is the first of some lines, and the clauses start after it
-abbrev pub headed : ℕ → List ℕ → List Piece → HeaderLine
+abbrev pub headed : ℕ → List ℕ → List Piece → Header
 headed least text [] = record { sizes = Err Text; end = length text }
 headed least text (l ∷ ls) = record { sizes = sizes_of least l.bytes; end = behind l }
 
 -- a text's header is the first line that is no remark
-unfoldable pub header_of : ℕ → List ℕ → HeaderLine
+unfoldable pub header_of : ℕ → List ℕ → Header
 header_of least text = headed least text (past_remarks (lines_from text 0))
-
--- sizes with a place
-abbrev pub sizes_before : Result (ℕ × ℕ) Refusal → ℕ → Result Header Refusal
-sizes_before (Ok (n, m)) end = Ok (record { n = n; m = m; end = end })
-sizes_before (Err r) end = Err r
-
--- a header as it is read: n, m and the place, or the refusal
-abbrev pub header_read : HeaderLine → Result Header Refusal
-header_read h = sizes_before h.sizes h.end
-
--- n and m of what was read
-abbrev pub sizes_found : Result Header Refusal → Result (ℕ × ℕ) Refusal
-sizes_found (Ok h) = Ok (h.n, h.m)
-sizes_found (Err r) = Err r
 
 -- what reading a header says: 0, n and m of "`p cnf n m`", or 1, 2 or 5 of "Turned back because of the input"
 abbrev pub sizes_said : Result (ℕ × ℕ) Refusal → List ℕ

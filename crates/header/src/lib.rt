@@ -5,18 +5,17 @@ ghost use Rattle.std.specs.Prelude.{◌≡◌, ◌≤◌, length};
 ghost use Rattle.lexer.specs.Bytes.{is_blank};
 ghost use Rattle.lexer.specs.Pieces.{parts_from};
 ghost use Rattle.numbers.specs.Numbers.{number, number_read};
-ghost use Rattle.header.specs.Header.{beyond, judged_sizes, two_numbers, header_parts, sizes_of, header_of, header_read};
-ghost use Rattle.header.specs.Header.{HeaderFrom, sizes_found, sizes_said, header_said};
+ghost use Rattle.header.specs.Header.{beyond, judged_sizes, two_numbers, header_parts, sizes_of, header_of, sizes_said, header_said};
+ghost use Rattle.header.specs.Header.{HeaderFrom};
 
 use dimensions::Dimensions;
 use lexer::kinds::Kind;
 use refusals::Refusal;
 
-// What a header says, n and m, and the place past its line.
+// What a header says, n and m or 1, 2 or 5, and the place past its line.
 #[derive(Clone, Copy)]
 pub struct Header {
-    pub n: u8,
-    pub m: u8,
+    pub sizes: Result<(u8, u8), Refusal>,
     pub end: usize,
 }
 
@@ -121,13 +120,13 @@ fn find_header(text: &[u8]) -> usize
     at
 }
 
-// The header of a text, the first line that is no remark, with the least row count that it may have; or 1, 2 or 5.
-pub fn read_header(text: &[u8], least: u8) -> Result<Header, Refusal>
-    ensures value { result ≡ header_read (header_of least text.now) }
-    ensures sizes_value { sizes_said (sizes_found result) ≡ header_said least text.now }
+// The header of a text, the first line that is no remark, with the least row count that it may have.
+pub fn read_header(text: &[u8], least: u8) -> Header
+    ensures value { result ≡ header_of least text.now }
+    ensures sizes_value { sizes_said result.sizes ≡ header_said least text.now }
 {
     let at = find_header(text);
     let end = lexer::kinds::find(text, at, Kind::LineFeed);
-    let (n, m) = read_line(&text[at..end], least)?;
-    Ok(Header { n, m, end })
+    let sizes = read_line(&text[at..end], least);
+    Header { sizes, end }
 }

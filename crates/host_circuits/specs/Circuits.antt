@@ -3,7 +3,7 @@ use Rattle.std.specs.Prelude.{ℕ, ◌*◌, List, [], ◌∷◌}
 use Rattle.refusals.specs.Checks.{outcome, given}
 use Rattle.dimensions.specs.Sizes.{size_checks, ceiling, input_wires, state_wire_count}
 use Rattle.dimensions.specs.declared.Dimensions.{Dimensions}
-use Rattle.readback.specs.Reading.{Read}
+use Rattle.readback.specs.declared.Read.{Read}
 use Rattle.lent.specs.Lent.{stored_if}
 
 -- the gate ceiling, three words a gate of it, input wires, state wires

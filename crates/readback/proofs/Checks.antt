@@ -8,10 +8,9 @@ use native.Mathlib.Omega.{arith}
 use lib.ListN.{length, take, length-map}
 use lib.Seq.{take_at}
 use borrow.Author.Tests.{lt-ltb, le-ltb}
-use Rattle.std.specs.Prelude.{Result, Ok, Err}
-use Rattle.refusals.specs.Checks.{outcome, given}
-use Rattle.refusals.specs.Numbers.{Outcome, said}
-use Rattle.refusals.specs.declared.Refusal.{Refusal}
+use Rattle.std.specs.Prelude.{Ok, Err}
+use Rattle.refusals.specs.Checks.{outcome}
+use Rattle.refusals.specs.Numbers.{code_of, said}
 use Rattle.refusals.specs.declared.Refusal.TheVariants.{Variables, Wires}
 use Rattle.refusals.specs.declared.Refusal.TheVariants as refusal
 use Rattle.refusals.proofs.Outcomes.{given-said}
@@ -26,8 +25,9 @@ use Rattle.wires.specs.Layout.{state_bits}
 use Rattle.wires.specs.StatePacking.{packable, packed_state}
 use Rattle.wires.proofs.Lengths.{state-length}
 use Rattle.wires.proofs.Checks.{state-decided, state-packed}
+use Rattle.readback.specs.declared.Read.{Read}
 use Rattle.readback.specs.Unpacking.{run_in, holds_state}
-use Rattle.readback.specs.Reading.{Read, read_checks, read_back, read_result, read_code}
+use Rattle.readback.specs.Reading.{read_checks, read_back}
 
 -- ---- the run packed again
 
@@ -74,15 +74,12 @@ module _ (n : ℕ) (bytes : List ℕ) where
       read_taken k = rw (e, le-ltb (length bytes) (state_wire_count n) h, k)
 
   -- what reading back gives says the number of its outcome
-  pub read-said : {r : Read} → r ≡ read_back n bytes
-      → (read_result r ≡ read_result (read_back n bytes)) × (read_code (read_result r) ∷ [] ≡ said (outcome (read_checks n bytes)) [])
+  pub read-said : {r : Read} → r ≡ read_back n bytes → (r ≡ read_back n bytes) × (code_of r.outcome ∷ [] ≡ said (outcome (read_checks n bytes)) [])
   unfolding read_back
   read-said e =
-      let says : Read → List ℕ = λ x. read_code (read_result x) ∷ [] in
-      let whole : Read = record { outcome = Ok tt; run = run_in n bytes } in (
-        ap read_result e,
-        ap says e ∙ given-said says (outcome (read_checks n bytes)) whole (λ q. record { outcome = Err q; run = run_of n fresh }) [] refl (λ q. refl),
-      )
+      let says : Read → List ℕ = λ x. code_of x.outcome ∷ [] in
+      let whole : Read = record { outcome = Ok tt; run = run_in n bytes } in
+      (e, ap says e ∙ given-said says (outcome (read_checks n bytes)) whole (λ q. record { outcome = Err q; run = run_of n fresh }) [] refl (λ q. refl))
 
   -- what comparing the packed run with the bytes found
   pub found : (run : Run) (r : Bool) → run ≡ run_in n bytes
@@ -94,21 +91,3 @@ module _ (n : ℕ) (bytes : List ℕ) where
   pub run_variables : (run : Run) → run ≡ run_in n bytes → run.n ≡ n
   unfolding run_in run_of
   run_variables run e = ap (λ (x : Run). x.n) e
-
--- ---- the result
-
--- a run that is returned is the one that was read
-pub read_ok : (x : Read) (run : Run) → read_result x ≡ Ok run → (x.outcome ≡ Ok tt) × (run ≡ x.run)
-read_ok x run = go x.outcome
-  where
-    go : (o : Outcome) → given {A = Result Run Refusal} o (Ok x.run) Err ≡ Ok run → (o ≡ Ok tt) × (run ≡ x.run)
-    go (Ok _) e = (refl, cc)
-    go (Err q) e = absurd (let z : ◌≡◌ {A = ℕ} 0 1 = cc in omega arith)
-
--- a refusal that is returned is the outcome
-pub read_err : (x : Read) (r : Refusal) → read_result x ≡ Err r → x.outcome ≡ Err r
-read_err x r = go x.outcome
-  where
-    go : (o : Outcome) → given {A = Result Run Refusal} o (Ok x.run) Err ≡ Err r → o ≡ Err r
-    go (Ok _) e = absurd (let z : ◌≡◌ {A = ℕ} 0 1 = cc in omega arith)
-    go (Err q) e = cc

@@ -9,8 +9,9 @@ use Rattle.words.specs.Sets.{bit, all, lowest, word_of}
 use Rattle.state.specs.State.{fresh, run_of}
 use Rattle.state.specs.WellFormed.{disjoint, within, well_formed}
 use Rattle.wires.specs.Layout.{upto, joined, on_level, state_bits}
+use Rattle.readback.specs.declared.Read.{Read}
 use Rattle.readback.specs.Unpacking.{last_first, run_in, holds_state}
-use Rattle.readback.specs.Reading.{Read, read_back}
+use Rattle.readback.specs.Reading.{read_back}
 
 read : ℕ → List ℕ → Read
 unfolding read_back holds_state run_in run_of last_first word_of lowest well_formed disjoint within bit all same state_bits upto joined on_level

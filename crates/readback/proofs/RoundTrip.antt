@@ -37,8 +37,9 @@ use Rattle.tables.proofs.Numbering.{tables-length}
 use Rattle.wires.proofs.Lengths.{state-length, rows-length, twice}
 use Rattle.wires.proofs.Addresses.{state-at}
 use Rattle.wires.proofs.Checks.{passed, pack-taken}
+use Rattle.readback.specs.declared.Read.{Read}
 use Rattle.readback.specs.Unpacking.{wire_in, unpacked, run_in, holds_state}
-use Rattle.readback.specs.Reading.{Read, read_checks, read_back}
+use Rattle.readback.specs.Reading.{read_checks, read_back}
 use Rattle.readback.proofs.StateBack.{unpacked-is}
 use Rattle.readback.proofs.Checks.{read_taken, run_variables}
 

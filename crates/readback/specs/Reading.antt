@@ -1,20 +1,13 @@
 -- A run of n read back from bytes: document 01, "Circuit", refusals 1, 10 and 12. Bytes past the state's wires are not looked at.
 -- Ask: What is given with 10 and 12?
-use Rattle.std.specs.Prelude.{ℕ, not, List, [], ◌∷◌, ltb, length, Result, Ok, Err}
-use Rattle.refusals.specs.Numbers.{Outcome, number_of}
+use Rattle.std.specs.Prelude.{ℕ, not, List, [], ◌∷◌, ltb, length, Ok, Err}
 use Rattle.refusals.specs.Checks.{Check, check, outcome, given}
-use Rattle.refusals.specs.declared.Refusal.{Refusal}
 use Rattle.refusals.specs.declared.Refusal.TheVariants.{Variables, Wires}
 use Rattle.refusals.specs.declared.Refusal.TheVariants as refusal
 use Rattle.dimensions.specs.Sizes.{most_variables, outside, state_wire_count}
 use Rattle.state.specs.State.{fresh, run_of}
-use Rattle.state.specs.declared.Run.{Run}
+use Rattle.readback.specs.declared.Read.{Read}
 use Rattle.readback.specs.Unpacking.{run_in, holds_state}
-
--- a run read back; with a refusal, the fresh run
-pub record Read : Type 0 where
-  pub outcome : Outcome
-  pub run : Run
 
 -- 12: the first bytes are not the packed ones of any well-formed state of n
 abbrev pub read_checks : ℕ → List ℕ → List Check
@@ -27,12 +20,3 @@ unfoldable pub read_back : ℕ → List ℕ → Read
 read_back n bytes =
     given (outcome (read_checks n bytes)) (record { outcome = Ok tt; run = run_in n bytes })
     (λ r. record { outcome = Err r; run = run_of n fresh })
-
--- the run where one is read, else the refusal
-abbrev pub read_result : Read → Result Run Refusal
-read_result read = given read.outcome (Ok read.run) Err
-
--- 0 where a run is read, else the refusal's number
-abbrev pub read_code : Result Run Refusal → ℕ
-read_code (Ok run) = 0
-read_code (Err r) = number_of r

@@ -3,20 +3,39 @@
 
 mod unpacking;
 
-ghost use Rattle.std.specs.Prelude.{◌≡◌, [], ◌∷◌, ◌&&◌, ◌≤◌, length, take};
-ghost use Rattle.refusals.specs.Numbers.{said};
+ghost use Rattle.std.specs.Prelude.{◌≡◌, [], ◌∷◌, ◌&&◌, ◌≤◌, length, take, Err};
+ghost use Rattle.refusals.specs.Numbers.{code_of, said};
 ghost use Rattle.words.specs.Sameness.{same};
 ghost use Rattle.refusals.specs.Checks.{outcome};
 ghost use Rattle.dimensions.specs.Sizes.{state_wire_count};
-ghost use Rattle.state.specs.State.{state_of};
+ghost use Rattle.state.specs.State.{state_of, run_of, fresh};
 ghost use Rattle.state.specs.WellFormed.{well_formed};
 ghost use Rattle.gates.specs.Memory.{bytes_of};
 ghost use Rattle.wires.specs.Layout.{state_bits};
-ghost use Rattle.readback.specs.Reading.{read_checks, read_back, read_result, read_code};
+ghost use Rattle.readback.specs.Reading.{read_checks, read_back};
 
 use dimensions::Dimensions;
 use refusals::Refusal;
 use state::Run;
+
+// A run read back; with a refusal, the fresh run.
+#[derive(Clone, Copy)]
+pub struct Read {
+    pub outcome: Result<(), Refusal>,
+    pub run: Run,
+}
+
+impl Read {
+    // A refusal, with the fresh run of n.
+    fn refused(n: u8, refusal: Refusal) -> Self
+        ensures { result ≡ record { outcome = Err refusal; run = run_of n fresh } }
+    {
+        Read {
+            outcome: Err(refusal),
+            run: Run::fresh(n),
+        }
+    }
+}
 
 // Whether the run is a well-formed state that gives these bytes when it is packed.
 fn gives(n: u8, run: Run, bytes: &[u8]) -> bool
@@ -34,19 +53,22 @@ fn gives(n: u8, run: Run, bytes: &[u8]) -> bool
 }
 
 // The run of n that the front of the bytes holds; 1, 10 or 12 if there is none.
-pub fn read_back(n: u8, bytes: &[u8]) -> Result<Run, Refusal>
-    ensures value { result ≡ read_result (read_back n bytes.now) }
-    ensures result_value { read_code result ∷ [] ≡ said (outcome (read_checks n bytes.now)) [] }
+pub fn read_back(n: u8, bytes: &[u8]) -> Read
+    ensures value { result ≡ read_back n bytes.now }
+    ensures outcome_value { code_of result.outcome ∷ [] ≡ said (outcome (read_checks n bytes.now)) [] }
 {
     if Dimensions::variables_outside(n as u64) {
-        return Err(Refusal::Variables);
+        return Read::refused(n, Refusal::Variables);
     }
     if bytes.len() < Dimensions::state_wires_of(n) {
-        return Err(Refusal::Wires);
+        return Read::refused(n, Refusal::Wires);
     }
     let run = unpacking::get_run(n, bytes);
     if !gives(n, run, bytes) {
-        return Err(Refusal::State);
+        return Read::refused(n, Refusal::State);
     }
-    Ok(run)
+    Read {
+        outcome: Ok(()),
+        run,
+    }
 }

@@ -36,7 +36,7 @@ use Rattle.wires.specs.Layout.{state_bits}
 use Rattle.wires.specs.Packing.{input_bits, pack_checks}
 use Rattle.wires.proofs.Lengths.{state-length}
 use Rattle.wires.proofs.Checks.{Passed, passed, state_decides, refuse_room}
-use Rattle.readback.specs.Reading.{Read}
+use Rattle.readback.specs.declared.Read.{Read}
 use Rattle.readback.proofs.Checks.{no_room}
 use Rattle.readback.proofs.RoundTrip.{read-front}
 use Rattle.netlist.specs.Netlist.{gates_on}

@@ -32,7 +32,8 @@ use Rattle.two_pass.proofs.Evaluation as Evaluation
 use Rattle.wires.specs.Packing.{input_bits, pack_checks, packed}
 use Rattle.wires.proofs.Lengths.{input_length}
 use Rattle.wires.proofs.Checks.{packed-front}
-use Rattle.readback.specs.Reading.{Read, read_back}
+use Rattle.readback.specs.declared.Read.{Read}
+use Rattle.readback.specs.Reading.{read_back}
 use Rattle.netlist.specs.Outputs.{outputs_in}
 use Rattle.repeats.specs.Application.{Applied, turned_back, next_run, inputs, application_outcome, wires_after, applied, mark_result, mark_code}
 

@@ -13,7 +13,8 @@ use Rattle.dimensions.specs.declared.Dimensions.{Dimensions}
 use Rattle.dimensions.specs.Sizes.{state_wire_count}
 use Rattle.tables.specs.Tables.{Tables}
 use Rattle.state.specs.declared.Run.{Run}
-use Rattle.readback.specs.Reading.{Read, read_back}
+use Rattle.readback.specs.declared.Read.{Read}
+use Rattle.readback.specs.Reading.{read_back}
 use Rattle.netlist.specs.Outputs.{outputs_in}
 use Rattle.repeats.specs.Application.{Applied, turned_back, application_outcome, wires_after, next_run, applied}
 

@@ -93,7 +93,9 @@ fn next_run(n: u8, run: &mut Run, outputs: &[u8]) -> Result<bool, Refusal>
     ensures value { result ≡ mark_result (next_run n run.old (state_wire_count n + 1) outputs.now) }
     ensures run_after { run.new ≡ (next_run n run.old (state_wire_count n + 1) outputs.now).run }
 {
-    *run = readback::read_back(n, outputs)?;
+    let read = readback::read_back(n, outputs);
+    read.outcome?;
+    *run = read.run;
     Ok(outputs[Dimensions::state_wires_of(n)] == 1)
 }
 

@@ -1,5 +1,5 @@
 -- `read_header` meets its contract: the line from the place found to its LF is the header's.
-use mathlib.Core.Path.{◌≡◌, sym, ap, ◌∙◌}
+use mathlib.Core.Path.{sym, ap, ◌∙◌}
 use mathlib.Core.Bool.{not}
 use Prim.Native.Nat.{ℕ, ◌≤◌}
 use native.Mathlib.Omega.{arith}
@@ -8,11 +8,9 @@ use Rattle.std.specs.Prelude.{Result}
 use Rattle.refusals.specs.declared.Refusal.{Refusal}
 use Rattle.lexer.specs.Bytes.{is_line_feed}
 use Rattle.lexer.proofs.Runs.{end_ge, end_le}
-use Rattle.refusals.proofs.Outcomes.{passed_on}
-use Rattle.header.specs.Header.{header_of, sizes_before, header_read}
 use Rattle.header.proofs.Lines.{header_at, said}
 use Rattle.header.proofs.read_header.Goals as goal
-use Rattle.header.proofs.read_header.Goals.{After-find-end, After-read_line}
+use Rattle.header.proofs.read_header.Goals.{After-find-end}
 
 -- the line lies in the text
 starts : (c : After-find-end) → c.find_header-at.result ≤ c.find-end.result
@@ -32,23 +30,12 @@ slice_bounds-read_line-start c = starts c
 pub slice_bounds-read_line-end : goal.slice_bounds-read_line-end
 slice_bounds-read_line-end c = ends c
 
--- what is read is the sizes of the line, with its end
-read : (c : After-read_line) → (x : Result (ℕ × ℕ) Refusal) → c.read_line.result ≡ x
-    → sizes_before x c.find-end.result ≡ header_read (header_of c.args.least c.args.text.now)
-read c x e =
-    let found = c.find_header-at in
-    let least = c.args.least in
-    ap (λ (y : Result (ℕ × ℕ) Refusal). sizes_before y c.find-end.result) (sym e ∙ c.read_line.ensures)
-    ∙ ap header_read (sym (header_at _ found.result least c.find-end.result c.find-end.ensures found.ensures.upper_bound)
-    ∙ found.ensures.header_from least)
-
-pub returns-in_err-n : goal.returns-in_err-n
-returns-in_err-n c =
-    rw (passed_on _ _ c.from_residual.ensures.1)
-    (let proved = said c.args.least _ _ (read (goal.at.returns-in_err-n c).After-read_line _ c.in_err-n.was) in
-    record { value = proved.0; sizes_value = proved.1 })
-
 pub returns : goal.returns
 returns c =
-    let proved = said c.args.least _ _ (read (goal.at.returns c).After-read_line _ c.in_ok-n.was) in
+    let found = c.find_header-at in
+    let least = c.args.least in
+    let proved = said least _ _
+    (ap (λ (x : Result (ℕ × ℕ) Refusal). record { sizes = x; end = c.find-end.result }) c.read_line-sizes.ensures
+    ∙ sym (header_at _ found.result least c.find-end.result c.find-end.ensures found.ensures.upper_bound)
+    ∙ found.ensures.header_from least) in
     record { value = proved.0; sizes_value = proved.1 }

@@ -21,16 +21,17 @@ within c = tested (goal.at.After-state_wires_of c).After-variables_outside false
 pub returns-then-variables_outside : goal.returns-then-variables_outside
 returns-then-variables_outside c =
     let proved = read-said c.args.n c.args.bytes.now
-    (no_variables c.args.n c.args.bytes.now
+    (c.refused.ensures ∙ no_variables c.args.n c.args.bytes.now
     (tested (goal.at.returns-then-variables_outside c).After-variables_outside true c.if-variables_outside.true)) in
-    record { value = proved.0; result_value = proved.1 }
+    record { value = proved.0; outcome_value = proved.1 }
 
 pub returns-then-bytes-state_wires_of : goal.returns-then-bytes-state_wires_of
 returns-then-bytes-state_wires_of c =
     let proved = read-said c.args.n c.args.bytes.now
-    (no_room c.args.n c.args.bytes.now (within (goal.at.returns-then-bytes-state_wires_of c).After-state_wires_of)
+    (c.refused-then-bytes-state_wires_of.ensures
+    ∙ no_room c.args.n c.args.bytes.now (within (goal.at.returns-then-bytes-state_wires_of c).After-state_wires_of)
     (subst (λ (k : ℕ). length c.args.bytes.now < k) c.state_wires_of.ensures c.if-bytes-state_wires_of.true)) in
-    record { value = proved.0; result_value = proved.1 }
+    record { value = proved.0; outcome_value = proved.1 }
 
 pub get_run-run-requires : goal.get_run-run-requires
 get_run-run-requires c =
@@ -51,10 +52,11 @@ gives-requires c =
 pub returns-then-not-gives : goal.returns-then-not-gives
 returns-then-not-gives c =
     let proved = read-said c.args.n c.args.bytes.now
-    (no_state c.args.n c.args.bytes.now (within (goal.at.returns-then-not-gives c).After-state_wires_of)
+    (c.refused-then-not-gives.ensures
+    ∙ no_state c.args.n c.args.bytes.now (within (goal.at.returns-then-not-gives c).After-state_wires_of)
     (subst (λ (k : ℕ). k ≤ length c.args.bytes.now) c.state_wires_of.ensures c.if-bytes-state_wires_of.false)
     (found c.args.n c.args.bytes.now _ _ c.get_run-run.ensures c.gives.ensures ∙ c.if-not-gives.true)) in
-    record { value = proved.0; result_value = proved.1 }
+    record { value = proved.0; outcome_value = proved.1 }
 
 pub returns : goal.returns
 returns c =
@@ -63,4 +65,4 @@ returns c =
     ∙ read_taken c.args.n c.args.bytes.now (within (goal.at.returns c).After-state_wires_of)
     (subst (λ (k : ℕ). k ≤ length c.args.bytes.now) c.state_wires_of.ensures c.if-bytes-state_wires_of.false)
     (found c.args.n c.args.bytes.now _ _ c.get_run-run.ensures c.gives.ensures ∙ c.if-not-gives.false)) in
-    record { value = proved.0; result_value = proved.1 }
+    record { value = proved.0; outcome_value = proved.1 }

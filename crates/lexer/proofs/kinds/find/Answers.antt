@@ -1,19 +1,23 @@
--- `find` meets its contract: the bytes that it counts are the run from `at` on.
-use Rattle.std.proofs.Common.{rules, tests, ap, ◌∙◌, ◌+◌, drop, not, ℕ, Bool}
-use Rattle.std.proofs.lemmas.Iterator.{YieldsList-from_slice}
-use Rattle.std.proofs.lemmas.Iterator.Consumers.{count_from_yields_List}
-use Rattle.std.proofs.lemmas.Iterator.Search.{YieldsList-from_take_while}
+-- `find` meets its contract: the run from `i` on ends where the run from `at` on ends.
+use mathlib.Core.Path.{refl, sym, ap, ◌∙◌}
+use mathlib.Core.Bool.{not}
 use Rattle.lexer.specs.Kinds.{passes}
-use Rattle.lexer.specs.Places.{run_end}
-use Rattle.lexer.proofs.Runs.{run_is}
+use Rattle.lexer.proofs.Runs.{end_stop, end_more, end_max}
 use Rattle.lexer.proofs.kinds.find.Goals as goal
 
+pub loop-i-init : goal.loop-i-init
+loop-i-init c = refl
+
+pub returns-then-is_kind : goal.returns-then-is_kind
+returns-then-is_kind c =
+    sym (end_stop (λ b. not (passes c.args.kind b)) _ _ c.loop-i-test.true
+    (ap not (sym c.is_kind.ensures ∙ c.if-is_kind.true))) ∙ c.loop-i.invariant
+
+pub loop-i-preserved : goal.loop-i-preserved
+loop-i-preserved c =
+    sym (end_more (λ b. not (passes c.args.kind b)) _ _ c.loop-i-test.true
+    (ap not (sym c.is_kind.ensures ∙ c.if-is_kind.false))) ∙ c.loop-i.invariant
+
 pub returns : goal.returns
-unfolding run_end
 returns c =
-    let p : ℕ → Bool = λ b. not (passes c.args.kind b) in
-    let rest = drop c.args.at c.args.text.now in
-    let counted = count_from_yields_List c.take_while.result _ c.count.ensures.ran
-    (YieldsList-from_take_while _ p (YieldsList-from_slice rest (cc)) c.take_while.ensures.closure c.take_while.ensures.done
-    (λ x b q k. search (rules, tests))) in
-    ap (λ (x : ℕ). c.args.at + x) (counted ∙ run_is p rest)
+    c.max.ensures ∙ end_max _ _ _ c.loop-i.i c.loop-i.invariant c.loop-i-test.false c.loop-i.auto.i-end
