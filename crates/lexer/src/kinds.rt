@@ -50,7 +50,7 @@ pub(crate) fn is_kind(kind: Kind, b: u8) -> bool
 pub fn skip(text: &[u8], at: usize, kind: Kind) -> usize
     ensures { result ≡ run_end (passes kind) text.now at }
 {
-    // A range: the place is what is asked for, and a chain over the bytes from `at` on read short lines half as fast again.
+    // A range: the place is what is asked for. A chain over the bytes from `at` on took half as long again where lines are short.
     for i in at..text.len() {
         if !is_kind(kind, text[i]) {
             return i;
